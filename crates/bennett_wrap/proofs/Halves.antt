@@ -8,32 +8,32 @@ use Rattle.std.proofs.Math.Seq.{drop-append_seam}
 use Rattle.std.proofs.lemmas.Int.{ints}
 use Rattle.std.proofs.lemmas.List.Elements.{All-head, All-tail, All-cons, All-nil}
 use Rattle.std.proofs.lemmas.Option.{slice_get_within}
-use Rattle.rpp_words.specs.Words.{IsWord}
-use Rattle.pisa_isa.specs.declared.cell.Op.{Op}
-use Rattle.pisa_isa.specs.declared.cell.Op.TheVariants.{Start, Finish}
-use Rattle.pisa_isa.specs.declared.cell.Cell.{Cell}
-use Rattle.pisa_isa.specs.declared.machine.Stop.{Stop}
-use Rattle.pisa_isa.specs.declared.machine.Stop.TheVariants.{Finished, Trap, Bound}
-use Rattle.pisa_isa.specs.Table.{inverse_of}
-use Rattle.pisa_isa.specs.Machine.{State, IsState, fetch, stop, stop_at, stop_in, next, turned}
-use Rattle.pisa_isa.specs.Image.{Segments, IsImage, is_start, is_finish, is_start_op, is_finish_op, start_of}
-use Rattle.pisa_isa.specs.Runs.{End, run, steps, visited, zero_registers, counted, made_in, after_step, before_step}
-use Rattle.pisa_isa.specs.Runs.{later, stop_at_bound}
-use Rattle.pisa_isa.specs.Ends.{MeetsEndsOnce, is_at_start}
-use Rattle.pisa_isa.specs.Flipped.{flipped}
-use Rattle.pisa_isa.specs.declared.fixed.TheConstants.{END_CELL}
-use Rattle.pisa_isa.proofs.Effect.{state}
-use Rattle.pisa_isa.proofs.Back.{moved-twice}
-use Rattle.pisa_isa.proofs.Mirror.{mirrored, fetch-flipped}
-use Rattle.pisa_isa.proofs.Keeps.{next-IsState}
-use Rattle.pisa_isa.proofs.Reached.{counted_le_spent}
-use Rattle.pisa_isa.proofs.Runs.{run-stop}
-use Rattle.pisa_isa.proofs.Longer.{run-steps}
-use Rattle.pisa_isa.proofs.Flips.{length-flipped}
-use Rattle.pisa_isa.proofs.Meeting.{met}
-use Rattle.pisa_isa.proofs.Ends.{Stands, start_stands, finished_at, is_start-inverse_op, is_finish-inverse_op}
-use Rattle.pisa_isa.proofs.Ends.{stops_at_finish}
-use Rattle.code_conventions.specs.Cells.{bra}
+use Rattle.paired_code.specs.rpp_words.Words.{IsWord}
+use Rattle.image_inverter.specs.pisa_isa.declared.cell.Op.{Op}
+use Rattle.image_inverter.specs.pisa_isa.declared.cell.Op.TheVariants.{Start, Finish}
+use Rattle.image_inverter.specs.pisa_isa.declared.cell.Cell.{Cell}
+use Rattle.image_inverter.specs.pisa_isa.declared.machine.Stop.{Stop}
+use Rattle.image_inverter.specs.pisa_isa.declared.machine.Stop.TheVariants.{Finished, Trap, Bound}
+use Rattle.image_inverter.specs.pisa_isa.Table.{inverse_of}
+use Rattle.image_inverter.specs.pisa_isa.Machine.{State, IsState, fetch, stop, stop_at, stop_in, next, turned}
+use Rattle.image_inverter.specs.pisa_isa.Image.{Segments, IsImage, is_start, is_finish, is_start_op, is_finish_op, start_of}
+use Rattle.image_inverter.specs.pisa_isa.Runs.{End, run, steps, visited, zero_registers, counted, made_in, after_step, before_step}
+use Rattle.image_inverter.specs.pisa_isa.Runs.{later, stop_at_bound}
+use Rattle.image_inverter.specs.pisa_isa.Ends.{MeetsEndsOnce, is_at_start}
+use Rattle.image_inverter.specs.pisa_isa.Flipped.{flipped}
+use Rattle.image_inverter.specs.pisa_isa.declared.fixed.TheConstants.{END_CELL}
+use Rattle.image_inverter.proofs.pisa_isa_laws.Effect.{state}
+use Rattle.image_inverter.proofs.pisa_isa_laws.Back.{moved-twice}
+use Rattle.image_inverter.proofs.pisa_isa_laws.Mirror.{mirrored, fetch-flipped}
+use Rattle.image_inverter.proofs.pisa_isa_laws.Keeps.{next-IsState}
+use Rattle.image_inverter.proofs.pisa_isa_laws.Reached.{counted_le_spent}
+use Rattle.image_inverter.proofs.pisa_isa_laws.Runs.{run-stop}
+use Rattle.image_inverter.proofs.pisa_isa_laws.Longer.{run-steps}
+use Rattle.image_inverter.proofs.pisa_isa_laws.Flips.{length-flipped}
+use Rattle.image_inverter.proofs.pisa_isa_laws.Meeting.{met}
+use Rattle.image_inverter.proofs.pisa_isa_laws.Ends.{Stands, start_stands, finished_at, is_start-inverse_op, is_finish-inverse_op}
+use Rattle.image_inverter.proofs.pisa_isa_laws.Ends.{stops_at_finish}
+use Rattle.paired_code.specs.code_conventions.Cells.{bra}
 use Rattle.paired_code.specs.Layout.{between}
 use Rattle.bennett_wrap.specs.Wrapped.{copied_at, entered_at, finish_of, wrapped_code, begun_on, HasRoom, with_zeros}
 use Rattle.bennett_wrap.specs.Wrapped.{values_at, FinishesWith, TrapsWith, Computes, steps_wrapped, Wrapped}

@@ -11,17 +11,17 @@ use Rattle.std.proofs.lemmas.List.Sums.{sum_by-cons, fails_before_first}
 use Rattle.std.proofs.lemmas.List.{length-map}
 use Rattle.std.proofs.lemmas.Grind.{get_or_default_zero}
 use Rattle.std.proofs.Math.Seq.{take-append_seam}
-use Rattle.rpp_words.specs.Words.{IsWord}
-use Rattle.pisa_isa.specs.declared.cell.Cell.{Cell}
-use Rattle.pisa_isa.specs.declared.image.SealError.{SealError}
-use Rattle.pisa_isa.specs.declared.image.TheConstants.{MOST_CELLS}
+use Rattle.paired_code.specs.rpp_words.Words.{IsWord}
+use Rattle.image_inverter.specs.pisa_isa.declared.cell.Cell.{Cell}
+use Rattle.image_inverter.specs.pisa_isa.declared.image.SealError.{SealError}
+use Rattle.image_inverter.specs.pisa_isa.declared.image.TheConstants.{MOST_CELLS}
 use Rattle.bennett_wrap.specs.declared.wrapping.TheConstants.{MOST_WRAPPED, MOST_COPIED}
-use Rattle.pisa_isa.specs.Table.{IsInRange}
-use Rattle.pisa_isa.specs.Image.{Segments, IsImage, first_seal_refusal}
-use Rattle.pisa_isa.specs.Flipped.{flipped}
-use Rattle.pisa_isa.proofs.Sealed.{accepted_by_seal}
-use Rattle.pisa_isa.proofs.Flips.{length-flipped}
-use Rattle.code_conventions.specs.Cells.{bra}
+use Rattle.image_inverter.specs.pisa_isa.Table.{IsInRange}
+use Rattle.image_inverter.specs.pisa_isa.Image.{Segments, IsImage, first_seal_refusal}
+use Rattle.image_inverter.specs.pisa_isa.Flipped.{flipped}
+use Rattle.image_inverter.proofs.pisa_isa_laws.Sealed.{accepted_by_seal}
+use Rattle.image_inverter.proofs.pisa_isa_laws.Flips.{length-flipped}
+use Rattle.paired_code.specs.code_conventions.Cells.{bra}
 use Rattle.paired_code.specs.Cells.{start, finish}
 use Rattle.paired_code.specs.Machine.{is_single}
 use Rattle.paired_code.specs.Layout.{between}
@@ -34,7 +34,7 @@ use Rattle.bennett_wrap.proofs.Places.{length-copy, length-joined}
 use Rattle.bennett_wrap.proofs.Counts.{cells_copy, IsImage-joined}
 use Rattle.bennett_wrap.proofs.Halves.{wraps}
 
--- where one cell passes, a first one is found
+-- if one cell passes, a first one is found
 
 sum_zero : (n k m : ℕ) → n ≡ k + m → k ≡ 0 → m ≡ 0 → n ≡ 0
 sum_zero n k m e z y = omega arith
@@ -111,7 +111,7 @@ pub small_row : (cs : List ℕ) (row : List Cell) (main : List Symbol) → lengt
 small_row cs row main few e m = let a : length main ≡ 11 + 8 * length cs = ap length m ∙ length-map row own
     ∙ ap length e ∙ length-copy cs in omega arith
 
--- what stands between START and FINISH
+-- the cells between START and FINISH
 
 take_all : (xs ys : List Cell) (n : ℕ) → length xs ≡ n → take n (xs ++ ys) ≡ xs
 take_all xs ys n e = ap (λ k. take k (xs ++ ys)) (sym e) ∙ take-append_seam xs ys

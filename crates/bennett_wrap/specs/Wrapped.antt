@@ -3,16 +3,16 @@ use Rattle.std.specs.Prelude.{◌≡◌, ◌≤◌, ◌<◌, ◌+◌, ◌-◌, �
 use Rattle.std.specs.Prelude.{map, replicate, take, drop, slice_get, slice_index, Some}
 use Rattle.std.specs.Prelude.{if◌then◌else◌}
 use Rattle.std.specs.List.{All, position_or_len}
-use Rattle.rpp_words.specs.Words.{IsWord}
-use Rattle.pisa_isa.specs.declared.cell.Cell.{Cell}
-use Rattle.pisa_isa.specs.declared.machine.Stop.TheVariants.{Finished, Trap, Bound}
-use Rattle.pisa_isa.specs.Machine.{State}
-use Rattle.pisa_isa.specs.Image.{is_start, is_finish}
-use Rattle.pisa_isa.specs.Runs.{End, run, started, zero_registers}
-use Rattle.pisa_isa.specs.Ends.{MeetsEndsOnce}
-use Rattle.pisa_isa.specs.Flipped.{flipped}
-use Rattle.pisa_isa.specs.declared.fixed.TheConstants.{END_CELL}
-use Rattle.code_conventions.specs.Cells.{bra}
+use Rattle.paired_code.specs.rpp_words.Words.{IsWord}
+use Rattle.image_inverter.specs.pisa_isa.declared.cell.Cell.{Cell}
+use Rattle.image_inverter.specs.pisa_isa.declared.machine.Stop.TheVariants.{Finished, Trap, Bound}
+use Rattle.image_inverter.specs.pisa_isa.Machine.{State}
+use Rattle.image_inverter.specs.pisa_isa.Image.{is_start, is_finish}
+use Rattle.image_inverter.specs.pisa_isa.Runs.{End, run, started, zero_registers}
+use Rattle.image_inverter.specs.pisa_isa.Ends.{MeetsEndsOnce}
+use Rattle.image_inverter.specs.pisa_isa.Flipped.{flipped}
+use Rattle.image_inverter.specs.pisa_isa.declared.fixed.TheConstants.{END_CELL}
+use Rattle.paired_code.specs.code_conventions.Cells.{bra}
 use Rattle.paired_code.specs.Layout.{between}
 use Rattle.bennett_wrap.specs.Copying.{copy_cells}
 
@@ -34,7 +34,7 @@ finish_of code = position_or_len is_finish code
 abbrev pub copy_size : List ℕ → ℕ
 copy_size cells = 11 + 8 * length cells
 
--- where the copy code ends, behind code of n cells and the branch to it
+-- where the copy code ends, after code of n cells and the branch to it
 abbrev pub copied_at : ℕ → List ℕ → ℕ
 copied_at n cells = n + 1 + copy_size cells
 
@@ -54,7 +54,7 @@ joined code n f cells =
 abbrev pub wrapped_code : List Cell → List ℕ → List Cell
 wrapped_code code cells = joined code (length code) (finish_of code) cells
 
--- what stands between the first and the last cell
+-- the cells between the first and the last one
 abbrev pub inner : List Cell → List Cell
 inner code = drop 1 (take (length code - 1) code)
 
@@ -68,8 +68,8 @@ begun_on code cells = started code zero_registers cells
 abbrev pub run_on : List Cell → (bound : ℕ) → List ℕ → End
 run_on code bound cells = run code bound (begun_on code cells)
 
--- Memory for which the copy code is made: cell 4 holds the number of its cells, each cell that is
--- copied is one of them, and so many addresses are left behind it.
+-- Memory for which the copy code is made: cell 4 holds the number of its cells, and each copied
+-- cell is one of them. That many addresses are left after it.
 pub record HasRoom (a cells : List ℕ) : Type 0 where
   pub words : All IsWord a
   pub counted : slice_get a END_CELL ≡ Some (length a)
@@ -91,13 +91,13 @@ pub record FinishesWith (e : End) (count : ℕ) (cells : List ℕ) : Type 0 wher
   pub registers : e.last.regs ≡ zero_registers
   pub memory : e.last.cells ≡ cells
 
--- the run trapped in so many steps, and from cell n on so many zeros stand
+-- the run trapped after so many steps, and from cell n on there are so many zeros
 pub record TrapsWith (e : End) (w count n zeros : ℕ) : Type 0 where
   pub why : e.why ≡ Trap w
   pub spent : e.spent ≡ count
   pub results : drop n e.last.cells ≡ replicate zeros 0
 
--- the run is narrow: it passes START and FINISH at its two ends alone
+-- the run is narrow: it passes START and FINISH only at its two ends
 abbrev pub IsNarrow : List Cell → (bound : ℕ) → List ℕ → Type 0
 IsNarrow code bound a = MeetsEndsOnce code bound (begun_on code a)
 
@@ -112,21 +112,20 @@ pub record Computes (code : List Cell) (bound : ℕ) (a : List ℕ) : Type 0 whe
 abbrev pub steps_wrapped : ℕ → List ℕ → ℕ
 steps_wrapped n cells = 2 * n + 13 + 8 * length cells
 
--- what the wrapped code does on a memory with zeros behind it, by what the code does on the memory
+-- what the wrapped code does on a memory followed by zeros, by what the code does on the memory
 pub record Wrapped (code : List Cell) (cells : List ℕ) (wrapped : List Cell) : Type 0 where
-  -- where the run finishes, the wrapped run finishes with the first memory, and with the results
-  -- behind it
+  -- if the run finishes, the wrapped run finishes with the first memory, followed by the results
   pub finishes : (a : List ℕ) (bound enough : ℕ) → HasRoom a cells → Computes code bound a
       → steps_wrapped (run_on code bound a).spent cells ≤ enough
       → FinishesWith (run_on wrapped enough (with_zeros a cells))
       (steps_wrapped (run_on code bound a).spent cells)
       (a ++ values_at (run_on code bound a).last.cells cells)
-  -- where it traps, the wrapped run does so in as many steps, and nothing is copied
+  -- if it traps, the wrapped run does so in as many steps, and nothing is copied
   pub traps : (a : List ℕ) (bound enough w : ℕ) → HasRoom a cells → IsNarrow code bound a
       → (run_on code bound a).why ≡ Trap w → (run_on code bound a).spent ≤ enough
       → TrapsWith (run_on wrapped enough (with_zeros a cells)) w (run_on code bound a).spent
       (length a) (length cells)
-  -- where it is not over after so many steps, the wrapped run is not over after so many; so where
+  -- if it is not over after so many steps, the wrapped run is not over after so many; so if
   -- it never ends, neither does that
   pub goes_on : (a : List ℕ) (bound : ℕ) → HasRoom a cells → IsNarrow code bound a
       → (run_on code bound a).why ≡ Bound

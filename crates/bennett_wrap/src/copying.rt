@@ -1,6 +1,6 @@
 // The copy code, as an image of its own.
 ghost use Rattle.std.specs.Prelude.{◌≡◌, ◌≤◌, ◌++◌, ◌+◌, ◌*◌, ◌∷◌, [], length, map, All, IfOk, OnOk};
-ghost use Rattle.rpp_words.specs.Words.{negated};
+ghost use Rattle.paired_code.specs.rpp_words.Words.{negated};
 ghost use Rattle.paired_code.specs.Cells.{start, finish};
 ghost use Rattle.paired_code.specs.Code.{unmarked};
 ghost use Rattle.bennett_wrap.specs.declared.wrapping.TheConstants.{MOST_COPIED};
@@ -18,7 +18,7 @@ pub const AT: u8 = 1;
 /// Its word.
 pub const WORD: u8 = 2;
 
-/// The address of the cell behind the program's own that the word goes into.
+/// The address of the cell after the program's own into which the word goes.
 pub const BEHIND: u8 = 3;
 
 /// The word of that cell.
@@ -35,7 +35,7 @@ pub(crate) fn copy_image(alloc: Global, cells: &[u32]) -> Result<Image, NoMemory
     Ok(noted.into_parts().0)
 }
 
-/// Instructions in a row, as a piece.
+/// Instructions in a row, as a fragment.
 fn line(alloc: Global, row: &[Cell]) -> Result<Piece, NoMemory>
     requires { All IsPlain row.now }
     ensures { IfOk result (λ piece. piece ≡ unmarked (map own row.now)) }

@@ -1,7 +1,7 @@
 // Wraps an image.
 ghost use Rattle.std.specs.Prelude.{◌≡◌, ◌≤◌, ◌<◌, ◌+◌, ◌-◌, ◌*◌, ◌^◌, ◌++◌, length, map, take, drop, count_by, position, IfOk, OnOk};
-ghost use Rattle.pisa_isa.specs.Image.{is_start, is_finish, IsImage};
-ghost use Rattle.code_conventions.specs.Cells.{bra};
+ghost use Rattle.image_inverter.specs.pisa_isa.Image.{is_start, is_finish, IsImage};
+ghost use Rattle.paired_code.specs.code_conventions.Cells.{bra};
 ghost use Rattle.paired_code.specs.Layout.{between};
 ghost use Rattle.bennett_wrap.specs.Copying.{copy_cells};
 ghost use Rattle.bennett_wrap.specs.Wrapped.{left_by, entered_by, finish_of, inner, joined, wrapped_code, Wrapped};
@@ -20,8 +20,8 @@ pub const MOST_COPIED: usize = 64;
 /// more than an image may have.
 pub const MOST_WRAPPED: usize = (MOST_CELLS - 13 - 8 * MOST_COPIED) / 2;
 
-/// An image that computes, copies and computes back: it has the code of the image, with a branch in
-/// the place of FINISH, the copy code, and the flipped code, with a branch in the place of START.
+/// An image that computes, copies and uncomputes. It has the code of the image with a branch
+/// instead of FINISH, the copy code, and the inverse code with a branch instead of START.
 pub fn wrap_image(alloc: Global, image: &Image, cells: &[u32]) -> Result<Image, NoMemory>
     requires code_in_limit { length image.now.code ≤ MOST_WRAPPED }
     requires few { length cells.now ≤ MOST_COPIED }

@@ -1,45 +1,43 @@
--- What each arm of the walk over statements needs and answers.
-use Rattle.std.proofs.Common.{◌≡◌, ℕ, ◌+◌, ◌*◌, ◌<◌, ◌≤◌, Bool, List, [], ◌∷◌, length, refl, sym, ap, ◌∙◌, subst, arith}
+-- What each arm of the walk over statements needs and returns.
+use Rattle.std.proofs.Common.{◌≡◌, ℕ, ◌+◌, ◌*◌, ◌≤◌, Bool, List, [], ◌∷◌, length, refl, sym, ap, ◌∙◌, subst, arith}
 use Rattle.std.specs.Prelude.{Option, Some, None, Result, Ok, Err, IfOk, nat_eq, Box}
 use Rattle.std.specs.declared.alloc.Global.{Global}
 use Rattle.std.specs.Option.{option_map, is_none}
 use Rattle.std.proofs.lemmas.Bool.{eqb-true}
-use Rattle.code_conventions.specs.declared.memory.TheConstants.{MOST_VARIABLES}
 use Rattle.rpp_tree.specs.declared.tree.Ident.{Ident}
 use Rattle.rpp_tree.specs.declared.tree.Expr.{Expr}
 use Rattle.rpp_tree.specs.declared.tree.Place.{Place}
 use Rattle.rpp_tree.specs.declared.tree.Var.{Var}
 use Rattle.rpp_tree.specs.declared.tree.UpdateOp.{UpdateOp}
 use Rattle.rpp_tree.specs.Tree.{Expression, Lvalue, Whole, Item, Statement, Statements, Update, Swap, If, From, Local}
-use Rattle.rpp_tree.specs.Tree.{Call, Skip, Source, nodes, index_nodes}
+use Rattle.rpp_tree.specs.Tree.{Call, Source, nodes, index_nodes}
 use Rattle.rpp_tree.specs.Views.{lvalue_with, expression_of, lvalue_of, source_of}
-use Rattle.rpp_tree.specs.Limits.{receiver_locals}
 use Rattle.rpp_tree.specs.Parts.{list_tokens}
-use Rattle.class_table.specs.Overrides.{parameters_of}
-use Rattle.class_table.specs.Program.{IsAccepted}
-use Rattle.class_table.specs.Refusal.{wrong_arity}
-use Rattle.class_table.specs.Scope.{Typing, Locals}
-use Rattle.class_table.specs.Statements.{passed, required, each_passes, each_passes_after, argument_known, argument_new}
-use Rattle.class_table.specs.Statements.{arguments_fit, plain_receiver, receiver_class, slot_rules, call_rules}
-use Rattle.class_table.specs.Table.{slot_in, dispatch_in}
-use Rattle.class_table.proofs.PassedRules.{both_passed, handed_on, held}
-use Rattle.paired_code.specs.Code.{Code}
-use Rattle.meaning_sound.specs.Plain.{ReceiverIsPlain}
-use Rattle.refine_form.specs.Held.{Holds, HoldsBoth}
-use Rattle.refine_form.specs.Stands.{shape_of}
-use Rattle.code_scope.specs.Visible.{Visible, spot_of, free_of, known_in, outer_of}
-use Rattle.code_scope.proofs.Parameters.{parameters_few}
-use Rattle.register_expressions.specs.Code.{words}
-use Rattle.expr_uncompute.specs.Code.{place_words}
-use Rattle.expr_uncompute.specs.Promises as code
-use Rattle.register_expressions.specs.Steps.{tokens}
-use Rattle.expr_uncompute.specs.Steps.{place_tokens}
-use Rattle.expr_uncompute.specs.Sizes.{swap_size}
-use Rattle.expr_uncompute.proofs.Bounds.{words_most, place_words_most}
-use Rattle.refine_expressions.specs.Typing.{typing_in}
+use Rattle.refine_objects.specs.class_table.Overrides.{parameters_of}
+use Rattle.refine_objects.specs.class_table.Program.{IsAccepted}
+use Rattle.refine_objects.specs.class_table.Refusal.{wrong_arity}
+use Rattle.refine_objects.specs.class_table.Scope.{Typing, Locals}
+use Rattle.refine_objects.specs.class_table.Statements.{passed, required, each_passes, each_passes_after, argument_known, argument_new}
+use Rattle.refine_objects.specs.class_table.Statements.{arguments_fit, plain_receiver, receiver_class, slot_rules, call_rules}
+use Rattle.refine_objects.specs.class_table.Table.{slot_in, dispatch_in}
+use Rattle.refine_objects.proofs.class_table_laws.PassedRules.{both_passed, handed_on, held}
+use Rattle.refine_objects.specs.paired_code.Code.{Code}
+use Rattle.refine_objects.specs.meaning_sound.Plain.{ReceiverIsPlain}
+use Rattle.refine_objects.specs.refine_form.Held.{Holds, HoldsBoth}
+use Rattle.refine_objects.specs.refine_form.Stands.{shape_of}
+use Rattle.refine_objects.specs.code_scope.Visible.{Visible, spot_of, free_of, known_in, outer_of}
+use Rattle.refine_objects.proofs.code_scope_laws.Parameters.{parameters_few}
+use Rattle.refine_objects.specs.register_expressions.Code.{words}
+use Rattle.refine_objects.specs.expr_uncompute.Code.{place_words}
+use Rattle.refine_objects.specs.expr_uncompute.Promises as code
+use Rattle.refine_objects.specs.register_expressions.Steps.{tokens}
+use Rattle.refine_objects.specs.expr_uncompute.Steps.{place_tokens}
+use Rattle.refine_objects.specs.expr_uncompute.Sizes.{swap_size}
+use Rattle.refine_objects.proofs.expr_uncompute_laws.Bounds.{words_most, place_words_most}
+use Rattle.refine_objects.specs.refine_expressions.Typing.{typing_in}
 use Rattle.statement_codegen.specs.Codes.{scope_of, with_variable}
-use Rattle.branch_codegen.specs.Laws.{IfLaw, FromLaw}
-use Rattle.statement_codegen.specs.Laws.{LocalLaw, SkipLaw, CallLaw, ElementLaw}
+use Rattle.statement_codegen.specs.branch_codegen.Laws.{IfLaw, FromLaw}
+use Rattle.statement_codegen.specs.Laws.{LocalLaw, CallLaw, ElementLaw}
 use Rattle.statement_codegen.proofs.Stands.{update_stands, swap_stands}
 use Rattle.block_codegen.specs.Pieces.{StatementStands, InnerPiece, BlockPiece}
 use Rattle.block_codegen.proofs.Pieces.{tokens_are, place_tokens_are, plain_inner, if_inner, from_inner, local_inner}
@@ -48,7 +46,7 @@ pub if_ok : {A E : Type 0} {P Q : A → Type 0} (r : Result A E) → ((a : A) �
 if_ok (Ok a) f h = f a h
 if_ok (Err e) f h = h
 
--- ---- room for the parts of expressions
+-- ---- space for the subexpressions
 
 pub update_room : (v : Visible) (x : Statement) (at : ℕ) (op : UpdateOp) (target : Lvalue) (value : Expression)
     → x ≡ Update at op target value → StatementStands v x → place_words target + words value ≤ 1000
@@ -119,16 +117,7 @@ some_each [] = omega arith
 some_each (first ∷ []) = omega arith
 some_each (first ∷ second ∷ rest) = let a = some_each (second ∷ rest) in omega (arith, a)
 
--- ---- room for a call on an element
-
-pub element_free : (v : Visible) (at : ℕ) (back : Bool) (element : Lvalue) (array : Ident) (index : Expression)
-    (method : Ident) (args : List Ident) → element ≡ Item array index
-    → StatementStands v (Call at back (Some element) method args) → length v.variables < MOST_VARIABLES
-element_free v at back element array index method args is h =
-    let f : length v.variables + 1 ≤ MOST_VARIABLES = subst
-    (λ e. length v.variables + receiver_locals (Some e) ≤ MOST_VARIABLES) is
-    h.allowed.few_locals in
-    omega (arith, f)
+-- ---- space for a call on an element
 
 pub element_room : (v : Visible) (at : ℕ) (back : Bool) (element : Lvalue) (method : Ident) (args : List Ident)
     → StatementStands v (Call at back (Some element) method args) → place_words element ≤ 1000
@@ -168,13 +157,6 @@ swap_arm v x at left right (Ok p) is h law none size =
     subst (λ z. InnerPiece v z p) (sym is) (plain_inner v (Swap at left right) p none refl
     (swap_stands v at left right p.cells law k.allowed) (omega (arith, size, a, b, c)))
 
-pub skip_arm : {E : Type 0} (v : Visible) (x : Statement) (at : ℕ) (r : Result Code E) → x ≡ Skip at
-    → IfOk r (λ p. SkipLaw p.cells) → IfOk r (λ p. p.marks ≡ []) → IfOk r (λ p. length p.cells ≡ 1)
-    → IfOk r (λ p. InnerPiece v x p)
-skip_arm v x at (Err e) is law none size = tt
-skip_arm v x at (Ok p) is law none size = subst (λ z. InnerPiece v z p) (sym is)
-    (plain_inner v (Skip at) p none refl (law.law v at) (omega (arith, size)))
-
 pub call_arm : {E : Type 0} (v : Visible) (x : Statement) (at : ℕ) (back : Bool) (receiver : Option Lvalue)
     (name : Option Ident) (method : Ident) (args : List Ident) (r : Result Code E)
     → x ≡ Call at back receiver method args → option_map Whole name ≡ receiver → StatementStands v x
@@ -203,23 +185,9 @@ element_arm v at back element array index method args (Ok p) is h law none size 
     plain_inner v (Call at back (Some element) method args) p none refl (law.law array index is plain h.allowed)
     (omega (arith, size, a, b))
 
--- what a receiver shows
-pub shows_variable : (receiver : Place) → receiver.index ≡ None → lvalue_of receiver ≡ Whole receiver.name
-shows_variable receiver e = ap (lvalue_with receiver.name) e
-
 pub shows_element : (receiver : Place) (index : Box Expr Global) → receiver.index ≡ Some index
     → lvalue_of receiver ≡ Item receiver.name (expression_of index.value)
 shows_element receiver index e = ap (lvalue_with receiver.name) e
-
-pub whole_arm : {E : Type 0} (v : Visible) (at : ℕ) (back : Bool) (receiver : Lvalue) (name method : Ident)
-    (args : List Ident) (r : Result Code E) → receiver ≡ Whole name
-    → StatementStands v (Call at back (Some receiver) method args)
-    → IfOk r (λ p. CallLaw v back (Some name) method args p.cells) → IfOk r (λ p. p.marks ≡ [])
-    → IfOk r (λ p. length p.cells ≤ 18 * length args + 77)
-    → IfOk r (λ p. InnerPiece v (Call at back (Some receiver) method args) p)
-whole_arm v at back receiver name method args r is h law none size =
-    call_arm v (Call at back (Some receiver) method args) at back (Some receiver) (Some name) method args r refl
-    (ap (λ z. Some z) (sym is)) h law none size
 
 pub if_arm : {E : Type 0} (v : Visible) (x : Statement) (at : ℕ) (test after : Expression) (taken other : Statements)
     (one two : Code) (r : Result Code E) → x ≡ If at test taken other after → StatementStands v x
@@ -255,7 +223,7 @@ local_arm v x at var value body end_var last inside (Ok p) is h a law holds size
     subst (λ z. InnerPiece v z p) (sym is) (local_inner v at var value body end_var last inside p
     (subst (StatementStands v) is h) law holds size a)
 
--- ---- the same, where the scope went on from one block to the next
+-- ---- the same, if the scope went on from one block to the next
 
 pub if_made : {E : Type 0} (v w u : Visible) (x : Statement) (at : ℕ) (test after : Expression)
     (taken other : Statements) (one two : Code) (r : Result Code E) → x ≡ If at test taken other after

@@ -1,4 +1,4 @@
--- The marks of pieces that are put together.
+-- The marks of fragments that are put together.
 use Rattle.std.proofs.Common.{inl, inr, ◌≡◌, ℕ, ◌+◌, ◌-◌, ◌<◌, ◌≤◌, Bool, true, false, List, [], ◌∷◌, ◌++◌, length}
 use Rattle.std.proofs.Common.{refl, sym, ap, ◌∙◌, subst, arith, length-append, append_assoc, take, drop, ⊎_elim}
 use Rattle.std.specs.Prelude.{◌||◌, All}
@@ -13,12 +13,12 @@ use Rattle.std.proofs.lemmas.List.Sorted.{IsPermutation-refl, IsPermutation-tran
 use Rattle.std.proofs.lemmas.List.Sorted.{IsPermutation-append_comm, IsPermutation-append_right, IsPermutation-to_front}
 use Rattle.rpp_tree.specs.Tree.{Statement}
 use Rattle.rpp_tree.specs.Places.{statement_place}
-use Rattle.pisa_isa.specs.declared.notes.Mark.{Mark}
-use Rattle.paired_code.specs.declared.part.Symbol.{Symbol}
-use Rattle.paired_code.specs.Code.{Code, moved_on, shift, seq_code, marked_code}
-use Rattle.refine_form.specs.Form.{Scope}
-use Rattle.refine_form.specs.Held.{Holds, HoldsBoth}
-use Rattle.refine_form.proofs.Holding.{both_seq}
+use Rattle.refine_objects.specs.pisa_isa.declared.notes.Mark.{Mark}
+use Rattle.refine_objects.specs.paired_code.declared.part.Symbol.{Symbol}
+use Rattle.refine_objects.specs.paired_code.Code.{Code, moved_on, shift, seq_code, marked_code}
+use Rattle.refine_objects.specs.refine_form.Form.{Scope}
+use Rattle.refine_objects.specs.refine_form.Held.{Holds, HoldsBoth}
+use Rattle.refine_objects.proofs.refine_form_laws.Holding.{both_seq}
 use Rattle.block_codegen.specs.Rows.{Row, row_before}
 use Rattle.block_codegen.specs.Ranges.{LiesIn, IsRange, MarksOf, is_marked, holds_cell, IsCovered}
 use Rattle.block_codegen.proofs.Nesting.{each_append, each_length, each_moved, each_all, shift_same, all_moved}
@@ -61,7 +61,7 @@ module _ (Law : Scope → Statement → List Symbol → Type 0) where
     nested = tt;
   }
 
-  -- one piece in another
+  -- one fragment in another
   pub marks_in : (rows : List Row) (inner p : Code) → Holds inner p → MarksOf Law rows inner → MarksOf Law rows p
   marks_in rows inner p h m =
       let n = length h.before in
@@ -73,7 +73,7 @@ module _ (Law : Scope → Statement → List Symbol → Type 0) where
         nested = nested_moved n rows m.ranges m.nested;
       }
 
-  -- the ranges of a piece lie in it
+  -- the ranges of a fragment lie in it
   ranges_between : (rows : List Row) (cells : List Symbol) (ranges : List Mark) (n : ℕ)
       → AllZip (IsRange Law cells) rows ranges → All (IsBetween n (n + length cells)) (shift n ranges)
   ranges_between rows cells ranges n h = all_moved (IsBetween 0 (length cells)) (IsBetween n (n + length cells)) n
@@ -81,7 +81,7 @@ module _ (Law : Scope → Statement → List Symbol → Type 0) where
       (each_all (IsRange Law cells) (IsBetween 0 (length cells))
       (λ r k x. (let a = x.in_order in omega arith, x.in_order, x.within)) rows ranges h)
 
-  -- two pieces in another: the statements of the left one come first
+  -- two fragments in another: the statements of the left one come first
   pub marks_left : (rows rows2 : List Row) (left right p : Code) → HoldsBoth left right p → MarksOf Law rows left
       → MarksOf Law rows2 right → MarksOf Law (rows ++ rows2) p
   marks_left rows rows2 left right p h m m2 =
@@ -142,12 +142,12 @@ module _ (Law : Scope → Statement → List Symbol → Type 0) where
             (ranges_between rows left.cells m.ranges n m.each));
       }
 
-  -- one piece behind another
+  -- one fragment after another
   pub marks_seq : (rows rows2 : List Row) (a b : Code) → MarksOf Law rows a → MarksOf Law rows2 b
       → MarksOf Law (rows ++ rows2) (seq_code a b)
   marks_seq rows rows2 a b m m2 = marks_left rows rows2 a b (seq_code a b) (both_seq a b) m m2
 
-  -- the piece of a statement, with its mark
+  -- the fragment of a statement, with its mark
   pub marks_whole : (s : Scope) (x : Statement) (rows : List Row) (p : Code) → Law s x p.cells → MarksOf Law rows p
       → MarksOf Law (row_before s x rows) (marked_code (statement_place x) p)
   marks_whole s x rows p law m =
@@ -201,7 +201,7 @@ marked_moved n i [] = refl
 marked_moved n i (k ∷ ks) = ap (λ z. z || is_marked (shift n ks) (n + i)) (holds_moved n i k)
     ∙ ap (λ z. holds_cell i k || z) (marked_moved n i ks)
 
--- a piece with a mark over all of it
+-- a fragment with a mark over all of it
 pub covered_whole : (at : ℕ) (p : Code) → IsCovered (marked_code at p)
 covered_whole at p i h =
     let k : Mark = record { first = 0; end = length p.cells; at = at } in

@@ -7,8 +7,8 @@ use Rattle.std.specs.List.Sorted.{IsPermutation}
 use Rattle.std.proofs.lemmas.List.{take-append-le, drop-append-le}
 use Rattle.std.proofs.lemmas.List.Elements.{All-nil, All-cons, All-tail, All-append, All-weaker, All-take}
 use Rattle.std.proofs.lemmas.List.Sorted.{IsPermutation-map}
-use Rattle.pisa_isa.specs.declared.notes.Mark.{Mark}
-use Rattle.paired_code.specs.Code.{moved_on, shift}
+use Rattle.refine_objects.specs.pisa_isa.declared.notes.Mark.{Mark}
+use Rattle.refine_objects.specs.paired_code.Code.{moved_on, shift}
 use Rattle.block_codegen.specs.Rows.{Row}
 use Rattle.block_codegen.specs.Ranges.{LiesIn, LiesApart, AreNested}
 
@@ -34,7 +34,7 @@ each_moved P Q n f [] (k ∷ ks) h = absurd h
 each_moved P Q n f (r ∷ rs) [] h = absurd h
 each_moved P Q n f (r ∷ rs) (k ∷ ks) h = (f r k h.0, each_moved P Q n f rs ks h.1)
 
--- what each range has alone
+-- what only one range has
 pub each_all : (P : Row → Mark → Type 0) (Q : Mark → Type 0) → ((r : Row) (k : Mark) → P r k → Q k)
     → (rs : List Row) (ks : List Mark) → AllZip P rs ks → All Q ks
 each_all P Q f [] [] h = All-nil Q
@@ -92,7 +92,7 @@ nested_moved n (r ∷ rs) (k ∷ ks) h = (
   nested_moved n rs ks h.3,
 )
 
--- ---- one list behind another
+-- ---- one list after another
 
 -- ranges of which each lies apart from each of others
 abbrev pub AllApart : List Mark → List Mark → Type 0

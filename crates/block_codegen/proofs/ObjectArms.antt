@@ -9,17 +9,17 @@ use Rattle.rpp_tree.specs.Tree.{Lvalue, Whole, Creation, Object, Ints, Objects, 
 use Rattle.rpp_tree.specs.Tree.{Delete, Copy, Uncopy, index_nodes, creation_nodes}
 use Rattle.rpp_tree.specs.Views.{source_of}
 use Rattle.rpp_tree.specs.Parts.{creation_tokens, lvalue_tokens}
-use Rattle.paired_code.specs.Code.{Code, unmarked}
-use Rattle.paired_code.specs.Layout.{mirror_cells}
-use Rattle.paired_code.proofs.Mirrored.{length_mirror}
-use Rattle.code_scope.specs.Visible.{Visible, spot_of, free_of, known_in}
-use Rattle.expr_uncompute.specs.Code.{place_words}
-use Rattle.expr_uncompute.specs.Steps.{place_tokens}
-use Rattle.expr_uncompute.proofs.Bounds.{place_words_most}
-use Rattle.object_codegen.specs.Promises.{CopyLaw}
+use Rattle.refine_objects.specs.paired_code.Code.{Code, unmarked}
+use Rattle.refine_objects.specs.paired_code.Layout.{mirror_cells}
+use Rattle.refine_objects.proofs.paired_code_laws.Mirrored.{length_mirror}
+use Rattle.refine_objects.specs.code_scope.Visible.{Visible, spot_of, free_of, known_in}
+use Rattle.refine_objects.specs.expr_uncompute.Code.{place_words}
+use Rattle.refine_objects.specs.expr_uncompute.Steps.{place_tokens}
+use Rattle.refine_objects.proofs.expr_uncompute_laws.Bounds.{place_words_most}
+use Rattle.refine_objects.specs.object_codegen.Promises.{CopyLaw}
 use Rattle.block_codegen.specs.Pieces.{StatementStands, InnerPiece}
-use Rattle.object_codegen.specs.Creations.{creation_words, creation_size, NewLaw}
-use Rattle.refine_form.specs.Held.{Holds}
+use Rattle.refine_objects.specs.object_codegen.Creations.{creation_words, creation_size, NewLaw}
+use Rattle.refine_objects.specs.refine_form.Held.{Holds}
 use Rattle.statement_codegen.specs.Codes.{with_variable}
 use Rattle.statement_codegen.specs.Laws.{ConstructLaw}
 use Rattle.block_codegen.specs.Pieces.{BlockPiece}
@@ -59,7 +59,7 @@ copy_arm v x at kind source target (Ok p) is h law none size =
     subst (λ z. InnerPiece v z p) (sym is) (plain_inner v (Copy at kind source target) p none refl
     (copy_stands v at kind source target p.cells law k.allowed) (omega (arith, size, a, b)))
 
--- its mirror
+-- its inverse
 pub uncopy_arm : {E : Type 0} (v : Visible) (x : Statement) (at : ℕ) (kind : VarType) (source target : Lvalue)
     (copy : Code) (r : Result Code E) → x ≡ Uncopy at kind source target → StatementStands v x
     → CopyLaw (spot_of (known_in v)) (free_of (known_in v)) source target copy.cells
@@ -112,7 +112,7 @@ new_arm v x at made target (Ok p) is h law none size =
     subst (λ z. InnerPiece v z p) (sym is) (plain_inner v (New at made target) p none refl
     (new_stands v at made target p.cells law k.allowed) (omega (arith, size, few)))
 
--- its mirror
+-- its inverse
 pub delete_arm : {E : Type 0} (v : Visible) (x : Statement) (at : ℕ) (made : Creation) (target : Lvalue) (new : Code)
     (r : Result Code E) → x ≡ Delete at made target → StatementStands v x
     → NewLaw (source_of v.program) (spot_of (known_in v)) (free_of (known_in v)) made target new.cells
@@ -128,7 +128,7 @@ delete_arm v x at made target new (Ok p) is h law size mirrored =
     (plain_inner v (Delete at made target) (unmarked (mirror_cells new.cells)) refl refl
     (delete_stands v at made target new.cells law k.allowed) (omega (arith, size, few, long))))
 
--- an object for a block, where the scope went on
+-- an object for a block, if the scope went on
 pub construct_made : {E : Type 0} (v w u : Visible) (x : Statement) (at : ℕ) (class name : Ident) (body : Statements)
     (end : Ident) (var : Var) (making inside : Code) (o : Visible) (r : Result Code E)
     → x ≡ Construct at class name body end → StatementStands v x → var ≡ record { kind = type.Class class; name = name }

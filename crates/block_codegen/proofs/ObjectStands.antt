@@ -1,5 +1,5 @@
 -- The codes of copies, and of objects and arrays that are made and given back, are those of their
--- statements, where the rules of types pass these and the limits let them through.
+-- statements, if the rules of types pass these and the limits let them through.
 use Rattle.std.proofs.Common.{◌≡◌, ℕ, ◌+◌, ◌≤◌, List, length, sym, subst, arith}
 use Rattle.rpp_tree.specs.declared.tree.VarType.{VarType}
 use Rattle.rpp_tree.specs.declared.tree.Ident.{Ident}
@@ -7,22 +7,22 @@ use Rattle.rpp_tree.specs.declared.tree.VarType.TheVariants as type
 use Rattle.rpp_tree.specs.Tree.{Lvalue, Whole, Creation, Object, Ints, Objects, Statements, Construct, New, Delete}
 use Rattle.rpp_tree.specs.Tree.{Copy, Uncopy, Source, creation_nodes, index_nodes}
 use Rattle.rpp_tree.specs.Views.{source_of}
-use Rattle.paired_code.specs.declared.part.Symbol.{Symbol}
-use Rattle.paired_code.specs.Layout.{mirror_cells}
-use Rattle.code_scope.specs.Visible.{Visible, Known, spot_of, free_of, known_in}
-use Rattle.expr_uncompute.specs.Code.{place_words}
-use Rattle.expr_uncompute.proofs.Bounds.{place_words_most}
-use Rattle.refine_expressions.specs.Typing.{IsPassed}
-use Rattle.expr_uncompute.proofs.Bounds.{words_most}
-use Rattle.object_codegen.specs.Promises.{CopyLaw}
-use Rattle.object_codegen.specs.Creations.{creation_words, NewLaw}
+use Rattle.refine_objects.specs.paired_code.declared.part.Symbol.{Symbol}
+use Rattle.refine_objects.specs.paired_code.Layout.{mirror_cells}
+use Rattle.refine_objects.specs.code_scope.Visible.{Visible, Known, spot_of, free_of, known_in}
+use Rattle.refine_objects.specs.expr_uncompute.Code.{place_words}
+use Rattle.refine_objects.proofs.expr_uncompute_laws.Bounds.{place_words_most}
+use Rattle.refine_objects.specs.refine_expressions.Typing.{IsPassed}
+use Rattle.refine_objects.proofs.expr_uncompute_laws.Bounds.{words_most}
+use Rattle.refine_objects.specs.object_codegen.Promises.{CopyLaw}
+use Rattle.refine_objects.specs.object_codegen.Creations.{creation_words, NewLaw}
 use Rattle.refine_objects.proofs.StatedCopies.{copies_are_told, uncopies_are_told}
 use Rattle.refine_objects.proofs.StatedMade.{news_are_told, deletes_are_told}
-use Rattle.class_table.specs.Statements.{class_known, construct_rules, check_statements, with_object}
-use Rattle.class_table.proofs.PassedRules.{both_passed}
-use Rattle.meaning_sound.proofs.Expansions.{made_in}
-use Rattle.refine_form.specs.Stands.{shape_of}
-use Rattle.refine_expressions.specs.Typing.{typing_in}
+use Rattle.refine_objects.specs.class_table.Statements.{class_known, construct_rules, check_statements, with_object}
+use Rattle.refine_objects.proofs.class_table_laws.PassedRules.{both_passed}
+use Rattle.refine_objects.proofs.meaning_sound_laws.Expansions.{made_in}
+use Rattle.refine_objects.specs.refine_form.Stands.{shape_of}
+use Rattle.refine_objects.specs.refine_expressions.Typing.{typing_in}
 use Rattle.statement_codegen.specs.Codes.{scope_of, with_variable, IsStatementCode, IsAllowed}
 use Rattle.statement_codegen.proofs.Stands.{laid_out, names_same, room_for}
 
@@ -125,7 +125,7 @@ delete_stands v at made target all law fine = record {
       (subst (λ program. NewLaw program (spot_of (known_in v)) (free_of (known_in v)) made target all) (sym same) law));
 }
 
--- the new that begins a `construct` is allowed where its variable is visible
+-- the new that begins a `construct` is allowed if its variable is visible
 pub constructed_new : (v : Visible) (at : ℕ) (class name : Ident) (body : Statements) (end : Ident)
     → IsAllowed v (Construct at class name body end)
     → IsAllowed (with_variable v (record { kind = type.Class class; name = name })) (New at (Object class) (Whole name))

@@ -1,8 +1,8 @@
--- Pieces of statements and of blocks, from the code of their parts.
+-- Fragments of statements and of blocks, from the code of their parts.
 use Rattle.std.proofs.Common.{◌≡◌, ℕ, ◌+◌, ◌*◌, ◌<◌, ◌≤◌, List, [], ◌++◌, length, refl, sym, ap, ◌∙◌, subst, arith}
 use Rattle.std.proofs.Common.{length-append, append_assoc, append-nil}
 use Rattle.std.proofs.lemmas.List.Sorted.{length_permutation}
-use Rattle.code_conventions.specs.declared.memory.TheConstants.{MOST_VARIABLES}
+use Rattle.refine_objects.specs.code_conventions.declared.memory.TheConstants.{MOST_VARIABLES}
 use Rattle.rpp_tree.specs.declared.tree.Ident.{Ident}
 use Rattle.rpp_tree.specs.declared.tree.Var.{Var}
 use Rattle.rpp_tree.specs.declared.tree.VarType.TheVariants as type
@@ -11,18 +11,18 @@ use Rattle.rpp_tree.specs.Tree.{Statement, Statements, Update, If, From, Constru
 use Rattle.rpp_tree.specs.Places.{statement_place}
 use Rattle.rpp_tree.specs.Views.{source_of}
 use Rattle.rpp_tree.specs.Parts.{expression_tokens, lvalue_tokens, statement_tokens, block_tokens}
-use Rattle.pisa_isa.specs.declared.notes.Mark.{Mark}
-use Rattle.paired_code.specs.declared.part.Symbol.{Symbol}
-use Rattle.paired_code.specs.Code.{Code, shift, unmarked, seq_code, marked_code}
-use Rattle.refine_form.specs.Form.{Scope, with_var}
-use Rattle.refine_form.specs.Held.{Holds, HoldsBoth}
-use Rattle.refine_form.proofs.Holding.{shift_append, shift_zero, shift_shift}
-use Rattle.refine_form.proofs.Stated.{nothing_is_a_block, blocks_are_rows}
-use Rattle.code_scope.specs.Visible.{Visible, known_in}
-use Rattle.register_expressions.specs.Steps.{tokens}
-use Rattle.expr_uncompute.specs.Steps.{place_tokens}
+use Rattle.refine_objects.specs.pisa_isa.declared.notes.Mark.{Mark}
+use Rattle.refine_objects.specs.paired_code.declared.part.Symbol.{Symbol}
+use Rattle.refine_objects.specs.paired_code.Code.{Code, shift, unmarked, seq_code, marked_code}
+use Rattle.refine_objects.specs.refine_form.Form.{Scope, with_var}
+use Rattle.refine_objects.specs.refine_form.Held.{Holds, HoldsBoth}
+use Rattle.refine_objects.proofs.refine_form_laws.Holding.{shift_append, shift_zero, shift_shift}
+use Rattle.refine_objects.proofs.refine_form_laws.Stated.{nothing_is_a_block, blocks_are_rows}
+use Rattle.refine_objects.specs.code_scope.Visible.{Visible, known_in}
+use Rattle.refine_objects.specs.register_expressions.Steps.{tokens}
+use Rattle.refine_objects.specs.expr_uncompute.Steps.{place_tokens}
 use Rattle.statement_codegen.specs.Codes.{scope_of, with_variable, IsStatementCode, IsBlockCode, IsAllowed}
-use Rattle.branch_codegen.specs.Laws.{IfLaw, FromLaw}
+use Rattle.statement_codegen.specs.branch_codegen.Laws.{IfLaw, FromLaw}
 use Rattle.statement_codegen.specs.Laws.{LocalLaw, ConstructLaw}
 use Rattle.statement_codegen.proofs.Stands.{if_stands, from_stands, local_stands}
 use Rattle.block_codegen.specs.Rows.{row_before, inner_rows, block_rows}
@@ -46,12 +46,12 @@ pub place_tokens_are : (place : Lvalue) → place_tokens place ≡ lvalue_tokens
 place_tokens_are (Whole name) = refl
 place_tokens_are (Item name index) = ap (λ n. 3 + n) (tokens_are index)
 
--- ---- pieces one behind another
+-- ---- fragments one after another
 
 abbrev piece : List Symbol → List Mark → Code
 piece cells marks = record { cells = cells; marks = marks }
 
--- two piece before another, and behind
+-- two fragments before another, and after it
 none_before : (q : Code) → seq_code (unmarked []) q ≡ q
 none_before q = ap (piece q.cells) (shift_zero q.marks)
 
@@ -178,7 +178,7 @@ module _ (v : Visible) where
         size = let a = h.size in let b = k.size in omega (arith, a, b, length-append inner.cells q.cells);
       }
 
-  -- whatever piece the rest of a block has, the whole has it behind this one
+  -- if the rest of a block has a fragment, the whole block has it after this one
   pub record LeadsOn (whole rest : Statements) (p : Code) : Type 0 where
     pub leads : (q : Code) → BlockPiece v rest q → BlockPiece v whole (seq_code p q)
 

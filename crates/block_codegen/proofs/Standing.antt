@@ -1,4 +1,4 @@
--- What stands of the statements of a block, and of the blocks of a statement.
+-- What is known about the statements of a block, and about the blocks of a statement.
 use Rattle.std.proofs.Common.{ℕ, List, [], ◌∷◌, ◌++◌, length, refl, subst, arith}
 use Rattle.std.specs.Prelude.{All}
 use Rattle.std.proofs.lemmas.List.{take_at, drop_at}
@@ -10,17 +10,17 @@ use Rattle.rpp_tree.specs.Tree.{Expression, Statement, Statements, Update, If, F
 use Rattle.rpp_tree.specs.Places.{statement_place}
 use Rattle.rpp_tree.specs.Views.{source_of}
 use Rattle.rpp_tree.specs.Parts.{expression_places, var_places, statement_places, block_places}
-use Rattle.class_table.specs.Scope.{Typing, Locals}
-use Rattle.class_table.specs.Statements.{test_rules, local_rules, construct_rules, with_local, with_object}
-use Rattle.class_table.specs.Statements.{check_statement, check_statements}
-use Rattle.class_table.proofs.PassedRules.{both_passed}
-use Rattle.refine_form.specs.Stands.{shape_of}
-use Rattle.code_scope.specs.Visible.{Visible}
-use Rattle.refine_expressions.specs.Typing.{typing_in}
+use Rattle.refine_objects.specs.class_table.Scope.{Typing, Locals}
+use Rattle.refine_objects.specs.class_table.Statements.{test_rules, local_rules, construct_rules, with_local, with_object}
+use Rattle.refine_objects.specs.class_table.Statements.{check_statement, check_statements}
+use Rattle.refine_objects.proofs.class_table_laws.PassedRules.{both_passed}
+use Rattle.refine_objects.specs.refine_form.Stands.{shape_of}
+use Rattle.refine_objects.specs.code_scope.Visible.{Visible}
+use Rattle.refine_objects.specs.refine_expressions.Typing.{typing_in}
 use Rattle.statement_codegen.specs.Codes.{scope_of, with_variable}
 use Rattle.block_codegen.specs.Pieces.{IsPlace, StatementStands, StandsIn}
 
--- ---- parts of what holds of all
+-- ---- parts of what holds for all
 
 pub left : {A : Type 0} (P : A → Type 0) (xs ys : List A) → All P (xs ++ ys) → All P xs
 left P xs ys all = subst (All P) (take_at xs ys (length xs) refl) (All-take P (length xs) (xs ++ ys) all)

@@ -1,4 +1,4 @@
--- The blocks of which code is made, and the pieces of their statements.
+-- The blocks of which code is made, and the fragments of their statements.
 use Rattle.std.specs.Prelude.{◌≡◌, ℕ, ◌+◌, ◌*◌, ◌<◌, ◌≤◌, List, length, Option, All}
 use Rattle.rpp_tree.specs.declared.tree.Ident.{Ident}
 use Rattle.rpp_tree.specs.declared.limits.TheConstants.{MOST_BYTES}
@@ -7,17 +7,17 @@ use Rattle.rpp_tree.specs.Tree.{Delete, Copy, Uncopy, Call, Source}
 use Rattle.rpp_tree.specs.Views.{source_of}
 use Rattle.rpp_tree.specs.Parts.{statement_places, block_places, statement_tokens, block_tokens}
 use Rattle.rpp_tree.specs.Limits.{locals, AreSmall, AreInnerSmall}
-use Rattle.class_table.specs.Statements.{passed, check_statements}
-use Rattle.paired_code.specs.declared.part.Symbol.{Symbol}
-use Rattle.paired_code.specs.Code.{Code}
-use Rattle.meaning_sound.specs.Plain.{StatementIsPlain, BlockHasWords, IsPlain}
-use Rattle.refine_form.specs.Form.{Scope, StmtLaw}
-use Rattle.refine_form.specs.Stands.{shape_of}
-use Rattle.refine_form.specs.Worlds.{Place, world_of}
-use Rattle.code_conventions.specs.declared.memory.TheConstants.{MOST_VARIABLES}
-use Rattle.code_scope.specs.Visible.{Visible}
-use Rattle.refine_calls.specs.Laws.{IsLinked}
-use Rattle.refine_expressions.specs.Typing.{typing_in}
+use Rattle.refine_objects.specs.class_table.Statements.{passed, check_statements}
+use Rattle.refine_objects.specs.paired_code.declared.part.Symbol.{Symbol}
+use Rattle.refine_objects.specs.paired_code.Code.{Code}
+use Rattle.refine_objects.specs.meaning_sound.Plain.{StatementIsPlain, BlockHasWords, IsPlain}
+use Rattle.refine_objects.specs.refine_form.Form.{Scope, StmtLaw}
+use Rattle.refine_objects.specs.refine_form.Stands.{shape_of}
+use Rattle.refine_objects.specs.refine_form.Worlds.{Place, world_of}
+use Rattle.refine_objects.specs.code_conventions.declared.memory.TheConstants.{MOST_VARIABLES}
+use Rattle.refine_objects.specs.code_scope.Visible.{Visible}
+use Rattle.refine_objects.specs.refine_calls.Laws.{IsLinked}
+use Rattle.refine_objects.specs.refine_expressions.Typing.{typing_in}
 use Rattle.statement_codegen.specs.declared.elements.CallParts.{CallParts}
 use Rattle.statement_codegen.specs.Codes.{scope_of, IsStatementCode, IsBlockCode, IsAllowed}
 use Rattle.block_codegen.specs.Rows.{inner_rows, block_rows}
@@ -29,8 +29,8 @@ use Rattle.block_codegen.specs.Ranges.{MarksOf, IsCovered}
 abbrev pub IsPlace : ℕ → Type 0
 IsPlace at = at < MOST_BYTES
 
--- A statement that stands where this is visible: it is allowed there, the statements in it keep the
--- limits of expressions, no name in a call on an element is empty, and it stands at places that a
+-- A statement for which this is visible: it is allowed there, and the statements in it keep the
+-- limits of expressions. No name in a call on an element is empty, and its offsets are ones that a
 -- source can have.
 pub record StatementStands (v : Visible) (statement : Statement) : Type 0 where
   pub allowed : IsAllowed v statement
@@ -38,9 +38,9 @@ pub record StatementStands (v : Visible) (statement : Statement) : Type 0 where
   pub inner_small : AreInnerSmall statement
   pub places : All IsPlace (statement_places statement)
 
--- A block that stands there: the rules of types pass it, its literals are words, no name in a call
--- on an element is empty, it keeps the limits of expressions, it stands at places that a source can
--- have, and its locals have room in the frame.
+-- A block at that position: the rules of types accept it, its literals are words, and no name in a
+-- call on an element is empty. It keeps the limits of expressions, its offsets are ones that a
+-- source can have, and the frame has space for its locals.
 pub record StandsIn (v : Visible) (body : Statements) : Type 0 where
   pub rules : check_statements (typing_in (source_of v.program) (scope_of v))
       (shape_of (source_of v.program) (scope_of v)) body
@@ -80,7 +80,8 @@ pub record IsRowCode (program : Source) (s : Scope) (statement : Statement)
       → place.setting.program ≡ program
       → StmtLaw (world_of place) s statement cells
 
--- the marks of the piece are those of the statements of a block: each has its code under its mark
+-- the marks of the fragment are those of the statements of a block: each has its code under its
+-- mark
 abbrev pub HaveMarks : Visible → Statements → Code → Type 0
 HaveMarks v body p = MarksOf (IsRowCode (source_of v.program)) (block_rows (scope_of v) body) p
 
@@ -88,13 +89,13 @@ HaveMarks v body p = MarksOf (IsRowCode (source_of v.program)) (block_rows (scop
 abbrev pub cells_a_token : ℕ
 cells_a_token = 200
 
--- the piece of a statement before it is marked: it has the marks of the statements that stand in it
+-- the fragment of a statement before it is marked: it has the marks of the statements in it
 pub record InnerPiece (v : Visible) (statement : Statement) (p : Code) : Type 0 where
   pub law : IsStatementCode v statement p.cells
   pub marks : MarksOf (IsRowCode (source_of v.program)) (inner_rows (scope_of v) statement) p
   pub size : length p.cells ≤ cells_a_token * statement_tokens statement
 
--- the piece of a block
+-- the fragment of a block
 pub record BlockPiece (v : Visible) (body : Statements) (p : Code) : Type 0 where
   pub law : IsBlockCode v body p.cells
   pub marks : HaveMarks v body p

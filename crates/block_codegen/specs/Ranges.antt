@@ -5,10 +5,10 @@ use Rattle.std.specs.List.{list_any, AllZip}
 use Rattle.std.specs.List.Sorted.{IsPermutation}
 use Rattle.rpp_tree.specs.Tree.{Statement}
 use Rattle.rpp_tree.specs.Places.{statement_place}
-use Rattle.pisa_isa.specs.declared.notes.Mark.{Mark}
-use Rattle.paired_code.specs.declared.part.Symbol.{Symbol}
-use Rattle.paired_code.specs.Code.{Code}
-use Rattle.refine_form.specs.Form.{Scope}
+use Rattle.refine_objects.specs.pisa_isa.declared.notes.Mark.{Mark}
+use Rattle.refine_objects.specs.paired_code.declared.part.Symbol.{Symbol}
+use Rattle.refine_objects.specs.paired_code.Code.{Code}
+use Rattle.refine_objects.specs.refine_form.Form.{Scope}
 use Rattle.block_codegen.specs.Rows.{Row}
 
 -- the second range lies in the first
@@ -19,9 +19,8 @@ LiesIn k j = (k.first ≤ j.first) × (j.end ≤ k.end)
 abbrev pub LiesApart : Mark → Mark → Type 0
 LiesApart k j = (k.end ≤ j.first) ⊎ (j.end ≤ k.first)
 
--- Behind each statement come those that stand in it, whose ranges lie in its own, and then others,
--- whose
--- ranges lie apart.
+-- After each statement come the statements in it, whose ranges are inside its own, and then others,
+-- whose ranges are outside.
 abbrev pub AreNested : List Row → List Mark → Type 0
 AreNested [] [] = Unit {0}
 AreNested [] (k ∷ ks) = ⊥
@@ -32,14 +31,14 @@ AreNested (r ∷ rs) (k ∷ ks) =
     × AreNested rs ks
 
 module _ (Law : Scope → Statement → List Symbol → Type 0) where
-  -- a mark stands at the place of a statement, and the cells of its range have the statement's law
+  -- a mark has the offset of a statement, and the cells of its range have the statement's law
   pub record IsRange (cells : List Symbol) (r : Row) (k : Mark) : Type 0 where
     pub place : k.at ≡ statement_place r.statement
     pub in_order : k.first ≤ k.end
     pub within : k.end ≤ length cells
     pub law : Law r.scope r.statement (take (k.end - k.first) (drop k.first cells))
 
-  -- the marks of a piece are one range for each of these statements
+  -- the marks of a fragment are one range for each of these statements
   pub record MarksOf (rows : List Row) (p : Code) : Type 0 where
     pub ranges : List Mark
     pub same : IsPermutation p.marks ranges

@@ -2,15 +2,15 @@
 use Rattle.std.specs.Prelude.{ℕ, List, [], ◌∷◌, ◌++◌, length}
 use Rattle.rpp_tree.specs.declared.tree.VarType.TheVariants as type
 use Rattle.rpp_tree.specs.Tree.{Statement, Statements, Walk, walk, walk_block}
-use Rattle.refine_form.specs.Form.{Scope, with_var}
+use Rattle.refine_objects.specs.refine_form.Form.{Scope, with_var}
 
--- a statement, the scope in which it stands, and how many statements stand in it
+-- a statement, its scope, and the number of statements in it
 pub record Row : Type 0 where
   pub scope : Scope
   pub statement : Statement
   pub inside : ℕ
 
--- a statement before those that stand in it
+-- a statement before those in it
 abbrev pub row_before : Scope → Statement → List Row → List Row
 row_before s x inner = record { scope = s; statement = x; inside = length inner } ∷ inner
 
@@ -25,10 +25,10 @@ rows = record {
   next = λ first said rest s. row_before s first (said s) ++ rest s;
 }
 
--- those that stand in a statement
+-- the statements in a statement
 abbrev pub inner_rows : Scope → Statement → List Row
 inner_rows s x = walk rows x s
 
--- the statements of a block, and those that stand in them
+-- the statements of a block, and those in them
 abbrev pub block_rows : Scope → Statements → List Row
 block_rows s body = walk_block rows body s

@@ -3,8 +3,8 @@ ghost use Rattle.std.specs.Prelude.{◌≡◌, ◌*◌, ◌≤◌, length, IfOk,
 ghost use Rattle.rpp_tree.specs.Parts.{block_tokens};
 ghost use Rattle.rpp_tree.specs.Places.{statement_place};
 ghost use Rattle.rpp_tree.specs.Views.{statement_of, block_of};
-ghost use Rattle.pisa_isa.specs.declared.notes.TheConstants.{LAST_PLACE};
-ghost use Rattle.paired_code.specs.Code.{seq_code, marked_code};
+ghost use Rattle.refine_objects.specs.pisa_isa.declared.notes.TheConstants.{LAST_PLACE};
+ghost use Rattle.refine_objects.specs.paired_code.Code.{seq_code, marked_code};
 ghost use Rattle.statement_codegen.specs.Codes.{IsBlockCode};
 ghost use Rattle.block_codegen.specs.Ranges.{IsCovered};
 ghost use Rattle.block_codegen.specs.Pieces.{StatementStands, StandsIn, HaveMarks, cells_a_token, InnerPiece, BlockPiece};
@@ -21,8 +21,8 @@ use statement_codegen::{construct_code, local_code};
 use std::alloc::Global;
 
 /// The code of a block in this scope: the code of its statements, one after the other, with a mark
-/// over the cells of each. Where it is made, the scope is as before; after an error nothing is
-/// known of it. It has at most 200 cells for each token of the block. The only error is that memory
+/// over the cells of each. If it is made, the scope is as before; after an error nothing is said
+/// about it. It has at most 200 cells for each token of the block. The only error is that memory
 /// ran out.
 pub fn block_code(alloc: Global, body: &Block, scope: &mut Scope) -> Result<Piece, NoMemory>
     requires stands { StandsIn scope.old (block_of body.now) }
@@ -36,7 +36,7 @@ pub fn block_code(alloc: Global, body: &Block, scope: &mut Scope) -> Result<Piec
     block_piece(alloc, body, scope)
 }
 
-// A piece, and then the piece of a statement with its mark.
+// A fragment, and then the fragment of a statement with its mark.
 fn then_marked(before: Piece, s: &Stmt, inner: Piece) -> Result<Piece, NoMemory>
     requires place { statement_place (statement_of s.now) ≤ LAST_PLACE }
     ensures code { IfOk result (λ p. p ≡

@@ -1,6 +1,6 @@
 //! The code of whole blocks, with a mark for each statement over its cells. The layer above may use
 //! `block_code` and the definitions of specs/: what a block must keep (`StandsIn`), and which marks
-//! a piece has (`HaveMarks`).
+//! a fragment has (`HaveMarks`).
 #![tactic(auto)]
 
 mod blocks;

@@ -3,8 +3,8 @@ ghost use Rattle.std.specs.Prelude.{◌≡◌, ◌≤◌, [], length, IfOk};
 ghost use Rattle.rpp_tree.specs.declared.tree.VarType.TheVariants.{Class};
 ghost use Rattle.rpp_tree.specs.Tree.{Object, Whole};
 ghost use Rattle.rpp_tree.specs.Views.{source_of, statement_of};
-ghost use Rattle.code_scope.specs.Visible.{spot_of, free_of, known_in};
-ghost use Rattle.object_codegen.specs.Creations.{NewLaw, creation_size};
+ghost use Rattle.refine_objects.specs.code_scope.Visible.{spot_of, free_of, known_in};
+ghost use Rattle.refine_objects.specs.object_codegen.Creations.{NewLaw, creation_size};
 ghost use Rattle.block_codegen.specs.Pieces.{StatementStands, IsOfObjects, InnerPiece};
 
 use code_scope::Scope;
@@ -46,7 +46,7 @@ pub fn making_piece(
     class_code(alloc, class, &place, scope)
 }
 
-/// The code of such a statement: that of a delete is that of the new, mirrored, and that of an
+/// The code of such a statement: that of a delete is that of the new, inverted, and that of an
 /// uncopy that of the copy. The only error is that memory ran out.
 pub fn object_piece(alloc: Global, s: &Stmt, scope: &Scope) -> Result<Piece, NoMemory>
     requires stands { StatementStands scope.now (statement_of s.now) }

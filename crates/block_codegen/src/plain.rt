@@ -57,8 +57,8 @@ fn call_piece(
     }
 }
 
-/// The code of a statement that holds no block. Where it is made, the scope is as before; after an
-/// error nothing is known of it. The only error is that memory ran out.
+/// The code of a statement that holds no block. If it is made, the scope is as before; after an
+/// error nothing is said about it. The only error is that memory ran out.
 pub fn plain_piece(alloc: Global, s: &Stmt, scope: &mut Scope) -> Result<Piece, NoMemory>
     requires stands { StatementStands scope.old (statement_of s.now) }
     requires plain { HoldsNoBlock (statement_of s.now) }

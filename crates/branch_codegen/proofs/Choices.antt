@@ -1,24 +1,24 @@
--- Conditionals in both directions, from the laws of their tests and parts alone.
+-- Conditionals in both directions, only from the laws of their conditions and blocks.
 use Rattle.std.proofs.Common.{◌≡◌, ℕ, suc, ◌+◌, ◌-◌, ◌<◌, ◌≤◌, Bool, true, false, List, [], ◌∷◌, refl, sym, ap, ◌∙◌}
 use Rattle.std.proofs.Common.{subst, arith}
 use Rattle.std.specs.Prelude.{not, if◌then◌else◌}
-use Rattle.code_conventions.specs.declared.registers.TheConstants.{FLAG, NOUGHT}
+use Rattle.refine_expressions.specs.code_conventions.declared.registers.TheConstants.{FLAG, NOUGHT}
 use Rattle.rpp_tree.specs.Tree.{Expression, Statements, If}
-use Rattle.stmt_inverter.specs.Inverse.{inverse}
-use Rattle.pisa_isa.specs.Machine.{Memory}
-use Rattle.paired_code.specs.declared.part.Symbol.{Symbol}
-use Rattle.paired_code.specs.Machine.{reg}
-use Rattle.paired_code.specs.Layout.{xor}
-use Rattle.paired_code.specs.Pieces.{Outcome, Will}
-use Rattle.paired_code.specs.Rows.{line}
-use Rattle.paired_code.specs.Does.{Told, Fine, plus, told_then, Meets, fine, faults, more, Does, Tells, chosen, agreed}
-use Rattle.paired_code.specs.Does.{if_told}
-use Rattle.paired_code.proofs.Laws.{will_more}
-use Rattle.paired_code.proofs.Does.{bit as flag_bit}
-use Rattle.roopl_semantics.specs.Run.{Run, Done as DoneRun, Fault as FaultRun, More as MoreRun, ◌>>=◌, give, fault_if}
-use Rattle.roopl_semantics.specs.Store.{Value, State}
-use Rattle.roopl_semantics.specs.Value.{evaluated}
-use Rattle.roopl_semantics.specs.Execution.{Setting, exec, holds, fi_fault}
+use Rattle.refine_expressions.specs.stmt_inverter.Inverse.{inverse}
+use Rattle.refine_expressions.specs.pisa_isa.Machine.{Memory}
+use Rattle.refine_expressions.specs.paired_code.declared.part.Symbol.{Symbol}
+use Rattle.refine_expressions.specs.paired_code.Machine.{reg}
+use Rattle.refine_expressions.specs.paired_code.Layout.{xor}
+use Rattle.refine_expressions.specs.paired_code.Pieces.{Outcome, Will}
+use Rattle.refine_expressions.specs.paired_code.Rows.{line}
+use Rattle.refine_expressions.specs.paired_code.Does.{Told, Fine, plus, told_then, Meets, fine, faults, more, Does, Tells, chosen, agreed}
+use Rattle.refine_expressions.specs.paired_code.Does.{if_told}
+use Rattle.refine_expressions.proofs.paired_code_laws.Laws.{will_more}
+use Rattle.refine_expressions.proofs.paired_code_laws.Does.{bit as flag_bit}
+use Rattle.refine_expressions.specs.roopl_semantics.Run.{Run, Done as DoneRun, Fault as FaultRun, More as MoreRun, ◌>>=◌, give, fault_if}
+use Rattle.refine_expressions.specs.roopl_semantics.Store.{Value, State}
+use Rattle.refine_expressions.specs.roopl_semantics.Value.{evaluated}
+use Rattle.refine_expressions.specs.roopl_semantics.Execution.{Setting, exec, holds, fi_fault}
 use Rattle.refine_form.specs.Form.{World, Scope, Open, Owes, StmtLaw, BlockLaw, TestLaw, tested, told, one, turned}
 use Rattle.branch_codegen.specs.Branches.{flips, part_code, if_code}
 use Rattle.refine_form.proofs.Told.{alone, told_after, told_bind, same_then}
@@ -27,7 +27,7 @@ use Rattle.refine_form.proofs.Rows.{here, next, will_row}
 use Rattle.branch_codegen.proofs.Flags.{Flagged, FlagLaw, test_flags, mk}
 use Rattle.branch_codegen.proofs.Ifs.{if_does, if_undoes}
 
--- a value that is used by its truth alone
+-- a value of which only the truth value is used
 pub told_holds : {B : Type 0} (r : Run Value) (g : Bool → Told B)
     → told_then (told (r >>= λ v. give (holds v))) (λ c b. g b) ≡ told_then (told r) (λ c v. g (holds v))
 told_holds (DoneRun v c) g = let e : c + 0 ≡ c = omega arith in ap (λ k. plus k (g (holds v))) e
@@ -88,7 +88,7 @@ module _ (w : World) (thousand : w.rates.steps ≡ 1000) (counts : 1 ≤ w.rates
   nought_is : (v : Bool) (st : State) (m : Memory) → R v st m → reg m NOUGHT ≡ 0
   nought_is v st m h = ap (λ z. reg z NOUGHT) (as_known m _ h.regs_are)
 
-  -- a test at the rates of statements
+  -- a condition at the rates of statements
   pub tells : (d : Bool) (e : Expression) (p : List Symbol) → FlagLaw w s e p
       → Tells w.im p d R w.rates 50 (λ n a. told (tested w.setting e a))
   tells d e p h = record {
@@ -96,7 +96,7 @@ module _ (w : World) (thousand : w.rates.steps ≡ 1000) (counts : 1 ≤ w.rates
         (h n d u v a m g);
   }
 
-  -- a part, with the flag put by
+  -- a part, with the flag saved
   pub part_does : (d : Bool) (p : List Symbol) (n : ℕ) (g : State → Told State)
       → Does w.im p d (Open w s u) (Open w s u) w.rates n 0 g
       → Does w.im (part_code p) d (R true) (R true) w.rates n 2 g

@@ -1,17 +1,17 @@
 -- The laws as contracts state them.
 use Rattle.std.proofs.Common.{◌≡◌, ℕ, suc, ◌+◌, ◌≤◌, List, [], ◌∷◌, ◌++◌, length, refl, ap, arith, append_assoc}
 use Rattle.std.proofs.Common.{length-append}
-use Rattle.paired_code.specs.declared.part.Symbol.{Symbol}
-use Rattle.code_conventions.specs.Cells.{bra}
-use Rattle.paired_code.specs.declared.part.Symbol.TheVariants.{Own}
-use Rattle.paired_code.specs.Layout.{between, fork, branch_cells, loop_cells, mirror_cells}
-use Rattle.paired_code.specs.Rows.{line, within}
-use Rattle.paired_code.specs.Code.{Code, loop_code}
+use Rattle.refine_expressions.specs.paired_code.declared.part.Symbol.{Symbol}
+use Rattle.refine_expressions.specs.code_conventions.Cells.{bra}
+use Rattle.refine_expressions.specs.paired_code.declared.part.Symbol.TheVariants.{Own}
+use Rattle.refine_expressions.specs.paired_code.Layout.{between, fork, branch_cells, loop_cells, mirror_cells}
+use Rattle.refine_expressions.specs.paired_code.Rows.{line, within}
+use Rattle.refine_expressions.specs.paired_code.Code.{Code, loop_code}
 use Rattle.refine_form.specs.Worlds.{world_of}
 use Rattle.refine_form.specs.Held.{Holds, HoldsBoth}
 use Rattle.refine_form.proofs.Holding.{holds_itself, both_of, both_loop}
-use Rattle.code_conventions.specs.declared.faults.TheConstants.{FI, LOOP}
-use Rattle.code_conventions.specs.declared.registers.TheConstants.{FLAG}
+use Rattle.refine_expressions.specs.code_conventions.declared.faults.TheConstants.{FI, LOOP}
+use Rattle.refine_expressions.specs.code_conventions.declared.registers.TheConstants.{FLAG}
 use Rattle.branch_codegen.specs.Branches.{flips, check, part_code, if_code, turn_code, from_code}
 use Rattle.branch_codegen.specs.Laws.{IfCode, FromCode}
 use Rattle.branch_codegen.proofs.Choices.{if_law}

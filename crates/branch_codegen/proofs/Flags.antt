@@ -1,13 +1,13 @@
 -- Tests between statements: the flag is set, and the frame stays open.
 use Rattle.std.proofs.Common.{◌≡◌, ℕ, Bool, List, [], sym, ap, subst}
 use Rattle.rpp_tree.specs.Tree.{Expression}
-use Rattle.pisa_isa.specs.Machine.{Memory}
-use Rattle.paired_code.specs.declared.part.Symbol.{Symbol}
-use Rattle.paired_code.specs.Layout.{xor}
-use Rattle.paired_code.specs.Pieces.{Will}
-use Rattle.paired_code.specs.Does.{Meets}
-use Rattle.paired_code.proofs.Laws.{will_more}
-use Rattle.roopl_semantics.specs.Store.{State}
+use Rattle.refine_expressions.specs.pisa_isa.Machine.{Memory}
+use Rattle.refine_expressions.specs.paired_code.declared.part.Symbol.{Symbol}
+use Rattle.refine_expressions.specs.paired_code.Layout.{xor}
+use Rattle.refine_expressions.specs.paired_code.Pieces.{Will}
+use Rattle.refine_expressions.specs.paired_code.Does.{Meets}
+use Rattle.refine_expressions.proofs.paired_code_laws.Laws.{will_more}
+use Rattle.refine_expressions.specs.roopl_semantics.Store.{State}
 use Rattle.refine_form.specs.Form.{World, Scope, TestLaw, registers, bit, test_rates, test_slack, tested, told}
 use Rattle.refine_form.proofs.Rules.{as_known, meets_as}
 
@@ -19,7 +19,7 @@ pub record Flagged (w : World) (s : Scope) (u : w.Under) (v : Bool) (st : State)
   pub regs_are : m.regs ≡ registers 0 (w.object_of u) (w.frame_of u) 0 0 0 (bit v) 0
   pub open_frame : w.opens s u [] st m.cells
 
--- the code of a test xors the truth into the flag, and the frame stays open
+-- the code of a condition xors the truth value into the flag, and the frame stays open
 abbrev pub FlagLaw : World → Scope → Expression → List Symbol → Type 0
 FlagLaw w s e p =
     (n : ℕ) (d : Bool) (u : w.Under) (v : Bool) (st : State) (m : Memory) → Flagged w s u v st m

@@ -1,18 +1,19 @@
--- A conditional with its two checks of the flag, both ways, by the laws of its parts alone.
+-- A conditional with its two checks of the flag, in both directions, only from the laws of its
+-- blocks.
 use Rattle.std.proofs.Common.{◌≡◌, ℕ, zero, suc, ◌+◌, ◌-◌, ◌<◌, ◌≤◌, Bool, true, false, List, [], ◌∷◌, ◌++◌, refl}
 use Rattle.std.proofs.Common.{sym, ◌∙◌, subst, arith, append_assoc, append-nil}
-use Rattle.code_conventions.specs.declared.faults.TheConstants.{FI}
-use Rattle.code_conventions.specs.declared.registers.TheConstants.{FLAG, NOUGHT}
-use Rattle.pisa_isa.specs.Machine.{Memory}
-use Rattle.paired_code.specs.declared.part.Symbol.{Symbol}
-use Rattle.paired_code.specs.Machine.{Image, reg}
-use Rattle.paired_code.specs.Layout.{branch_cells, xor, Equal}
-use Rattle.paired_code.specs.Pieces.{Done, Runs, Will}
-use Rattle.paired_code.specs.Does.{Rates, Told, Meets, fine, faults, more, Does, Tells, agreed, if_told, in_order}
-use Rattle.paired_code.proofs.Laws.{will_of}
-use Rattle.paired_code.proofs.Small.{runs_still}
-use Rattle.paired_code.proofs.Checks.{runs_passes, runs_fails}
-use Rattle.paired_code.proofs.Does.{bit, meets_first, meets_ticked, meets_branch, will_last}
+use Rattle.refine_expressions.specs.code_conventions.declared.faults.TheConstants.{FI}
+use Rattle.refine_expressions.specs.code_conventions.declared.registers.TheConstants.{FLAG, NOUGHT}
+use Rattle.refine_expressions.specs.pisa_isa.Machine.{Memory}
+use Rattle.refine_expressions.specs.paired_code.declared.part.Symbol.{Symbol}
+use Rattle.refine_expressions.specs.paired_code.Machine.{Image, reg}
+use Rattle.refine_expressions.specs.paired_code.Layout.{branch_cells, xor, Equal}
+use Rattle.refine_expressions.specs.paired_code.Pieces.{Done, Runs, Will}
+use Rattle.refine_expressions.specs.paired_code.Does.{Rates, Told, Meets, fine, faults, more, Does, Tells, agreed, if_told, in_order}
+use Rattle.refine_expressions.proofs.paired_code_laws.Laws.{will_of}
+use Rattle.refine_expressions.proofs.paired_code_laws.Small.{runs_still}
+use Rattle.refine_expressions.proofs.paired_code_laws.Checks.{runs_passes, runs_fails}
+use Rattle.refine_expressions.proofs.paired_code_laws.Does.{bit, meets_first, meets_ticked, meets_branch, will_last}
 use Rattle.branch_codegen.specs.Branches.{check}
 
 module _ {A : Type 0} (im : Image) (d : Bool) (R : Bool → A → Memory → Type 0)
@@ -66,7 +67,7 @@ module _ {A : Type 0} (im : Image) (R : Bool → A → Memory → Type 0)
       subst (λ z. Does im z false (R false) (R false) b n 0 (if_told tt uu pp qq n)) e
       (choice im false R flag nought b hb x y t u p q tt uu pp qq ht hu hx n hp hq)
 
-  -- back: the tests change places
+  -- back: the conditions change places
   pub if_undoes : (pp qq : ℕ → A → Told A) → Tells im t true R b x tt → Tells im u true R b x uu → (n : ℕ)
       → ((k : ℕ) → k < n → Does im p true (R true) (R true) b k y (pp k))
       → ((k : ℕ) → k < n → Does im q true (R false) (R false) b k y (qq k))

@@ -1,13 +1,13 @@
--- The laws of conditionals and loops in a scope, from those of their tests and pieces.
+-- The laws of conditionals and loops in a scope, from those of their conditions and fragments.
 use Rattle.std.proofs.Common.{◌≡◌, List, sym, subst}
 use Rattle.std.specs.Prelude.{Result, Ok, Err, IfOk}
 use Rattle.rpp_tree.specs.Tree.{Expression}
-use Rattle.class_table.specs.declared.kind.Kind.TheVariants as kind
-use Rattle.paired_code.specs.declared.part.Symbol.{Symbol}
-use Rattle.paired_code.specs.Code.{Code}
-use Rattle.code_conventions.specs.declared.registers.TheConstants.{FLAG}
-use Rattle.code_scope.specs.Visible.{Known, spot_of, free_of}
-use Rattle.expr_uncompute.specs.Promises as code
+use Rattle.refine_expressions.specs.class_table.declared.kind.Kind.TheVariants as kind
+use Rattle.refine_expressions.specs.paired_code.declared.part.Symbol.{Symbol}
+use Rattle.refine_expressions.specs.paired_code.Code.{Code}
+use Rattle.refine_expressions.specs.code_conventions.declared.registers.TheConstants.{FLAG}
+use Rattle.refine_expressions.specs.code_scope.Visible.{Known, spot_of, free_of}
+use Rattle.refine_expressions.specs.expr_uncompute.Promises as code
 use Rattle.refine_form.specs.Form.{Scope, TestLaw}
 use Rattle.refine_form.specs.Worlds.{Place, world_of}
 use Rattle.refine_expressions.specs.Typing.{known_of, IsTyped}
@@ -15,7 +15,7 @@ use Rattle.refine_expressions.specs.Laws.{IsLaidOut}
 use Rattle.refine_expressions.proofs.Stated.{tests_are_told}
 use Rattle.branch_codegen.specs.Laws.{IfCode, FromCode, IfLaw, FromLaw}
 
--- the code of a test, in a scope of its names
+-- the code of a condition, in a scope of its names
 test_in : (known : Known) (e : Expression) (p : List Symbol) → code.TestLaw (spot_of known) (free_of known) FLAG e p
     → (place : Place) → IsLaidOut place → (s : Scope) → known_of place.setting.program s ≡ known
     → IsTyped place.setting.program s e kind.Int → TestLaw (world_of place) s e p

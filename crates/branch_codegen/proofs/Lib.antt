@@ -1,3 +1,11 @@
+pub use Rattle.refine_expressions.proofs.class_table_laws
+pub use Rattle.refine_expressions.proofs.stmt_inverter_laws
+pub use Rattle.refine_expressions.proofs.meaning_sound_laws
+pub use Rattle.refine_expressions.proofs.paired_code_laws
+pub use Rattle.refine_form.proofs as refine_form_laws
+pub use Rattle.refine_expressions.proofs.expr_uncompute_laws
+pub use Rattle.refine_expressions.proofs.refine_calls_laws
+pub use Rattle.refine_expressions.proofs as refine_expressions_laws
 pub mod Flags
 pub mod Ifs
 pub mod Choices

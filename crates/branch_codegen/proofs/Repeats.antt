@@ -1,34 +1,34 @@
--- Loops in both directions, where each test stands once and is made once for each count.
+-- Loops in both directions: each condition occurs once, and is computed once for each cost unit.
 use Rattle.std.proofs.Common.{◌≡◌, ◌≢◌, ℕ, zero, suc, ◌+◌, ◌-◌, ◌*◌, ◌≤◌, inl, inr, Bool, true, false, List, [], ◌∷◌}
 use Rattle.std.proofs.Common.{◌++◌, refl, sym, ap, ◌∙◌, subst, arith, append-nil, append_assoc}
 use Rattle.std.specs.Prelude.{not}
 use Rattle.std.proofs.Math.Nat.{mul-add, mul-le-mul_right}
-use Rattle.code_conventions.specs.declared.faults.TheConstants.{LOOP}
-use Rattle.code_conventions.specs.declared.registers.TheConstants.{FLAG, NOUGHT}
+use Rattle.refine_expressions.specs.code_conventions.declared.faults.TheConstants.{LOOP}
+use Rattle.refine_expressions.specs.code_conventions.declared.registers.TheConstants.{FLAG, NOUGHT}
 use Rattle.rpp_tree.specs.Tree.{Expression, Number, Null, Variable, Element, Binary, Statements, From, nodes}
-use Rattle.stmt_inverter.specs.Inverse.{inverse}
-use Rattle.pisa_isa.specs.Machine.{Memory}
-use Rattle.paired_code.specs.declared.part.Symbol.{Symbol}
-use Rattle.paired_code.specs.Machine.{Image, reg}
-use Rattle.paired_code.specs.Layout.{xor, loop_cells, Equal}
-use Rattle.paired_code.specs.Pieces.{Outcome, Done, Trapped, Still, Will, after, to_tail, to_head}
-use Rattle.paired_code.specs.Does.{Rates, Told, Fine, Fault, More, plus, told_then, Meets, fine, faults, more, Does}
-use Rattle.paired_code.specs.Does.{in_order}
-use Rattle.paired_code.proofs.Laws.{Next, will_of, will_more}
-use Rattle.paired_code.proofs.Checks.{runs_passes, runs_fails}
-use Rattle.paired_code.proofs.Does.{will_first, will_last, Quiet, quiet}
-use Rattle.paired_code.proofs.Loop.{Turns, turn, turns_more, will_loop, After_head}
-use Rattle.roopl_semantics.specs.Run.{Run, Done as DoneRun, Fault as FaultRun, More as MoreRun, ◌>>=◌, give, fault_if}
-use Rattle.roopl_semantics.specs.Run.{given, after_cost}
-use Rattle.roopl_semantics.specs.Store.{Value, State}
-use Rattle.roopl_semantics.specs.Value.{evaluated, value}
-use Rattle.roopl_semantics.specs.Execution.{Setting, exec, holds, loop_fault, turns, turn_end}
+use Rattle.refine_expressions.specs.stmt_inverter.Inverse.{inverse}
+use Rattle.refine_expressions.specs.pisa_isa.Machine.{Memory}
+use Rattle.refine_expressions.specs.paired_code.declared.part.Symbol.{Symbol}
+use Rattle.refine_expressions.specs.paired_code.Machine.{Image, reg}
+use Rattle.refine_expressions.specs.paired_code.Layout.{xor, loop_cells, Equal}
+use Rattle.refine_expressions.specs.paired_code.Pieces.{Outcome, Done, Trapped, Still, Will, after, to_tail, to_head}
+use Rattle.refine_expressions.specs.paired_code.Does.{Rates, Told, Fine, Fault, More, plus, told_then, Meets, fine, faults, more, Does}
+use Rattle.refine_expressions.specs.paired_code.Does.{in_order}
+use Rattle.refine_expressions.proofs.paired_code_laws.Laws.{Next, will_of, will_more}
+use Rattle.refine_expressions.proofs.paired_code_laws.Checks.{runs_passes, runs_fails}
+use Rattle.refine_expressions.proofs.paired_code_laws.Does.{will_first, will_last, Quiet, quiet}
+use Rattle.refine_expressions.proofs.paired_code_laws.Loop.{Turns, turn, turns_more, will_loop, After_head}
+use Rattle.refine_expressions.specs.roopl_semantics.Run.{Run, Done as DoneRun, Fault as FaultRun, More as MoreRun, ◌>>=◌, give, fault_if}
+use Rattle.refine_expressions.specs.roopl_semantics.Run.{given, after_cost}
+use Rattle.refine_expressions.specs.roopl_semantics.Store.{Value, State}
+use Rattle.refine_expressions.specs.roopl_semantics.Value.{evaluated, value}
+use Rattle.refine_expressions.specs.roopl_semantics.Execution.{Setting, exec, holds, loop_fault, turns, turn_end}
 use Rattle.refine_form.specs.Form.{World, Scope, Open, Owes, StmtLaw, BlockLaw, TestLaw, test_rates, tested, told}
 use Rattle.refine_form.specs.Form.{one, turned}
-use Rattle.paired_code.specs.Rows.{line}
+use Rattle.refine_expressions.specs.paired_code.Rows.{line}
 use Rattle.refine_form.specs.Cells.{around}
 use Rattle.branch_codegen.specs.Branches.{flips, check, from_code}
-use Rattle.paired_code.proofs.Small.{runs_still}
+use Rattle.refine_expressions.proofs.paired_code_laws.Small.{runs_still}
 use Rattle.refine_form.proofs.Told.{alone, told_after, told_bind, same_then, plus_none, plus_plus}
 use Rattle.refine_form.proofs.Rules.{as_known, wraps_spent, meets_told}
 use Rattle.refine_form.proofs.Rows.{here, next, will_row}
@@ -86,7 +86,7 @@ then_fault t v c g e = ap (λ z. told_then z (λ c a. g a)) e
 then_more : {A B : Type 0} (t : Told A) (g : A → Told B) → t ≡ More → told_then t (λ c a. g a) ≡ More
 then_more t g e = ap (λ z. told_then z (λ c a. g a)) e
 
--- a test costs something
+-- a condition costs something
 nodes_one : (e : Expression) → 1 ≤ nodes e
 nodes_one (Number at word) = omega arith
 nodes_one (Null at) = omega arith
@@ -121,7 +121,7 @@ more_steps b c k k' h l = let g : b * k ≤ b * k' = (let q : k * b ≤ k' * b =
 two_counts : (b c c' k k' : ℕ) → c ≤ b * k → c' ≤ b * k' → c + c' ≤ b * (k + k')
 two_counts b c c' k k' h g = omega (arith, h, g, mul-add b k k')
 
--- ---- the turns
+-- ---- the iterations
 
 module _ (w : World) (thousand : w.rates.steps ≡ 1000) (counts : 1 ≤ w.rates.counts) (s : Scope) (u : w.Under)
     (d : Bool) (e1 e2 : Expression) (first again : Statements) (n : ℕ) where
@@ -133,7 +133,7 @@ module _ (w : World) (thousand : w.rates.steps ≡ 1000) (counts : 1 ≤ w.rates
   ended true a b = a
   ended false a b = b
 
-  -- what the source says of at most j turns
+  -- what the source says of at most j iterations
   abbrev says : ℕ → State → Told State
   says zero st = More
   says (suc j) st =
@@ -181,7 +181,7 @@ module _ (w : World) (thousand : w.rates.steps ≡ 1000) (counts : 1 ≤ w.rates
       (λ v. end_is j (holds v) end (λ st. told_turns j st))
       ∙ sym (told_holds (evaluated w.setting.program e2 end) (G end)))
 
-  -- with the entry's test, which is to hold at the first entry and not later
+  -- with the entry's condition, which is to hold at the first entry and not later
   abbrev enters : Bool → ℕ → State → Told State
   enters v j st = told_then (told (tested w.setting e1 st)) (λ c b. looped (xor v b) (says j st))
 
@@ -223,7 +223,7 @@ module _ (w : World) (thousand : w.rates.steps ≡ 1000) (counts : 1 ≤ w.rates
   abbrev Left : ℕ → Told State → Outcome → Type 0
   Left j t o = Meets (Flagged w s u true) w.rates j 0 t o
 
-  -- the rounds behind a turn
+  -- the iterations after an iteration
   onward : {j : ℕ} {t : Told State} {o : Outcome} (c k0 : ℕ) → c ≤ w.rates.counts * k0 → 1 ≤ k0 → k0 ≤ 1000 * c
       → Left j t o → Left (suc j) (plus c t) (after k0 o)
   onward c k0 h one l (fine {c = c'} {k = k} g hc hk) =
@@ -301,7 +301,7 @@ module _ (w : World) (thousand : w.rates.steps ≡ 1000) (counts : 1 ≤ w.rates
           will_more w.im pt d m _ _ (λ o q. tail_by o _ refl q)
           (again_does.does st2 m (record { regs_are = h.regs_are; open_frame = h.open_frame }))
 
-    -- behind the first test, where the flag tells that it is as it is to be
+    -- after the first condition, if the flag says that it is as it must be
     module _ (v : Bool) (st : State) (c1 k1 : ℕ) (e1_is : told (tested w.setting e1 st) ≡ Fine v c1)
         (n1 : c1 ≤ w.rates.counts * k1) (l1 : k1 ≤ 400 * c1 + 50) where
       xor_same : (v : Bool) → xor v v ≡ false

@@ -1,18 +1,19 @@
--- What the code of a conditional and of a loop does, from what its tests and parts do; and what the
--- code that is made from the tests does, in every scope of the names that it was made for.
+-- What the code of a conditional and of a loop does, from what its conditions and blocks do. The
+-- same for the code that is made from the conditions, in every scope of the names that it was made
+-- for.
 use Rattle.std.specs.Prelude.{◌≡◌, ℕ, List}
 use Rattle.rpp_tree.specs.Tree.{Expression, Statements, If, From}
-use Rattle.class_table.specs.declared.kind.Kind.TheVariants as kind
-use Rattle.paired_code.specs.declared.part.Symbol.{Symbol}
-use Rattle.code_scope.specs.Visible.{Known}
+use Rattle.refine_expressions.specs.class_table.declared.kind.Kind.TheVariants as kind
+use Rattle.refine_expressions.specs.paired_code.declared.part.Symbol.{Symbol}
+use Rattle.refine_expressions.specs.code_scope.Visible.{Known}
 use Rattle.refine_form.specs.Form.{Scope, TestLaw, BlockLaw, StmtLaw}
 use Rattle.refine_form.specs.Worlds.{Place, world_of}
 use Rattle.refine_expressions.specs.Typing.{known_of, IsTyped}
 use Rattle.refine_expressions.specs.Laws.{IsLaidOut}
 
--- A conditional, wherever the tests and parts do what theirs are to do. Along, the test after is to
--- agree with the one before, or it stops with fault 1; back it is the inverse statement, where the
--- two tests change places.
+-- A conditional, wherever the conditions and parts do what theirs are to do. Forward, the condition
+-- after is to agree with the one before, or it stops with fault 1; back it is the inverse
+-- statement, where the two conditions change places.
 pub record IfCode (t p q a all : List Symbol) : Type 0 where
   pub law : (place : Place) (s : Scope) (at : ℕ) (test after : Expression)
       (taken other : Statements)
@@ -20,9 +21,9 @@ pub record IfCode (t p q a all : List Symbol) : Type 0 where
       → BlockLaw (world_of place) s taken p → BlockLaw (world_of place) s other q
       → StmtLaw (world_of place) s (If at test taken other after) all
 
--- A loop, wherever the tests and parts do what theirs are to do. Along, the entry is to hold at
--- first and not again, or it stops with fault 2; back it is the inverse statement, where the two
--- tests change places.
+-- A loop, wherever the conditions and parts do what theirs are to do. Forward, the entry is to hold
+-- at first and not again, or it stops with fault 2; back it is the inverse statement, where the two
+-- conditions change places.
 pub record FromCode (e p q x all : List Symbol) : Type 0 where
   pub law : (place : Place) (s : Scope) (at : ℕ) (entry exit : Expression)
       (first again : Statements)

@@ -1,8 +1,8 @@
-// A conditional and a loop, one piece after the other.
+// A conditional and a loop, one fragment after the other.
 ghost use Rattle.std.specs.Prelude.{◌≡◌, ◌+◌, ◌∷◌, ◌++◌, List, [], length, IfOk};
-ghost use Rattle.paired_code.specs.Code.{unmarked};
-ghost use Rattle.paired_code.specs.Layout.{branch_cells, loop_cells};
-ghost use Rattle.paired_code.specs.Rows.{line};
+ghost use Rattle.refine_expressions.specs.paired_code.Code.{unmarked};
+ghost use Rattle.refine_expressions.specs.paired_code.Layout.{branch_cells, loop_cells};
+ghost use Rattle.refine_expressions.specs.paired_code.Rows.{line};
 ghost use Rattle.refine_form.specs.Held.{Holds, HoldsBoth};
 ghost use Rattle.branch_codegen.specs.Branches.{flips, part_code, if_code, check, turn_code, from_code};
 ghost use Rattle.branch_codegen.specs.Laws.{IfCode, FromCode};
@@ -15,8 +15,8 @@ use refine_form::around;
 use rpp_words::NoMemory;
 use std::alloc::Global;
 
-/// The code of `if test then yes else no fi after`, over the pieces of its tests, which have no
-/// marks, and of its blocks.
+/// The code of `if test then yes else no fi after`, over the fragments of its conditions, which
+/// have no marks, and of its blocks.
 #[tactic(auto, using(crate::proofs::Clauses::if_clause, crate::proofs::Clauses::if_length))]
 pub fn conditional(
     alloc: Global,
@@ -35,8 +35,8 @@ pub fn conditional(
     if_piece(alloc, test, yes, no, after)
 }
 
-/// The code of `from entry do first loop again until exit`, over the pieces of its tests, which
-/// have no marks, and of its blocks.
+/// The code of `from entry do first loop again until exit`, over the fragments of its conditions,
+/// which have no marks, and of its blocks.
 #[tactic(auto, using(crate::proofs::Clauses::from_clause, crate::proofs::Clauses::from_length))]
 pub fn repetition(
     alloc: Global,

@@ -1,7 +1,7 @@
-//! The code of conditionals and of loops, over the pieces of their tests and parts, and in a scope
-//! by their expressions. Each is the statement's row of the meaning wherever the inner pieces are
-//! theirs, along and back, with every fault at its test and without an end where the source has
-//! none. The marks of the parts stay on their cells.
+//! The code of conditionals and of loops. It is made over the fragments of their conditions and
+//! blocks, and in a scope from their expressions. Each simulates the rule of its statement in both
+//! directions if the inner fragments simulate theirs. Every fault occurs at its condition, and the
+//! code does not end if the source does not. The marks of the parts stay on their cells.
 #![tactic(auto)]
 
 mod branches;

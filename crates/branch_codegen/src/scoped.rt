@@ -1,9 +1,9 @@
 // Conditionals and loops by their expressions, in a scope.
 ghost use Rattle.std.specs.Prelude.{◌≤◌, ◌+◌, ◌*◌, length, IfOk};
 ghost use Rattle.rpp_tree.specs.Views.{expression_of};
-ghost use Rattle.code_scope.specs.Visible.{known_in};
-ghost use Rattle.register_expressions.specs.Code.{words as words_of};
-ghost use Rattle.register_expressions.specs.Steps.{tokens};
+ghost use Rattle.refine_expressions.specs.code_scope.Visible.{known_in};
+ghost use Rattle.refine_expressions.specs.register_expressions.Code.{words as words_of};
+ghost use Rattle.refine_expressions.specs.register_expressions.Steps.{tokens};
 ghost use Rattle.refine_form.specs.Held.{HoldsBoth};
 ghost use Rattle.branch_codegen.specs.Laws.{IfLaw, FromLaw};
 
@@ -16,9 +16,9 @@ use rpp_tree::tree::Expr;
 use rpp_words::NoMemory;
 use std::alloc::Global;
 
-/// The code of `if test then yes else no fi after`, over the pieces of its blocks. Where the two
-/// tests do not agree, it stops with fault 1. Each test has at most 1,000 elements and operators.
-/// The only error is that memory ran out.
+/// The code of `if test then yes else no fi after`, over the fragments of its blocks. If the two
+/// conditions do not agree, it stops with fault 1. Each condition has at most 1,000 elements and
+/// operators. The only error is that memory ran out.
 pub fn if_code(
     alloc: Global,
     test: &Expr,
@@ -42,9 +42,9 @@ pub fn if_code(
     conditional(alloc, tested, yes, no, ended)
 }
 
-/// The code of `from entry do first loop again until exit`, over the pieces of its blocks. Where
-/// the entry does not hold at first, or holds again, it stops with fault 2. Each test stands in the
-/// code once. The only error is that memory ran out.
+/// The code of `from entry do first loop again until exit`, over the fragments of its blocks. If
+/// the entry does not hold at first, or holds again, it stops with fault 2. Each condition occurs
+/// once in the code. The only error is that memory ran out.
 pub fn from_code(
     alloc: Global,
     entry: &Expr,

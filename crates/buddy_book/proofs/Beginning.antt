@@ -42,16 +42,6 @@ slice_get-last (z ∷ xs) x y (suc i) e = later (slice_get-last xs x y i e)
     later (inl h) = inl h
     later (inr h) = inr (ap suc h.0, h.1)
 
-pub begun-none : (h : ℕ) (lists : List (Vec ℕ Global)) → lists ≡ [] → Begun h 0 lists
-begun-none h lists e = record {
-  free = ap free_of e;
-  each = λ at list g. none at list
-      (ap (λ l. slice_get l at) (sym e) ∙ g);
-}
-  where
-    none : (at : ℕ) (list : Vec ℕ Global) → slice_get [] at ≡ Some list → 2 ^ (h - 1 - at) ≤ vec_capacity list
-    none at list g = cc
-
 pub begun-more : (h count : ℕ) (lists after : List (Vec ℕ Global)) (list : Vec ℕ Global) → Begun h count lists
     → list.items ≡ [] → 2 ^ (h - 1 - count) ≤ vec_capacity list → after ≡ lists ++ list ∷ [] → Begun h (count + 1) after
 begun-more h count lists after list begun empty room e =
@@ -73,16 +63,6 @@ begun-more h count lists after list begun empty room e =
         let there : 2 ^ (h - 1 - at) ≤ vec_capacity list = subst P (sym (s.0 ∙ many)) room in
         let same = ap vec_capacity s.1 in
         omega arith
-
-pub begun-room : (h : ℕ) (lists : List (Vec ℕ Global)) → Begun h h lists → HasRoom lists
-begun-room h lists begun =
-    record {
-      each = λ at list g. (let P : ℕ → Type 0 = λ n. 2 ^ (n - 1 - at) ≤ vec_capacity list in
-          subst P (sym many) (begun.each at list g));
-    }
-  where
-    many : length lists ≡ h
-    many = sym (length-map lists list_of) ∙ ap length begun.free ∙ length-replicate h []
 
 -- the heap is the one block of the highest order
 pub start-set : (h : ℕ) → 1 ≤ h → start h ≡ slice_set (replicate h []) (h - 1) (0 ∷ [])
@@ -116,7 +96,7 @@ zeros-taken : (block n : ℕ) → taken_from block (replicate n 0) ≡ []
 zeros-taken block zero = refl
 zeros-taken block (suc n) = zeros-taken (2 + block) n
 
--- the book of an empty heap keeps what every book does
+-- the allocator state of an empty heap has what every allocator state keeps
 pub start-kept : (h base : ℕ) → 1 ≤ h → h ≤ 20 → base ≤ 2 ^ 21
     → IsKept (record { h = h; base = base; free = start h; taken = [] })
 start-kept zero base from to base_to = absurd (omega arith)

@@ -14,7 +14,7 @@ use Rattle.buddy_book.proofs.Table.{order_in-with}
 use Rattle.buddy_book.proofs.Kept.{none_taken, take_kept, given_back, give_kept}
 use Rattle.buddy_book.proofs.StoredLaws.{two_power}
 
--- a block of an order from 1 on stands at an even distance
+-- a block of an order from 1 on has an even distance
 even : (k block : ℕ) → 1 ≤ k → block % 2 ^ k ≡ 0 → block ≡ 2 * (block / 2)
 even zero block h e = absurd (omega arith)
 even (suc n) block h e =
@@ -37,7 +37,7 @@ pub record TookStored (h base k block : ℕ) (lists later : List (Vec ℕ Global
   pub undone : give (free_of later) k block ≡ free_of lists
   pub with_order : order_in (taken_from 0 (slice_set orders (block / 2) k)) block ≡ Some k
 
--- where a taken block stands
+-- the distance of an allocated block
 pub record TakenAt (base block : ℕ) (orders : List ℕ) : Type 0 where
   pub in_table : block / 2 < length orders
   pub address : base + block < 4294967296

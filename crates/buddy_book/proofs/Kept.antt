@@ -55,7 +55,7 @@ take_kept book k block after kept from e lists =
           let t = kept.balanced f additive in omega arith;
     }
 
--- what is known of a taken block
+-- what holds for an allocated block
 pub record GivenBack (book : Shown) (k block : ℕ) : Type 0 where
   pub order_to : k ≤ book.h
   pub aligned : block % 2 ^ k ≡ 0

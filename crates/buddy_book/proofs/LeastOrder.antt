@@ -1,4 +1,4 @@
--- The order that the book gives a request is the least one with room, and no other is.
+-- The allocator gives a request the least order that has space, and no other order.
 use Rattle.std.proofs.Common.{◌≡◌, ℕ, zero, suc, ◌+◌, ◌^◌, ◌≤◌, ◌<◌, true, false, nat_le, sym, subst, arith}
 use Rattle.std.proofs.Common.{le_antisymm, if◌then◌else◌}
 use Rattle.std.proofs.lemmas.Bool.Decides.{leb_tells}
@@ -39,7 +39,7 @@ order_is (suc tries) k words from room least =
     (λ h. let e : suc tries + k ≡ tries + suc k = omega arith in
     order_is tries (suc k) words (omega arith) (subst (λ i. words ≤ 2 ^ i) e room) (above words k least h))
 
--- what the book's definition gives
+-- what the definition of the allocator gives
 pub order_for-is : (words : ℕ) → words ≤ 2 ^ 32 → IsOrderFor words (order_for words)
 order_for-is words room = order_is 31 1 words (omega arith) room (λ j from h. from)
 

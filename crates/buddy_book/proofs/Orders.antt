@@ -13,7 +13,7 @@ use Rattle.buddy_book.proofs.TakeGive.{doubled, TookBlock, TookPast, take_past_t
 pub inner : {A : Type 0} (x y : A) → Some x ≡ Some y → x ≡ y
 inner x y e = ap (λ o. elim o as (λ _. _) [ Some z ↦ z | None ↦ x ]) e
 
--- where the list of the order has a head
+-- if the list of the order has a head
 pub take_past-head : (lower size block : ℕ) (free : List ℕ) (book : Book) → slice_get book lower ≡ Some (block ∷ free)
     → take_past lower size book ≡ Some (block, slice_set book lower free)
 take_past-head lower size block free [] e = cc
@@ -36,7 +36,7 @@ below_taken-upper : (lower size : ℕ) (x : List ℕ) (taken : Option (ℕ × Bo
 below_taken-upper lower size x None = refl
 below_taken-upper lower size x (Some (low, after)) = refl
 
--- where the list of the order is empty
+-- if the list of the order is empty
 pub take_past-empty : (lower size : ℕ) (book : Book) → slice_get book lower ≡ Some []
     → take_past lower size book ≡ upper_at lower size (take_past (suc lower) (2 * size) book)
 take_past-empty lower size [] e = cc
@@ -55,7 +55,7 @@ take_past-above (suc lower) size [] h = refl
 take_past-above zero size (x ∷ book) h = absurd (omega arith)
 take_past-above (suc lower) size (x ∷ book) h = ap (below_taken x) (take_past-above lower size book (omega arith))
 
--- where the given block merges
+-- if the given block merges
 pub give_past-merge : (lower size block low : ℕ) (free : List ℕ) (book : Book) → slice_get book lower ≡ Some free
     → lower_half size block free ≡ Some low → give_past lower size block book
     ≡ give_past (suc lower) (2 * size) low (slice_set book lower [])
@@ -66,7 +66,7 @@ give_past-merge zero size block low free (x ∷ higher) e h =
 give_past-merge (suc lower) size block low free (x ∷ higher) e h =
     ap (λ b. x ∷ b) (give_past-merge lower size block low free higher e h)
 
--- where the given block becomes the head
+-- if the given block becomes the head
 pub give_past-head : (lower size block : ℕ) (free : List ℕ) (book : Book) → slice_get book lower ≡ Some free
     → lower_half size block free ≡ None → give_past lower size block book ≡ slice_set book lower (block ∷ free)
 give_past-head lower size block free [] e h = cc

@@ -1,5 +1,5 @@
--- What a request leaves: the orders of other blocks and the blocks of other names; and the least
--- order with room.
+-- What a request leaves: the orders of other blocks and the blocks of other object ids. Also the
+-- least order that has space.
 use Rattle.std.proofs.Common.{◌≡◌, ◌≢◌, ◌∙◌, sym, ap, refl, ℕ, zero, suc, ◌+◌, ◌^◌, ◌<◌, ◌≤◌, Bool, true, false, List}
 use Rattle.std.proofs.Common.{[], ◌∷◌, Some, None, arith, ne_eqb}
 use Rattle.std.proofs.lemmas.Bool.{eqb-true, leb-true}
@@ -18,7 +18,7 @@ order_least (suc tries) k words = by (nat_le words (2 ^ k)) (order_least tries (
     by true h = omega arith
     by false h = omega arith
 
--- an order that is no more than 31 has room
+-- an order that is no more than 31 has space
 pub order_room : (tries k words : ℕ) → order_from tries k words < k + tries → words ≤ 2 ^ order_from tries k words
 order_room zero k words h = absurd (omega arith)
 order_room (suc tries) k words h = by (nat_le words (2 ^ k)) refl h (λ q. order_room tries (suc k) words q)

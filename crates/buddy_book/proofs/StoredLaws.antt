@@ -66,15 +66,11 @@ take_past-leaves (suc lower) zero size (free ∷ higher) h = leaves_first free h
 take_past-leaves (suc lower) (suc i) size (free ∷ higher) h =
     leaves_later i free higher (take_past lower size higher) (take_past-leaves lower i size higher (omega arith))
 
--- an empty list, as it is stored
-empty_list : (list : Vec ℕ Global) → vec_len list ≡ 0 → list.items ≡ [] → list_of list ≡ []
-empty_list list h e = ap reverse e
-
 empty_items : (items : List ℕ) → length items ≡ 0 → items ≡ []
 empty_items [] e = refl
 empty_items (x ∷ xs) e = absurd (omega arith)
 
--- a take where the list of the order is empty
+-- a take if the list of the order is empty
 take_below : (book : Book) (k : ℕ) → 1 ≤ k → slice_get book (k - 1) ≡ Some []
     → take book k ≡ upper_at (k - 1) (2 ^ k) (take book (k + 1))
 take_below book zero h e = absurd (omega arith)
@@ -150,7 +146,7 @@ upper-fits lists later k low from to lists_to sound e =
     let number : 2 ^ 20 ≡ 1048576 = refl in
     omega arith
 
--- room stays where a list's capacity does not fall
+-- space remains if a list's capacity does not fall
 slice_get-set : {X : Type 0} (xs : List X) (i j : ℕ) (x y : X) → slice_get (slice_set xs i x) j ≡ Some y
     → (slice_get xs j ≡ Some y) ⊎ ((i ≡ j) × (y ≡ x))
 slice_get-set [] i j x y e = cc
@@ -184,7 +180,7 @@ HasRoom-set lists at list new room e h =
         let new_one : vec_capacity l ≡ vec_capacity new = ap vec_capacity s.1 in
         subst (Enough i l) (sym count) (omega arith)
 
--- an empty list has room
+-- an empty list has space
 pub room-empty : (lists : List (Vec ℕ Global)) (at : ℕ) (list : Vec ℕ Global) → HasRoom lists
     → slice_get lists at ≡ Some list → vec_len list ≡ 0 → vec_len list < vec_capacity list
 room-empty lists at list room e empty =
@@ -192,7 +188,7 @@ room-empty lists at list room e empty =
     let some = pow_pos (length lists - 1 - at) in
     omega arith
 
--- a give where the block merges
+-- a give if the block merges
 give_above : (book : Book) (k block low : ℕ) (free : List ℕ) → 1 ≤ k → slice_get book (k - 1) ≡ Some free
     → lower_half (2 ^ k) block free ≡ Some low → give book k block ≡ give (slice_set book (k - 1) []) (k + 1) low
 give_above book zero block low free h e is = absurd (omega arith)
@@ -254,7 +250,7 @@ order_weight k free new book from e =
     ≡ weight size_of 2 (slice_set book (k - 1) new) + list_weight size_of s free in
     subst P (doubled-order k from) (weight-set size_of (k - 1) 2 free new book e)
 
--- the free words where a block has merged
+-- the free words if a block has merged
 pub merged_words : (lists : List (Vec ℕ Global)) (h k block low : ℕ) (list emptied : Vec ℕ Global) → 1 ≤ k
     → slice_get lists (k - 1) ≡ Some list → lower_half (2 ^ k) block (list_of list) ≡ Some low → emptied.items ≡ []
     → weight size_of 2 (free_of lists) + 2 ^ k ≤ 2 ^ h → weight size_of 2 (free_of (slice_set lists (k - 1) emptied)) +
@@ -275,7 +271,7 @@ words_of_list size (block ∷ free) = ap (λ w. size + w) (words_of_list size fr
     one_more : (a b : ℕ) → a + b * a ≡ suc b * a
     one_more a b = grind arith
 
--- a list has room for a block that was part of the heap
+-- a list has space for a block that was part of the heap
 pub room-given : (lists : List (Vec ℕ Global)) (k : ℕ) (list : Vec ℕ Global) → HasRoom lists → 1 ≤ k → k ≤ length lists
     → slice_get lists (k - 1) ≡ Some list → weight size_of 2 (free_of lists) + 2 ^ k ≤ 2 ^ length lists
     → vec_len list < vec_capacity list

@@ -58,7 +58,7 @@ taken_of_entry start (suc j) order (suc o ∷ orders) e =
     (below_differs start (start + 2 * suc j) (omega arith))
     ∙ subst P (sym (next_block start j)) (taken_of_entry (2 + start) j order orders e)
 
--- where the entry of a taken block stands
+-- the index of an allocated block's entry
 pub record Entry (start block order : ℕ) (orders : List ℕ) : Type 0 where
   pub index : ℕ
   pub at : block ≡ start + 2 * index

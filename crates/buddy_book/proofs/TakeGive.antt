@@ -158,7 +158,7 @@ same_taken : (a b : ℕ) (xs ys : List ℕ) (higher : Book) → a ≡ b → xs �
 same_taken a b xs ys higher e f = ap (λ x. upper_pair x xs higher) e ∙ ap (λ l. upper_pair b l higher) f
 
 module _ (top : ℕ) (has_room : 0 < top) where
-  -- a merge, or a new head, where the next order gives well
+  -- a merge, or a new head, if the next order gives well
   merged_gave : (size block : ℕ) (free : List ℕ) (higher : Book) → is_sound_list top size free ≡ true
       → is_sound top (2 * size) higher ≡ true → block % size ≡ 0 → block + size ≤ top
       → ((low : ℕ) → low % (2 * size) ≡ 0 → low + 2 * size ≤ top

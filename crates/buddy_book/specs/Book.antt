@@ -1,4 +1,4 @@
--- The book of free blocks: for each order from 1 on the list of its free blocks, as distances from
+-- The free lists of a heap: for each order from 1 on the list of its free blocks, as distances from
 -- the heap's base.
 use Rattle.std.specs.Prelude.{ℕ, zero, suc, ◌+◌, ◌-◌, ◌*◌, ◌%◌, ◌^◌, Bool, ◌&&◌, nat_eq, nat_le}
 use Rattle.std.specs.Prelude.{List, [], ◌∷◌, Option, Some, None, if◌then◌else◌}
@@ -13,7 +13,7 @@ start zero = []
 start (suc zero) = (0 ∷ []) ∷ []
 start (suc (suc h)) = [] ∷ start (suc h)
 
--- the least order from k on whose blocks have room for so many words, in at most so many tries
+-- the least order from k on whose blocks can hold so many words, in at most so many tries
 abbrev pub order_from : ℕ → ℕ → ℕ → ℕ
 order_from zero k words = k
 order_from (suc tries) k words = if nat_le words (2 ^ k) then k else order_from tries (suc k) words
@@ -44,7 +44,7 @@ take_past zero size book = take_first size book
 take_past (suc lower) size [] = None
 take_past (suc lower) size (free ∷ higher) = below_taken free (take_past lower size higher)
 
--- takes a block of order k from the book, where there is one
+-- takes a block of order k from the free lists, if there is one
 abbrev pub take : Book → ℕ → Option (ℕ × Book)
 take book k = take_past (k - 1) (2 ^ k) book
 
@@ -75,6 +75,6 @@ give_past zero size block book = give_first size block book
 give_past (suc lower) size block [] = []
 give_past (suc lower) size block (free ∷ higher) = free ∷ give_past lower size block higher
 
--- gives back a block of order k
+-- frees a block of order k
 abbrev pub give : Book → ℕ → ℕ → Book
 give book k block = give_past (k - 1) (2 ^ k) block book

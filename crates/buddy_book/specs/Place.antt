@@ -1,4 +1,4 @@
--- Where the blocks of a run stand: its requests to the heap, folded over the book.
+-- The blocks of a run: its requests to the heap, folded over the free lists.
 use Rattle.std.specs.Prelude.{ℕ, suc, nat_eq, List, [], ◌∷◌, Option, Some, None, if◌then◌else◌}
 use Rattle.buddy_book.specs.Book.{Book, start, take, give}
 
@@ -17,7 +17,7 @@ count_taken [] = 0
 count_taken (Taken name order ∷ older) = suc (count_taken older)
 count_taken (Given name order ∷ older) = count_taken older
 
--- the book, and the block of each live name, the newest first
+-- the free lists, and the block of each live object id, the newest first
 pub record Placing : Type 0 where
   pub book : Book
   pub blocks : List (ℕ × ℕ)
@@ -48,8 +48,7 @@ after_request (Given name order) (Some placing) =
       blocks = without_name placing.blocks name;
     })
 
--- where the blocks stand after these requests on an empty heap of order h; none where one of them
--- found no block
+-- the blocks after these requests on an empty heap of order h; none if one of them found no block
 abbrev pub place : ℕ → Log → Option Placing
 place h [] = Some (record { book = start h; blocks = [] })
 place h (request ∷ older) = after_request request (place h older)

@@ -58,14 +58,14 @@ without_taken block [] = []
 without_taken block ((b, order) ∷ taken) =
     if nat_eq b block then taken else (b, order) ∷ without_taken block taken
 
--- the taken blocks of a table that tells the order of the block which begins at each second word,
--- or 0
+-- the allocated blocks of a table that holds, for each second word, the order of the block that
+-- begins there, or 0
 abbrev pub taken_from : ℕ → List ℕ → TakenBlocks
 taken_from block [] = []
 taken_from block (zero ∷ orders) = taken_from (2 + block) orders
 taken_from block (suc order ∷ orders) = (block, suc order) ∷ taken_from (2 + block) orders
 
--- blocks of this size stand at multiples of it below the top, and none is the upper half over its
+-- blocks of this size are at multiples of it below the top, and none is the upper half over its
 -- lower half as the last two
 abbrev pub is_sound_list : ℕ → ℕ → List ℕ → Bool
 is_sound_list top size [] = true
@@ -73,12 +73,12 @@ is_sound_list top size (block ∷ free) =
     nat_eq (block % size) 0 && (nat_le (block + size) top
     && (is_none (lower_half size block free) && is_sound_list top size free))
 
--- the same of each list, where the blocks of the first have this size
+-- the same of each list, if the blocks of the first have this size
 abbrev pub is_sound : ℕ → ℕ → Book → Bool
 is_sound top size [] = true
 is_sound top size (free ∷ higher) = is_sound_list top size free && is_sound top (2 * size) higher
 
--- each taken block stands at a multiple of its size
+-- each allocated block is at a multiple of its size
 abbrev pub is_aligned : TakenBlocks → Bool
 is_aligned [] = true
 is_aligned ((block, order) ∷ taken) = nat_eq (block % 2 ^ order) 0 && is_aligned taken
@@ -91,7 +91,7 @@ abbrev pub list_weight : (ℕ → ℕ → ℕ) → ℕ → List ℕ → ℕ
 list_weight f size [] = 0
 list_weight f size (block ∷ free) = f block size + list_weight f size free
 
--- what the free blocks weigh together, where those of the first list have this size
+-- what the free blocks weigh together, if those of the first list have this size
 abbrev pub weight : (ℕ → ℕ → ℕ) → ℕ → Book → ℕ
 weight f size [] = 0
 weight f size (free ∷ higher) = list_weight f size free + weight f (2 * size) higher
@@ -100,7 +100,7 @@ weight f size (free ∷ higher) = list_weight f size free + weight f (2 * size) 
 abbrev pub size_of : ℕ → ℕ → ℕ
 size_of block size = size
 
--- 1 where a block of this size covers a word of the heap, else 0
+-- 1 if a block of this size covers a word of the heap, else 0
 abbrev pub cover : ℕ → ℕ → ℕ → ℕ
 cover x block size = min 1 (suc x - block) - min 1 (suc x - (block + size))
 

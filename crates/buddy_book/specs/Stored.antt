@@ -14,7 +14,7 @@ list_of list = reverse list.items
 abbrev pub free_of : List (Vec ℕ Global) → Book
 free_of lists = map list_of lists
 
--- each list has room for every block of its order
+-- each list has space for every block of its order
 pub record HasRoom (lists : List (Vec ℕ Global)) : Type 0 where
   pub each : (at : ℕ) (list : Vec ℕ Global) → slice_get lists at ≡ Some list
       → 2 ^ (length lists - 1 - at) ≤ vec_capacity list

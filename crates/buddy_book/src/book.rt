@@ -1,4 +1,4 @@
-// The book, with its taken blocks.
+// The free lists, with the allocated blocks.
 ghost use Rattle.std.specs.Prelude.{◌≡◌, ◌+◌, ◌-◌, ◌*◌, ◌^◌, ◌%◌, ◌≤◌, [], Some, None, IfOk, IfSome, IfNone};
 ghost use Rattle.buddy_book.specs.Book.{start, take, give};
 ghost use Rattle.buddy_book.specs.Shown.{IsTaken, with_taken, without_taken, head_address};
@@ -8,7 +8,7 @@ use rpp_words::{FIXED_CELLS, NoMemory};
 use std::alloc::Global;
 use std::marker::Model;
 
-/// The free lists of a heap, and its taken blocks with their orders.
+/// The free lists of a heap, and its allocated blocks with their orders.
 #[derive(Drop)]
 pub struct Book {
     /// The order of the heap.
@@ -17,7 +17,7 @@ pub struct Book {
     base: u32,
     /// For each order from 1 on the distances of its free blocks from the base, the head last.
     lists: Vec<Vec<u32>>,
-    /// For each second word of the heap the order of the taken block that begins there, or 0.
+    /// For each second word of the heap the order of the allocated block that begins there, or 0.
     orders: Vec<u32>,
 }
 
@@ -33,7 +33,7 @@ impl Model for Book {
 }
 
 impl Book {
-    /// The book of an empty heap, with room for every block.
+    /// The free lists of an empty heap, with space for every block.
     pub fn new(alloc: Global, h: u32, base: u32) -> Result<Book, NoMemory>
         requires from { 1 ≤ h }
         requires to { h ≤ 20 }
@@ -52,7 +52,7 @@ impl Book {
         })
     }
 
-    /// Takes a block of order `k`, where there is one, and answers its address.
+    /// Takes a block of order `k`, if there is one, and returns its address.
     pub fn take(&mut self, k: u32) -> Option<u32>
         requires { 1 ≤ k }
         ensures none { IfNone result (take self.old.free k ≡ None) }
@@ -75,7 +75,7 @@ impl Book {
         }
     }
 
-    /// Gives back a taken block.
+    /// Frees an allocated block.
     pub fn give(&mut self, k: u32, block: u32)
         requires { IsTaken self.old block k }
         ensures gives { self.new.free ≡ give self.old.free k (block - self.old.base) }
@@ -130,7 +130,7 @@ mod tests {
         Ok(())
     }
 
-    /// The order of the taken block at an address, if there is one.
+    /// The order of the allocated block at an address, if there is one.
     fn order_at(book: &Book, at: u32) -> Option<u32>
         ensures { IfSome result (λ k. IsTaken book.now at k) }
     {
@@ -145,7 +145,7 @@ mod tests {
         if order == 0 { None } else { Some(order) }
     }
 
-    /// Gives the taken block at an address back, where there is one.
+    /// Frees the allocated block at an address, if there is one.
     fn give_at(book: &mut Book, at: u32)
         ensures { book.new.h ≡ book.old.h }
     {
@@ -155,8 +155,8 @@ mod tests {
         }
     }
 
-    /// An upper half that comes back behind its lower half merges with it; a lower half that comes back
-    /// behind its upper half does not.
+    /// If an upper half is freed after its lower half, the two merge; if a lower half is freed
+    /// after its upper half, they do not.
     #[test]
     fn either_half_comes_back_first(rt: HostRuntime) -> Result<(), Fail> {
         let mut book = Book::new(rt.alloc(), 2, 40)?;

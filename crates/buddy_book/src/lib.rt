@@ -1,6 +1,7 @@
-//! The book of free blocks of a heap, by orders: blocks are halved when they are taken and merged
-//! with their buddies when they are given back. A give undoes a take and a take undoes a give; the
-//! layer above may use `Book`, and the definitions of `specs/Book.antt` and `specs/Place.antt`.
+//! The buddy allocator's free lists of a heap, by orders. Blocks are halved when they are
+//! allocated, and merged with their buddies when they are freed. A give undoes a take and a take
+//! undoes a give; the layer above may use `Book`, and the definitions of `specs/Book.antt` and
+//! `specs/Place.antt`.
 #![tactic(auto)]
 
 mod book;

@@ -7,7 +7,7 @@ ghost use Rattle.buddy_book.specs.Stored.{list_of, free_of, HasRoom};
 use rpp_words::NoMemory;
 use std::alloc::Global;
 
-/// Puts a block at the head of a list that has room.
+/// Puts a block at the head of a list that has space.
 fn put(list: &mut Vec<u32>, block: u32)
     requires { vec_len list.old < vec_capacity list.old }
     ensures items { list.new.items ≡ list.old.items ++ block ∷ [] }
@@ -41,7 +41,7 @@ fn buddy_below(list: &[u32], size: u32, block: u32) -> Option<u32>
     }
 }
 
-/// Takes a block of order `k`, where there is one.
+/// Takes a block of order `k`, if there is one.
 pub(crate) fn take_block(lists: &mut Vec<Vec<u32>>, k: u32) -> Option<u32>
     requires from_one { 1 ≤ k }
     requires in_limit { length lists.old.items ≤ 20 }
@@ -70,7 +70,7 @@ pub(crate) fn take_block(lists: &mut Vec<Vec<u32>>, k: u32) -> Option<u32>
     }
 }
 
-/// Gives back a block of order `k`.
+/// Frees a block of order `k`.
 pub(crate) fn give_block(lists: &mut Vec<Vec<u32>>, k: u32, block: u32)
     requires from_one { 1 ≤ k }
     requires to_highest { k ≤ length lists.old.items }
@@ -112,7 +112,7 @@ pub(crate) fn zeros(alloc: Global, h: u32) -> Result<Vec<u32>, NoMemory>
     Ok(vec![in alloc; 0; block_size(h - 1) as usize]?)
 }
 
-/// Empty lists for a heap of order `h`, each with room for every block of its order.
+/// Empty lists for a heap of order `h`, each with space for every block of its order.
 fn lists_with_room(alloc: Global, h: u32) -> Result<Vec<Vec<u32>>, NoMemory>
     requires from { 1 ≤ h }
     requires to { h ≤ 20 }

@@ -1,10 +1,10 @@
--- The calls of pieces that make the routine.
+-- The calls of fragments that make the routine.
 use Rattle.std.proofs.Common.{List, [], ◌∷◌, refl}
-use Rattle.pisa_isa.specs.declared.cell.Cell.{Cell}
+use Rattle.paired_code.specs.pisa_isa.declared.cell.Cell.{Cell}
 use Rattle.paired_code.specs.Layout.{Equal}
 use Rattle.paired_code.specs.Closed.{Shape, Nothing, One, Then, Turned, Loop, Try, IsMade, HasShape}
 use Rattle.paired_code.proofs.Undone.{AllPlain}
-use Rattle.code_conventions.specs.declared.faults.TheConstants.{HEAP_FULL}
+use Rattle.paired_code.specs.code_conventions.declared.faults.TheConstants.{HEAP_FULL}
 use Rattle.buddy_pisa.specs.declared.rows.TheConstants.{FLAG, EITHER, ZERO}
 use Rattle.buddy_pisa.specs.Rows.{limits_row, over_row, order_row, bottom_row, first_row, some_row, up_row, above_row}
 use Rattle.buddy_pisa.specs.Rows.{take_row, merge_row, apart_row, half_row, allocator_cells}

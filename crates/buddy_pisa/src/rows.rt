@@ -3,52 +3,52 @@
 use code_conventions::registers;
 use pisa_isa::{HEAP_CELL, LIST_HEADS, ORDER_CELL, Op};
 
-// An instruction: its row of the machine's table, its registers a, b and c, and its word.
+/// An instruction: its operation, its registers a, b and c, and its immediate word.
 pub type Instruction = (Op, u8, u8, u8, u32);
 
 /// The register of the order that is asked for: 1 or more.
 pub const ORDER: u8 = registers::VALUE;
 
-/// The register of the block's address, 0 where none is taken.
+/// The register of the block's address, 0 if none is taken.
 pub const BLOCK: u8 = registers::BLOCK;
 
-// The flag of both loops: 1 before and after each.
+/// The register of the flag of both loops: 1 before and after each.
 pub const FLAG: u8 = 16;
 
-// How many orders above the one that is asked for.
+/// The register that counts the orders above the one that is asked for.
 pub const LEVEL: u8 = 17;
 
-// The cell of the head of the order's list.
+/// The register of the cell that holds the head of the order's free list.
 pub const HEAD: u8 = 18;
 
-// The size of the order's blocks.
+/// The register of the size of the order's blocks, in words.
 pub const SIZE: u8 = 19;
 
-// The first block of the list.
+/// The register of the address of the first block of the list, 0 if there is none.
 pub const FIRST: u8 = 20;
 
-// The first block's link.
+/// The register of the first block's link: the address of the next block, 0 if there is none.
 pub const LINK: u8 = 21;
 
-// Not 0 where the block is no upper half.
+/// The register that is not 0 if the block is no upper half.
 pub const UPPER: u8 = 22;
 
-// Not 0 where the list is not the block's lower half alone.
+/// The register that is not 0 if the list is not exactly the block's lower half.
 pub const EITHER: u8 = 23;
 
-// Any of these.
+/// The register that is not 0 if UPPER or EITHER is not 0. LIMITS_ROW holds the address of a fixed cell in it.
 pub const ANY: u8 = 24;
 
-// 0 but in a check.
+/// The register that is 0, except in a check.
 pub const ZERO: u8 = 25;
 
-// The highest order, and then the cell of its list's head.
+/// The register of the highest order, and then of the cell of its list's head.
 pub const TOP: u8 = 26;
 
-// The heap's base.
+/// The register of the address where the heap begins.
 pub const BASE: u8 = 27;
 
-// TOP becomes the heap's order, and BASE its address, as the machine's own cells tell them.
+/// Reads TOP, the heap's order, and BASE, its address, from the fixed cells of the memory.
 pub const LIMITS_ROW: [Instruction; 9] = [
     (Op::Addi, ANY, 0, 0, ORDER_CELL),
     (Op::Exch, FIRST, ANY, 0, 0),
@@ -61,15 +61,15 @@ pub const LIMITS_ROW: [Instruction; 9] = [
     (Op::Addi, ANY, 0, 0, u32::MAX - HEAP_CELL + 1),
 ];
 
-// ZERO becomes 1 where the order is above the highest one, or negative as a signed word. EITHER is 0
-// there.
+/// ZERO becomes 1 if the order is above the highest one, or negative as a signed word. EITHER is 0
+/// there.
 pub const OVER_ROW: [Instruction; 2] = [
     (Op::Sltx, ZERO, TOP, ORDER, 0),
     (Op::Sltx, ZERO, ORDER, EITHER, 0),
 ];
 
-// From the order: HEAD is the cell of its list's head, SIZE the size of its blocks, and TOP the
-// cell of the last list's head.
+/// From the order: HEAD is the cell of its list's head, SIZE the size of its blocks, and TOP the
+/// cell of the last list's head.
 pub const ORDER_ROW: [Instruction; 5] = [
     (Op::Xori, FLAG, 0, 0, 1),
     (Op::Sllvx, SIZE, FLAG, ORDER, 0),
@@ -78,38 +78,38 @@ pub const ORDER_ROW: [Instruction; 5] = [
     (Op::Addi, HEAD, 0, 0, LIST_HEADS),
 ];
 
-// FLAG turns where LEVEL is 0.
+/// Flips FLAG if LEVEL is 0.
 pub const BOTTOM_ROW: [Instruction; 2] = [
     (Op::Sltx, FLAG, ZERO, LEVEL, 0),
     (Op::Xori, FLAG, 0, 0, 1),
 ];
 
-// FIRST becomes the first block of the list.
+/// Exchanges FIRST with the head of the list: FIRST becomes the first block.
 pub const FIRST_ROW: [Instruction; 1] = [(Op::Exch, FIRST, HEAD, 0, 0)];
 
-// FLAG turns where there is a first block.
+/// Flips FLAG if the list has a first block.
 pub const SOME_ROW: [Instruction; 1] = [(Op::Sltx, FLAG, ZERO, FIRST, 0)];
 
-// To the next order.
+/// Goes to the next order: LEVEL and HEAD go up by 1, and SIZE doubles.
 pub const UP_ROW: [Instruction; 3] = [
     (Op::Addi, LEVEL, 0, 0, 1),
     (Op::Addi, HEAD, 0, 0, 1),
     (Op::Rl, SIZE, 0, 0, 1),
 ];
 
-// ZERO becomes 1 where there is no such order.
+/// Sets ZERO to 1 if there is no such order.
 pub const ABOVE_ROW: [Instruction; 1] = [(Op::Sltx, ZERO, TOP, HEAD, 0)];
 
-// The first block of the list is taken: its link becomes the head, and its first word 0.
+/// Takes the first block of the list: its link becomes the head, and its first word 0.
 pub const TAKE_ROW: [Instruction; 3] = [
     (Op::Exch, BLOCK, HEAD, 0, 0),
     (Op::Exch, FIRST, BLOCK, 0, 0),
     (Op::Exch, FIRST, HEAD, 0, 0),
 ];
 
-// ANY becomes 0 where the block is the upper half of the only block of the list: that block and
-// the size are the block, it has no link, and the block's distance from the base has the bit of
-// the size. The base is taken away since it may have that bit itself.
+/// ANY becomes 0 if the block is the upper half of the only block of the list. Then that block and
+/// the size are the block, it has no link, and the block's distance from the base has the bit of
+/// the size. The base is taken away since it may have that bit itself.
 pub const MERGE_ROW: [Instruction; 10] = [
     (Op::Exch, FIRST, HEAD, 0, 0),
     (Op::Exch, LINK, FIRST, 0, 0),
@@ -123,10 +123,10 @@ pub const MERGE_ROW: [Instruction; 10] = [
     (Op::Orx, ANY, EITHER, UPPER, 0),
 ];
 
-// FLAG turns where ANY is not 0.
+/// Flips FLAG if ANY is not 0.
 pub const APART_ROW: [Instruction; 1] = [(Op::Sltx, FLAG, ZERO, ANY, 0)];
 
-// The block becomes the only one of the list, and its upper half the block.
+/// The block becomes the only one of the list, and its upper half the block.
 pub const HALF_ROW: [Instruction; 3] = [
     (Op::Xor, FIRST, BLOCK, 0, 0),
     (Op::Exch, FIRST, HEAD, 0, 0),

@@ -126,7 +126,7 @@ none_twice : IsDistinct eqb []
 unfolding IsDistinct
 none_twice = tt
 
--- no class stands twice on a line
+-- no class occurs twice on a line
 distinct : (steps : ℕ) (ps : List (Option ℕ)) (class : Option ℕ) (line : List ℕ) → chain steps ps class ≡ Some line
     → IsDistinct eqb line
 distinct zero ps (Some class) line h = absurd (cc)

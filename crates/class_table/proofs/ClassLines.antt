@@ -1,4 +1,4 @@
--- Lines of parents in an accepted program: what stands above a class, and its fields.
+-- Lines of parents in an accepted program: what is above a class, and its fields.
 use Rattle.std.proofs.Common.{◌≡◌, ◌≢◌, ◌∙◌, sym, ap, subst, refl, ℕ, zero, suc, ◌+◌, ◌-◌, ◌<◌, ◌≤◌, Bool, true, false}
 use Rattle.std.proofs.Common.{List, [], ◌∷◌, ◌++◌, map, length, take, Option, Some, None, arith, append-nil}
 use Rattle.std.proofs.Common.{append_assoc, length-append}
@@ -17,7 +17,7 @@ use Rattle.class_table.proofs.ChainEnds.{parent, IsPushed, pushed_from, nothing_
 use Rattle.class_table.specs.Inheritance.{is_or_inherits}
 use Rattle.class_table.specs.Inheritance.{HasFront}
 
--- whether a class stands on a line
+-- whether a class is on a line
 abbrev pub on : ℕ → List ℕ → Bool
 on q line = list_any (λ above. nat_eq above q) line
 
@@ -36,15 +36,7 @@ last_on q class shorter h none = eqb-true class q (alone (nat_eq class q)
 on_left : (q : ℕ) (xs ys : List ℕ) → on q xs ≡ true → on q (xs ++ ys) ≡ true
 on_left q xs ys h = list_any-append (λ above. nat_eq above q) xs ys ∙ ap (λ b. b || on q ys) h
 
-pub on_last : (q : ℕ) (xs : List ℕ) → on q (xs ++ q ∷ []) ≡ true
-on_last q xs = list_any-append (λ above. nat_eq above q) xs (q ∷ [])
-    ∙ ap (λ b. on q xs || (b || false)) (Rattle.std.proofs.Common.eq-eqb q q refl) ∙ either (on q xs)
-  where
-    either : (b : Bool) → (b || true) ≡ true
-    either true = refl
-    either false = refl
-
--- the line of a class that stands on a line is the first part of it
+-- the line of a class that is on a line is the first part of it
 pub record Above (ps : List (Option ℕ)) (q : ℕ) (line : List ℕ) : Type 0 where
   pub steps : ℕ
   pub own : List ℕ
@@ -126,7 +118,7 @@ front_of class shorter = let e : length (shorter ++ class ∷ []) - 1 ≡ length
     omega (arith, length-append shorter (class ∷ [])) in ap (λ n. take n (shorter ++ class ∷ [])) e
     ∙ take_at shorter (class ∷ []) (length shorter) refl
 
--- a class that inherits from another: its line, and where the other stands
+-- a class that inherits from another: its line, and the position of the other on it
 pub record Inherits (program : Source) (own class : ℕ) : Type 0 where
   pub line : List ℕ
   pub chain_is : chain_of program own ≡ Some line

@@ -12,7 +12,7 @@ use Rattle.rpp_tree.specs.Tree.{Source}
 use Rattle.class_table.specs.Names.{has_name, with_name, with_names}
 use Rattle.class_table.specs.Members.{class_at, field_name, taken_field, fields_along, names_along}
 
--- the same names stand in both lists
+-- the same names are in both lists
 pub record SameNames (xs ys : List (List ℕ)) : Type 0 where
   pub same : (name : List ℕ) → has_name xs name ≡ has_name ys name
 

@@ -91,7 +91,7 @@ slot_inside program class slot name h = by (nat_lt class (length program.classes
         ap (λ (s : Slots). position (bytes_eq name) (map slot_name s)) none in
         absurd (cc)
 
--- the line of a class of the program, where it has one
+-- the line of a class of the program, if it has one
 pub record HasLine (program : Source) (own : ℕ) : Type 0 where
   pub shorter : List ℕ
   pub is : line_of program own ≡ shorter ++ own ∷ []
@@ -115,7 +115,7 @@ own_inside : (program : Source) (own : ℕ) → own < length program.classes →
     → number < length program.classes
 own_inside program own h number e = let s : own ≡ number = cc in subst (λ n. n < length program.classes) s h
 
--- what a call finds, and where it stands in the text
+-- what a call finds, and its offset in the source
 pub record Dispatched (program : Source) (own class slot : ℕ) (name : List ℕ) : Type 0 where
   pub id : MethodId
   pub there : slice_get (class_at program id.class).methods id.method ≡ Some (method_named program own name)

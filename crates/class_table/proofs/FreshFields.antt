@@ -1,4 +1,4 @@
--- Where no class repeats a field, all the fields of a class have names of their own.
+-- If no class repeats a field, all the fields of a class have names of their own.
 use Rattle.std.proofs.Common.{◌≡◌, ◌∙◌, sym, ap, subst, ℕ, zero, suc, ◌+◌, ◌-◌, ◌<◌, List, [], ◌∷◌, ◌++◌, length, map}
 use Rattle.std.proofs.Common.{take, Option, Some, None, refl, slice_get, add-zero, zero-add, arith, append_assoc}
 use Rattle.std.proofs.lemmas.List.{append-nil, length-map}

@@ -72,7 +72,7 @@ overrides_fit program has =
 abbrev pub slot_name : List ℕ × MethodId → List ℕ
 slot_name slot = slot.0
 
--- what stands at a place after an insertion
+-- what is at an index after an insertion
 data AtPlace (slots : Slots) (name : List ℕ) (id : MethodId) (p : ℕ) (x : List ℕ × MethodId) : Type 0 where
   old : slice_get slots p ≡ Some x → AtPlace slots name id p x
   new : x ≡ (name, id) → (p < length slots → position (bytes_eq name) (map slot_name slots) ≡ Some p)

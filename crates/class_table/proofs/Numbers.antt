@@ -1,4 +1,4 @@
--- Lists of what a function answers at each number.
+-- Lists of what a function returns at each number.
 use Rattle.std.proofs.Common.{◌≡◌, ◌∙◌, ℕ, zero, suc, ◌+◌, ◌<◌, List, [], ◌∷◌, ◌++◌, length, get_or, map, refl}
 use Rattle.std.proofs.Common.{slice_get, drop, add-one, Option, None, arith, length-append}
 use Rattle.std.proofs.lemmas.List.{length-map}

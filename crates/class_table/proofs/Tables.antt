@@ -1,4 +1,4 @@
--- What the readers of a program's table answer, on the list of its classes alone.
+-- What the functions on a program's table return, from the list of its classes only.
 use Rattle.std.proofs.Common.{◌-◌, ◌<◌, ap, ℕ, [], length, take}
 use Rattle.std.specs.Prelude.{nat_eq}
 use Rattle.std.specs.List.{list_any}

@@ -1,4 +1,4 @@
--- Classes, their fields, method slots, dispatch and inheritance, on the list of classes alone.
+-- Classes, their fields, method slots, dispatch and inheritance, from the list of classes only.
 use Rattle.std.specs.Prelude.{ℕ, ◌-◌, Bool, List, map, length, take, Option, slice_get, position}
 use Rattle.std.specs.Prelude.{nat_eq}
 use Rattle.std.specs.List.{list_any}

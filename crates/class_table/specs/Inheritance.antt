@@ -37,8 +37,8 @@ InheritanceGoesThrough =
     → is_or_inherits program middle high ≡ true
     → is_or_inherits program low high ≡ true
 
--- the method that a call finds for an object of a class: it is checked in a class that this one is
--- or inherits from, and its parameters have the types of those that the call was checked with
+-- the method that a call finds for an object of a class: Its class is this one or one that this one
+-- inherits from. Its parameters have the types that the call was checked with.
 pub record IsDispatched (program : Source) (own : ℕ) (method : Procedure)
     (params : List Var) : Type 0 where
   pub class : ℕ

@@ -27,7 +27,7 @@ ChainEndsWithin = (program : Source) (class steps : ℕ) (line : List ℕ)
     → class < length program.classes → chain steps (parents program) (Some class) ≡ Some line
     → chain_of program class ≡ Some line
 
--- the table's readers answer what the list of classes alone says
+-- the table's functions return only what the list of classes says
 pub record ReadsClasses (program : Source) (class : ℕ) : Type 0 where
   pub fields : fields_in (table_of program) class ≡ class_fields program class
   pub slots : slots_in (table_of program) class ≡ class_slots program class

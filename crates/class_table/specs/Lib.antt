@@ -1,3 +1,4 @@
+pub use Rattle.rpp_tree.specs as rpp_tree
 pub mod First
 pub mod Names
 pub mod Rules

@@ -51,7 +51,7 @@ field_of vars name = position (bytes_eq name) (map field_name vars)
 abbrev pub has_field : List Var → List ℕ → Bool
 has_field vars name = has_name (map field_name vars) name
 
--- the names of the fields of these classes, each once, after those that stand already
+-- the names of the fields of these classes, each once, after those that are already listed
 abbrev pub names_along : Source → List (List ℕ) → List ℕ → List (List ℕ)
 names_along program names [] = names
 names_along program names (class ∷ below) =

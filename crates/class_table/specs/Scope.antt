@@ -10,7 +10,7 @@ use Rattle.class_table.specs.Table.{Table, class_of, fields_in, field_in}
 use Rattle.class_table.specs.declared.kind.Kind.{Kind}
 use Rattle.class_table.specs.declared.kind.Kind.TheVariants as kind
 
--- the program and its table, and the class of the method in which a statement stands
+-- the program and its table, and the class of the method that has the statement
 pub record Typing : Type 0 where
   pub program : Source
   pub table : Table

@@ -30,11 +30,11 @@ Verdict = Result (Unit {0}) Refusal
 abbrev pub passed : Verdict
 passed = Ok tt
 
--- refused where the condition does not hold
+-- refused if the condition does not hold
 abbrev pub required : Bool → Refusal → Verdict
 required holds error = if holds then passed else Err error
 
--- the second rule's answer where the first refuses nothing
+-- the second rule's answer if the first refuses nothing
 abbrev pub in_turn : Verdict → Verdict → Verdict
 in_turn (Ok value) next = next
 in_turn (Err error) next = Err error
@@ -43,7 +43,7 @@ abbrev pub each_passes : {A : Type 0} → (A → Verdict) → List A → Verdict
 each_passes rule [] = passed
 each_passes rule (x ∷ xs) = in_turn (rule x) (each_passes rule xs)
 
--- the same, where the rule sees the elements before each
+-- the same, if the rule sees the elements before each
 abbrev pub each_passes_after : {A : Type 0} → (List A → A → Verdict) → List A → List A → Verdict
 each_passes_after rule before [] = passed
 each_passes_after rule before (x ∷ xs) =
@@ -76,7 +76,7 @@ same_kind (kind.ClassArray class) other = is_class_array class other
 abbrev pub occurs_in_own_index : Lvalue → Bool
 occurs_in_own_index place = occurs_in_index (place_name place).text place
 
--- update: the parts; both int; the variable stands nowhere else
+-- update: the parts; both int; the variable occurs nowhere else
 abbrev pub update_rules : Typing → Locals → ℕ → Lvalue → Expression → Verdict
 update_rules setting locals at place value =
     and_then (place_type setting locals place) (λ p. and_then (type_of setting locals value) (λ v.
@@ -247,7 +247,7 @@ receiver_kind at (kind.ClassArray class) = Err (not_class_type at)
 abbrev pub place_class : ℕ → Lvalue → ℕ → Result ℕ Refusal
 place_class at place class = if occurs_in_own_index place then Err (self_update at) else Ok class
 
--- the class of a receiver, or of the present object
+-- the class of a receiver, or of the current object
 abbrev pub receiver_class : Typing → Locals → Option Lvalue → Result ℕ Refusal
 receiver_class setting locals None = Ok setting.class
 receiver_class setting locals (Some place) =

@@ -63,7 +63,7 @@ fn parent_of(parents: &[Option<u32>], class: u32) -> Option<u32>
     }
 }
 
-/// The ancestors of a class and the class last, where the chain ends within so many steps.
+/// The ancestors of a class and the class last, if the chain ends within so many steps.
 fn chain(
     alloc: Global,
     parents: &[Option<u32>],

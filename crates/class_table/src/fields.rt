@@ -180,7 +180,7 @@ fn names_of(alloc: Global, vars: &[Var]) -> Result<IndexSet<Text>, ClassError>
     Ok(names)
 }
 
-/// The fields of a class, where they are not too many.
+/// The fields of a class, if they are not too many.
 #[tactic(auto, using(crate::proofs::Numbers::by_number))]
 fn class_fields(
     alloc: Global,
@@ -207,7 +207,7 @@ fn class_fields(
     Ok(ClassFields { vars, names })
 }
 
-/// The fields of each class, where they are not too many.
+/// The fields of each class, if they are not too many.
 #[tactic(auto, using(crate::proofs::FreshFields::fresh))]
 pub fn fields(
     alloc: Global,

@@ -12,7 +12,7 @@ pub fn chain_ends_within()
     ensures { ChainEndsWithin }
 {}
 
-/// The readers of a program's table answer what the list of its classes alone says.
+/// The functions on a program's table return only what the list of its classes says.
 pub fn table_reads_classes()
     ensures { TableReadsClasses }
 {}

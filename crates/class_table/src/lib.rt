@@ -1,8 +1,7 @@
-//! The class table of a program: the numbers of its classes, their fields, method slots, dispatch
-//! and inheritance.
-//! `ClassTable::build` refuses a program that has none, at the first rule that refuses it.
-//! A `Checked` holds a program that every rule accepts, together with its table; the rules of types
-//! stand in specs/.
+//! The class table of a program: numbers of classes, fields, method slots, dispatch and
+//! inheritance. `ClassTable::build` refuses a program that has none, at the first rule that refuses
+//! it. A `Checked` holds a program that every rule accepts, together with its table; the rules of
+//! types are in specs/.
 #![tactic(auto)]
 
 mod chains;

@@ -94,7 +94,7 @@ fn know_class(names: &IndexSet<Text>, class: &Class) -> Option<ClassError>
     know_methods(names, &class.methods)
 }
 
-/// The first name that stands for a class and is none.
+/// The first name that is used as a class and is none.
 pub fn know_classes(names: &IndexSet<Text>, program: &Program) -> Option<ClassError>
     requires { names.now.keys ≡ class_names (source_of program.now) }
     ensures { result ≡ unknown_class (source_of program.now) }

@@ -135,7 +135,7 @@ pub fn slots_along(
     Ok(slots)
 }
 
-/// The slots of a class, where they are not too many.
+/// The slots of a class, if they are not too many.
 #[tactic(auto, using(crate::proofs::Numbers::by_number))]
 fn class_slots(
     alloc: Global,
@@ -160,7 +160,7 @@ fn class_slots(
     Ok(MethodSlots { map })
 }
 
-/// The slots of each class, where they are not too many.
+/// The slots of each class, if they are not too many.
 pub fn slots(
     alloc: Global,
     program: &Program,

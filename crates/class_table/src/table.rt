@@ -20,11 +20,9 @@ use std::alloc::Global;
 use std::marker::Model;
 
 /// The class table of a program, as in Cservenka's thesis on ROOPL++: a class has the fields and
-/// method slots of its parent first.
-/// Classes, the fields of a class, its slots and the methods that it declares are numbered from 0
-/// in their order.
-/// Readers find names by maps. Where a number is that of no class or slot, they answer that there
-/// is nothing.
+/// method slots of its parent first. Classes, the fields of a class, its slots and the methods that
+/// it declares are numbered from 0 in their order. Readers find names by maps. If a number is that
+/// of no class or slot, they return that there is nothing.
 #[derive(Drop)]
 pub struct ClassTable {
     names: IndexSet<Text>,

@@ -2,9 +2,9 @@
 use Rattle.std.proofs.Common.{ℕ, List, [], ◌∷◌, None, Ok, Err, inl, refl, length}
 use Rattle.std.specs.Prelude.{Result}
 use Rattle.std.specs.declared.option.Option.{Option}
-use Rattle.rpp_ports.specs.Ports.{Texts}
-use Rattle.pisa_isa.specs.Image.{Segments}
-use Rattle.pisa_image.specs.declared.error.ImageError.{ImageError}
+use Rattle.command_plan.specs.rpp_ports.Ports.{Texts}
+use Rattle.pisa_cluster.specs.pisa_isa.Image.{Segments}
+use Rattle.command_plan.specs.pisa_image.declared.error.ImageError.{ImageError}
 use Rattle.command_plan.specs.Plans.{Planned, WritesOnly}
 use Rattle.command_plan.proofs.Writes.{along}
 use Rattle.cluster_commands.specs.declared.script.Event.{Event}

@@ -1,4 +1,4 @@
--- What a loop has in front of it, one item after the other.
+-- What a loop has before it, one item after the other.
 use Rattle.std.proofs.Common.{◌≡◌, refl, ℕ, ◌+◌, ◌<◌, List, ◌∷◌, length, map, drop, get_or, add-one, drop-cons}
 
 pub front_line : {A : Type 0} (f : A → List ℕ) (items : List A) (i : ℕ) (d : A) → i < length items

@@ -2,7 +2,7 @@
 use Rattle.std.proofs.Common.{◌≡◌, ◌∙◌, sym, ap, ℕ, zero, suc, List, [], ◌∷◌, ◌++◌, drop, slice_get, option_map, Some}
 use Rattle.std.proofs.Common.{append_assoc}
 use Rattle.std.proofs.lemmas.Option.{same_Some}
-use Rattle.pisa_isa.specs.declared.machine.Core.{Core}
+use Rattle.pisa_cluster.specs.pisa_isa.declared.machine.Core.{Core}
 use Rattle.pisa_cluster.specs.declared.processor.Processor.{Processor}
 use Rattle.cluster_commands.specs.ClusterShown.{processor_line, processor_lines, filled_line, filled_lines}
 
@@ -20,7 +20,7 @@ front_cell k n [] word h = absurd (cc)
 front_cell k zero (x ∷ words) word h = ap (λ y. filled_line k y ++ filled_lines (suc k) words) (same_Some x word h)
 front_cell k (suc n) (x ∷ words) word h = front_cell k n words word h
 
--- a line behind what is there, in front of the rest
+-- a line after what is there, before the rest
 pub line_on : (text new line rest all whole : List ℕ) → new ≡ text ++ line → all ≡ line ++ rest → text ++ all ≡ whole
     → new ++ rest ≡ whole
 line_on text new line rest all whole new_is all_is so_far = ap (λ t. t ++ rest) new_is ∙ append_assoc text line rest

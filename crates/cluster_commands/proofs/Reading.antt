@@ -9,7 +9,7 @@ use Rattle.cluster_commands.specs.declared.script.Event.{Event}
 use Rattle.cluster_commands.specs.declared.error.ScriptError.{ScriptError}
 use Rattle.cluster_commands.specs.declared.error.ScriptError.TheVariants.{BadEvent, NoMemory}
 use Rattle.cluster_commands.specs.ClusterScripts.{with_line, events_from, Fails}
-use Rattle.pisa_scripts.specs.Lines.{pieces}
+use Rattle.command_plan.specs.pisa_scripts.Lines.{pieces}
 use Rattle.cluster_commands.proofs.Fronts.{front_line}
 
 pub fails_with : (e : ScriptError) (inner whole : Result (List Event) ScriptError)

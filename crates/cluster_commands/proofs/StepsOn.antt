@@ -1,6 +1,6 @@
 -- Steps of a processor, one after the other.
 use Rattle.std.proofs.Common.{◌≡◌, ap, subst, refl, ℕ, suc, ◌+◌, ◌-◌, ◌<◌, arith, Option, Some, None}
-use Rattle.pisa_isa.specs.declared.machine.Stop.{Stop}
+use Rattle.pisa_cluster.specs.pisa_isa.declared.machine.Stop.{Stop}
 use Rattle.pisa_cluster.specs.declared.cluster.Moved.TheVariants.{Made, Stopped}
 use Rattle.pisa_cluster.specs.Schedules.{Schedule, Moves}
 use Rattle.cluster_commands.specs.ClusterShown.{MakesSteps}
@@ -10,12 +10,6 @@ abbrev pub LeadsOn : (who count made : ℕ) → (start c : Schedule) → Type 0
 LeadsOn who count made start c =
     (more : ℕ) (stop : Option Stop) (e : Schedule) → MakesSteps who (count - made) more stop c e
     → MakesSteps who count (made + more) stop start e
-
-pub from_start : (who count : ℕ) (start : Schedule) → LeadsOn who count 0 start start
-from_start who count start more stop e makes =
-    let all : count - 0 ≡ count = omega arith in
-    let none : more ≡ 0 + more = omega arith in
-    subst (λ n. MakesSteps who count n stop start e) none (subst (λ n. MakesSteps who n more stop start e) all makes)
 
 left_next : (count made : ℕ) → made < count → suc (count - (made + 1)) ≡ count - made
 left_next count made lt = omega (arith, lt)
@@ -44,7 +38,7 @@ all_made who count start c go =
     subst (λ n. MakesSteps who count n None start c) sum (go 0 None c
     (subst (λ n. MakesSteps who n 0 None c c) none (refl, refl, refl)))
 
--- the serial number of the next step behind one that is made
+-- the serial number of the step after one that is made
 pub next_serial_after : (who serial : ℕ) (c d : Schedule) → Moves who (Made serial) c d
     → d.next_serial ≡ c.next_serial + 1
 next_serial_after who serial c d moves = ap (λ (s : Schedule). s.next_serial) moves.leads

@@ -2,7 +2,7 @@
 use Rattle.std.proofs.Common.{◌≡◌, ◌∙◌, sym, ap, subst, ℕ, ◌≤◌, List, [], ◌∷◌, ◌++◌, length, Option, Result}
 use Rattle.std.proofs.Common.{Ok, Err, append_assoc}
 use Rattle.std.specs.Prelude.{IfOk}
-use Rattle.rpp_ports.specs.Ports.{Texts, IsTextOf}
+use Rattle.command_plan.specs.rpp_ports.Ports.{Texts, IsTextOf}
 use Rattle.command_plan.specs.declared.reading.TheConstants.{MOST_IMAGE}
 use Rattle.command_plan.specs.declared.plan.NoPlan.{NoPlan}
 use Rattle.command_plan.specs.Files.{Needed, OnlyReads}

@@ -1,18 +1,18 @@
 -- The plan of `cluster`.
 use Rattle.std.specs.Prelude.{◌≡◌, ℕ, List, [], ◌∷◌, length, map, Result, Ok, Err}
 use Rattle.std.specs.declared.option.Option.{Option}
-use Rattle.rpp_ports.specs.Ports.{Texts}
-use Rattle.pisa_isa.specs.Image.{Segments}
-use Rattle.pisa_isa.specs.Notes.{NotedImage}
-use Rattle.pisa_image.specs.declared.error.ImageError.{ImageError}
-use Rattle.pisa_image.specs.Reading.{image_at}
+use Rattle.command_plan.specs.rpp_ports.Ports.{Texts}
+use Rattle.pisa_cluster.specs.pisa_isa.Image.{Segments}
+use Rattle.pisa_cluster.specs.pisa_isa.Notes.{NotedImage}
+use Rattle.command_plan.specs.pisa_image.declared.error.ImageError.{ImageError}
+use Rattle.command_plan.specs.pisa_image.Reading.{image_at}
 use Rattle.command_plan.specs.declared.reading.TheConstants.{MOST_IMAGE}
 use Rattle.command_plan.specs.declared.plan.Verdict.TheVariants.{Done, ImageRefused, InputRefused}
 use Rattle.command_plan.specs.Files.{Needed, image_file}
 use Rattle.command_plan.specs.Plans.{Planned, prints, WithText}
 use Rattle.command_plan.specs.Texts.{bad_command_line, image_line}
 use Rattle.cluster_commands.specs.declared.script.Event.{Event}
-use Rattle.pisa_scripts.specs.declared.lines.TheConstants.{MOST_SCRIPT}
+use Rattle.command_plan.specs.pisa_scripts.declared.lines.TheConstants.{MOST_SCRIPT}
 use Rattle.cluster_commands.specs.declared.error.ScriptError.{ScriptError}
 use Rattle.cluster_commands.specs.declared.error.ScriptError.TheVariants.{BadEvent}
 use Rattle.cluster_commands.specs.declared.error.ScriptError.TheVariants as script
@@ -37,7 +37,7 @@ abbrev pub images_at : List (List ℕ) → Result (List Segments) ImageError
 images_at [] = Ok []
 images_at (bytes ∷ rest) = with_image (image_at bytes) (images_at rest)
 
--- the first line that asks nothing is told, or what the events print
+-- the first invalid line is reported, or what the events print is printed
 abbrev pub IsEventsPlan : Result (List Event) ScriptError → List Segments → (cells : ℕ) → Planned
     → Type 0
 IsEventsPlan (Err (BadEvent line)) images cells p = p ≡ prints InputRefused (bad_command_line line)
@@ -45,14 +45,14 @@ IsEventsPlan (Err script.NoMemory) images cells p = ⊥
 IsEventsPlan (Ok events) images cells p = (text : List ℕ) × IsShown images cells events text
     × (p ≡ prints Done text)
 
--- an image that is refused is told before the script is judged
+-- a refused image is reported before the script is checked
 abbrev pub IsClusterPlan : Result (List Segments) ImageError → (script : List ℕ) → (cells : ℕ)
     → Planned → Type 0
 IsClusterPlan (Err e) script cells p = p ≡ prints ImageRefused (image_line e)
 IsClusterPlan (Ok images) script cells p = IsEventsPlan (events_of (length images) script) images
     cells p
 
--- P holds of the texts of these images
+-- P holds for the texts of these images
 abbrev pub WithImages : Option Texts → List (List ℕ) → (List (List ℕ) → Type 0) → Type 0
 WithImages told [] P = P []
 WithImages told (name ∷ names) P =

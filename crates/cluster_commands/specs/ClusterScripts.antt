@@ -2,7 +2,7 @@
 use Rattle.std.specs.Prelude.{◌≡◌, ℕ, ◌+◌, ◌≤◌, nat_eq, if◌then◌else◌, List, [], ◌∷◌, ◌++◌, Option}
 use Rattle.std.specs.Prelude.{Some, None, Result, Ok, Err, option_map, codes}
 use Rattle.std.specs.Str.{bytes_eq}
-use Rattle.pisa_scripts.specs.Lines.{number_up_to, is_blank, pieces, without_returns}
+use Rattle.command_plan.specs.pisa_scripts.Lines.{number_up_to, is_blank, pieces, without_returns}
 use Rattle.cluster_commands.specs.declared.script.Event.{Event}
 use Rattle.cluster_commands.specs.declared.script.Event.TheVariants.{Step, Undo, Rewind}
 use Rattle.cluster_commands.specs.declared.error.ScriptError.{ScriptError}
@@ -31,7 +31,7 @@ abbrev pub rewind_event : List (List ℕ) → Option Event
 rewind_event [] = Some Rewind
 rewind_event _ = None
 
--- what the words of a line ask of so many processors
+-- what a line requests of so many processors
 abbrev pub event_of : (processors : ℕ) → List (List ℕ) → Option Event
 event_of processors [] = None
 event_of processors (name ∷ args) =

@@ -2,12 +2,12 @@
 use Rattle.std.specs.Prelude.{◌≡◌, ℕ, zero, suc, nat_eq, if◌then◌else◌, List, [], ◌∷◌, ◌++◌, length}
 use Rattle.std.specs.Prelude.{Option, Some, None, codes}
 use Rattle.std.specs.Fmt.{decimal, signed_decimal}
-use Rattle.rpp_words.specs.Texts.{line_end}
-use Rattle.pisa_isa.specs.declared.machine.Stop.{Stop}
-use Rattle.pisa_isa.specs.declared.machine.Core.{Core}
-use Rattle.pisa_isa.specs.Image.{Segments}
-use Rattle.pisa_scripts.specs.Words.{word_shown, direction, cell_line}
-use Rattle.pisa_scripts.specs.Stops.{stop_line}
+use Rattle.command_plan.specs.rpp_words.Texts.{line_end}
+use Rattle.pisa_cluster.specs.pisa_isa.declared.machine.Stop.{Stop}
+use Rattle.pisa_cluster.specs.pisa_isa.declared.machine.Core.{Core}
+use Rattle.pisa_cluster.specs.pisa_isa.Image.{Segments}
+use Rattle.command_plan.specs.pisa_scripts.Words.{word_shown, direction, cell_line}
+use Rattle.command_plan.specs.pisa_scripts.Stops.{stop_line}
 use Rattle.pisa_cluster.specs.declared.processor.Processor.{Processor}
 use Rattle.pisa_cluster.specs.declared.cluster.Moved.{Moved}
 use Rattle.pisa_cluster.specs.declared.cluster.Moved.TheVariants.{Made, Stopped}
@@ -17,7 +17,7 @@ use Rattle.pisa_cluster.specs.Schedules.{Schedule, first_schedule, Moves, Undoes
 use Rattle.cluster_commands.specs.declared.script.Event.{Event}
 use Rattle.cluster_commands.specs.declared.script.Event.TheVariants.{Step, Undo, Rewind}
 
--- what follows a step that was answered so: no more steps behind a stop
+-- what follows a step with this result: no more steps after a stop
 abbrev pub AfterStep : ((made : ℕ) → Option Stop → (d e : Schedule) → Type 0) → Moved → (made : ℕ)
     → Option Stop → (d e : Schedule) → Type 0
 AfterStep More (Stopped why) made stop d e = (made ≡ 0) × (stop ≡ Some why) × (e ≡ d)
@@ -97,12 +97,12 @@ abbrev pub filled_lines : (number : ℕ) → List ℕ → List ℕ
 filled_lines number [] = []
 filled_lines number (word ∷ words) = filled_line number word ++ filled_lines (suc number) words
 
--- how a cluster stands
+-- the state of a cluster
 abbrev pub end_shown : Schedule → List ℕ
 end_shown c = (kept_line (length c.kept) ++ processor_lines 1 c.joint.processors)
     ++ filled_lines 0 c.joint.cells
 
--- what events print from the start on, and then how the cluster stands
+-- what events print from the start on, and then the state of the cluster
 pub record IsShown (images : List Segments) (cells : ℕ) (events : List Event)
     (text : List ℕ) : Type 0 where
   pub lines : List ℕ

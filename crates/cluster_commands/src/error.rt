@@ -11,7 +11,7 @@ pub(crate) enum ScriptError {
     /// The line is neither blank nor an event.
     #[error("bad event in line {line}")]
     BadEvent { line: u32 },
-    /// Want of memory.
+    /// Memory ran out.
     #[error("no memory")]
     NoMemory,
 }

@@ -1,6 +1,6 @@
 // `cluster SCRIPT CELLS IMG {IMG}`: several processors on one memory, by a script.
 ghost use Rattle.std.specs.Prelude.{◌≡◌, ◌≤◌, ◌<◌, ◌+◌, ◌++◌, List, ℕ, map, length, vec_len, Ok, IfOk, string_bytes, All};
-ghost use Rattle.pisa_image.specs.Reading.{Gives};
+ghost use Rattle.command_plan.specs.pisa_image.Reading.{Gives};
 ghost use Rattle.command_plan.specs.Files.{OnlyReads, image_file};
 ghost use Rattle.command_plan.specs.Plans.{planned, GivesPlan};
 ghost use Rattle.cluster_commands.specs.ClusterScripts.{IsEvent, events_of};
@@ -21,8 +21,8 @@ use rpp_ports::Shelf;
 use rpp_words::NoMemory;
 use std::alloc::Global;
 
-/// Carries out the script in a file on the processors of the images in files, which have so many
-/// cells in common, and tells what it prints and how all stands at the end.
+/// Carries out the script in a file on the processors of the images in files, which share so many
+/// cells. Reports what it prints and the state of all processors at the end.
 pub fn cluster<S: Shelf>(
     alloc: Global,
     shelf: &mut S,
@@ -103,7 +103,7 @@ fn judge_images(alloc: Global, texts: &[Vec<u8>]) -> Result<Vec<Image>, ImageErr
     Ok(images)
 }
 
-// The script is judged, and then it is carried out.
+// The script is checked, and then it is carried out.
 fn judge_script(
     alloc: Global,
     script: &[u8],
@@ -130,7 +130,7 @@ fn judge_script(
     }
 }
 
-// What events print, and how all stands at the end.
+// What events print, and the state of all processors at the end.
 fn carry_out(
     alloc: Global,
     images: Vec<Image>,

@@ -1,6 +1,6 @@
 // Reads scripts for several processors.
 ghost use Rattle.std.specs.Prelude.{◌≡◌, ◌≤◌, ◌+◌, ℕ, All, [], map, length, IfOk, OnOk, IfSome};
-ghost use Rattle.pisa_scripts.specs.Lines.{pieces as pieces_of, number_up_to as number_of};
+ghost use Rattle.command_plan.specs.pisa_scripts.Lines.{pieces as pieces_of, number_up_to as number_of};
 ghost use Rattle.cluster_commands.specs.ClusterScripts.{IsEvent, from_one, event_of as event_of_words, step_event, undo_event, rewind_event, with_line, events_from, events_of, Gives};
 
 use crate::error::ScriptError;

@@ -1,4 +1,4 @@
-// How a cluster stands.
+// The state of a cluster.
 ghost use Rattle.std.specs.Prelude.{◌≡◌, ◌<◌, ◌≤◌, ◌+◌, ◌^◌, ◌++◌, length, OnOk, string_bytes};
 ghost use Rattle.cluster_commands.specs.ClusterShown.{kept_line, processor_line, processor_lines, filled_line, filled_lines, end_shown};
 
@@ -63,7 +63,7 @@ fn add_cells(text: &mut String, cluster: &Cluster, count: u32) -> Result<(), All
     Ok(())
 }
 
-/// Adds how a cluster of so many processors and cells stands.
+/// Adds the state of a cluster of so many processors and cells.
 pub(crate) fn add_end(
     text: &mut String,
     cluster: &Cluster,

@@ -1,1 +1,1 @@
-pub mod Header
+pub use Rattle.pisa_isa.proofs as pisa_isa_laws

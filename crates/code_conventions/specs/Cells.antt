@@ -32,7 +32,7 @@ addi = with_word Addi
 abbrev pub xori : ℕ → ℕ → Cell
 xori = with_word Xori
 
--- one more in a register where one word is less than another
+-- one more in a register if one word is less than another
 abbrev pub sltx : ℕ → ℕ → ℕ → Cell
 sltx d s t = record { op = Sltx; a = d; b = s; c = t; imm = 0 }
 

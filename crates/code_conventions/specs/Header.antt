@@ -1,4 +1,4 @@
--- The words in front of an object's fields, or of an array's elements.
+-- The words before an object's fields, or of an array's elements.
 use Rattle.std.specs.Prelude.{ℕ, List, [], ◌∷◌}
 
 -- the address of the class's table or the array's length, and how many cells refer to it

@@ -72,7 +72,7 @@ pub fn xori(to: u8, word: u32) -> Cell
     with_word(Op::Xori, to, word)
 }
 
-/// The last bit is turned where one register's word is less than another's.
+/// The last bit is turned if one register's word is less than another's.
 pub fn sltx(to: u8, left: u8, right: u8) -> Cell
     ensures { result ≡ sltx to left right }
 {

@@ -28,7 +28,7 @@ pub const LENGTH_DIFFERS: u32 = 12;
 pub const LENGTH: u32 = 13;
 /// A call would open one frame too many.
 pub const TOO_DEEP: u32 = 14;
-/// A cell whose word moved into a call was written meanwhile.
+/// A cell whose word moved into a call was written during the call.
 pub const TOUCHED: u32 = 15;
 /// A place that changes is an element of an array that is read for the change.
 pub const SHARED_ARRAY: u32 = 16;

@@ -1,20 +1,20 @@
-// Where things stand in the memory of a program. How many cells the machine itself has, and the words
-// of a frame and of an object's header, are constants of rpp_words, which the loader shares.
+// The addresses in the memory of a program. How many cells the machine itself has, and the words of
+// a frame and of an object's header, are constants of rpp_words, which the loader shares.
 ghost use Rattle.std.specs.Prelude.{◌≡◌};
 ghost use Rattle.code_conventions.specs.Header.{header};
 
 use rpp_words::FIXED_CELLS;
 
-/// The words in front of an object's fields, or of an array's elements: its class's table's address
-/// or its length, and its count.
+/// The words before an object's fields, or of an array's elements: its class's table's address or
+/// its length, and its count.
 pub const HEADER_WORDS: u32 = rpp_words::HEADER_WORDS;
 /// The word of an object that counts the cells that refer to it.
 pub const COUNT_WORD: u32 = 1;
-/// The address of the main object: behind the machine's own cells.
+/// The address of the main object: after the machine's own cells.
 pub const MAIN_OBJECT: u32 = FIXED_CELLS;
 /// The address of the main object's first field.
 pub const FIRST_FIELD: u32 = MAIN_OBJECT + HEADER_WORDS;
-/// The word of a class's table in front of its method slots: the class's number.
+/// The word of a class's table before its method slots: the class's number.
 pub const TABLE_HEADER: u32 = 1;
 /// The word of a frame that holds the link to the caller.
 pub const LINK_WORD: u32 = 0;

@@ -2,9 +2,9 @@
 
 /// The branch register's copy while a routine is entered and left: the link to its caller.
 pub const LINK: u8 = 2;
-/// The address of the present object.
+/// The address of the current object.
 pub const OBJECT: u8 = 3;
-/// The address of the open frame.
+/// The address of the current frame.
 pub const FRAME: u8 = 4;
 /// The address of a word that is found.
 pub const ADDRESS: u8 = 5;

@@ -3,9 +3,9 @@ use Rattle.std.proofs.Common.{◌≡◌, ℕ, suc, List, [], ◌∷◌, Option, 
 use Rattle.std.specs.Prelude.{map, if◌then◌else◌}
 use Rattle.std.specs.Option.{option_map}
 use Rattle.std.specs.Str.{bytes_eq}
-use Rattle.rpp_tree.specs.declared.tree.Var.{Var}
-use Rattle.class_table.specs.Members.{field_name, field_of}
-use Rattle.class_table.proofs.FirstPlaces.{position_cons}
+use Rattle.refine_form.specs.rpp_tree.declared.tree.Var.{Var}
+use Rattle.refine_form.specs.class_table.Members.{field_name, field_of}
+use Rattle.refine_form.proofs.class_table_laws.FirstPlaces.{position_cons}
 use Rattle.code_scope.specs.Visible.{place_named}
 
 pub place_is : (name : List ℕ) (fields : List Var) → place_named name fields ≡ field_of fields name

@@ -3,13 +3,13 @@ use Rattle.std.proofs.Common.{◌≡◌, ℕ, zero, suc, ◌<◌, ◌≤◌, Lis
 use Rattle.std.specs.Prelude.{slice_get, All}
 use Rattle.std.specs.Option.{unwrap_or}
 use Rattle.std.proofs.lemmas.List.Elements.{All-head, All-tail}
-use Rattle.rpp_tree.specs.Tree.{Procedure, ClassText, Source}
-use Rattle.rpp_tree.specs.Limits.{IsSmallMethod, IsWithinLimits}
-use Rattle.class_table.specs.declared.method.MethodId.{MethodId}
-use Rattle.class_table.specs.Members.{class_at, no_class, no_procedure}
-use Rattle.class_table.specs.Classes.{procedure_at}
+use Rattle.refine_form.specs.rpp_tree.Tree.{Procedure, ClassText, Source}
+use Rattle.refine_form.specs.rpp_tree.Limits.{IsSmallMethod, IsWithinLimits}
+use Rattle.refine_form.specs.class_table.declared.method.MethodId.{MethodId}
+use Rattle.refine_form.specs.class_table.Members.{class_at, no_class, no_procedure}
+use Rattle.refine_form.specs.class_table.Classes.{procedure_at}
 
--- what holds of all, and of what stands for none, holds at every number
+-- what holds for all, and for what no name denotes, holds at every number
 all_at : {X : Type 0} (P : X → Type 0) (xs : List X) (i : ℕ) (d : X) → All P xs → P d → P (unwrap_or (slice_get xs i) d)
 all_at P [] i d h n = n
 all_at P (x ∷ xs) zero d h n = All-head P x xs h

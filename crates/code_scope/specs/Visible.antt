@@ -1,24 +1,24 @@
--- Where the visible variables of a method stand: parameters and locals in words of the open frame,
--- fields in the present object.
+-- The storage slots of a method's visible variables: parameters and locals in words of the current
+-- frame, fields in the current object.
 use Rattle.std.specs.Prelude.{ℕ, suc, ◌+◌, List, [], ◌∷◌, length, reverse, Option, Some, None}
 use Rattle.std.specs.Prelude.{slice_get, if◌then◌else◌}
 use Rattle.std.specs.Option.{option_or, option_map, unwrap_or}
 use Rattle.std.specs.Str.{bytes_eq}
-use Rattle.rpp_tree.specs.declared.tree.Program.{Program}
-use Rattle.rpp_tree.specs.declared.tree.Var.{Var}
-use Rattle.rpp_tree.specs.declared.tree.VarType.{VarType}
-use Rattle.rpp_tree.specs.Views.{source_of}
-use Rattle.class_table.specs.declared.method.MethodId.{MethodId}
-use Rattle.class_table.specs.Members.{field_of}
-use Rattle.class_table.specs.Scope.{no_var}
-use Rattle.class_table.specs.Table.{table_of, fields_in}
-use Rattle.code_conventions.specs.declared.memory.TheConstants.{HEADER_WORDS, FIRST_VARIABLE}
+use Rattle.refine_form.specs.rpp_tree.declared.tree.Program.{Program}
+use Rattle.refine_form.specs.rpp_tree.declared.tree.Var.{Var}
+use Rattle.refine_form.specs.rpp_tree.declared.tree.VarType.{VarType}
+use Rattle.refine_form.specs.rpp_tree.Views.{source_of}
+use Rattle.refine_form.specs.class_table.declared.method.MethodId.{MethodId}
+use Rattle.refine_form.specs.class_table.Members.{field_of}
+use Rattle.refine_form.specs.class_table.Scope.{no_var}
+use Rattle.refine_form.specs.class_table.Table.{table_of, fields_in}
+use Rattle.refine_form.specs.code_conventions.declared.memory.TheConstants.{HEADER_WORDS, FIRST_VARIABLE}
 use Rattle.refine_form.specs.declared.spot.Spot.{Spot}
 use Rattle.refine_form.specs.declared.spot.Spot.TheVariants.{Field, Frame}
 use Rattle.code_scope.specs.declared.known.Names.{Names}
 
--- how far a spot stands from the address of its object or frame: before the fields stand the class
--- and the count
+-- how far a storage slot is from the address of its object or frame: the class and the reference
+-- count are before the fields
 abbrev pub offset_of : Spot → ℕ
 offset_of (Field i) = HEADER_WORDS + i
 offset_of (Frame i) = i
@@ -28,7 +28,7 @@ pub record Known : Type 0 where
   pub variables : List Var
   pub fields : List Var
 
--- the frame word of the innermost variable of a name: before it stand those outside of it
+-- the frame word of the innermost variable of a name: those outside of it come before it
 abbrev pub word_named : List ℕ → List Var → Option ℕ
 word_named name [] = None
 word_named name (var ∷ outer) =
@@ -56,7 +56,7 @@ field_type fields name = option_map (λ number. (unwrap_or (slice_get fields num
 abbrev pub kind_named : Known → List ℕ → Option VarType
 kind_named known name = option_or (type_named name known.variables) (field_type known.fields name)
 
--- and where it stands
+-- and its position
 abbrev pub spot_named : Known → List ℕ → Option Spot
 spot_named known name =
     option_or (option_map Frame (word_named name known.variables))
@@ -66,11 +66,11 @@ spot_named known name =
 abbrev pub spot_of : Known → List ℕ → Spot
 spot_of known name = unwrap_or (spot_named known name) (Field 0)
 
--- the first word of the frame behind the variables
+-- the first word of the frame after the variables
 abbrev pub free_of : Known → ℕ
 free_of known = FIRST_VARIABLE + length known.variables
 
--- what names stand for
+-- what names denote
 abbrev pub known_by : Names → Known
 known_by names = record { variables = reverse names.variables.now; fields = names.fields.now }
 

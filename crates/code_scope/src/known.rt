@@ -1,6 +1,6 @@
 // The names that are visible in a method: its variables and the fields of its class.
 ghost use Rattle.std.specs.Prelude.{◌≤◌, length};
-ghost use Rattle.code_conventions.specs.declared.memory.TheConstants.{MOST_VARIABLES};
+ghost use Rattle.refine_form.specs.code_conventions.declared.memory.TheConstants.{MOST_VARIABLES};
 
 use rpp_tree::tree::Var;
 

@@ -1,6 +1,6 @@
-//! Where the visible variables of a method stand while its statements are compiled: parameters and
-//! locals in words of the open frame, fields in the present object. The layers above may use
-//! `Scope`, what it lends as `Names` with `spot_of` and `free_word`, and specs/Visible.antt.
+//! The storage slots of a method's visible variables while its statements are compiled. Parameters
+//! and locals are in words of the current frame, fields in the current object. The layers above may
+//! use `Scope`, what it lends as `Names` with `spot_of` and `free_word`, and specs/Visible.antt.
 #![tactic(auto)]
 
 mod known;

@@ -1,8 +1,8 @@
-// Where names stand, among variables and fields.
+// The storage slots of names, among variables and fields.
 ghost use Rattle.std.specs.Prelude.{◌≡◌, ◌<◌, ◌≤◌, ◌^◌, length, reverse, IfSome};
 ghost use Rattle.std.specs.Option.{option_map};
-ghost use Rattle.class_table.specs.Members.{field_of};
-ghost use Rattle.code_conventions.specs.declared.memory.TheConstants.{MOST_VARIABLES};
+ghost use Rattle.refine_form.specs.class_table.Members.{field_of};
+ghost use Rattle.refine_form.specs.code_conventions.declared.memory.TheConstants.{MOST_VARIABLES};
 ghost use Rattle.code_scope.specs.Visible.{offset_of, word_named, place_named, type_named, field_type, kind_named, spot_named, spot_of as spot_of_name, free_of, known_by};
 
 use crate::known::Names;
@@ -105,7 +105,7 @@ pub fn kind_by<'a>(names: &Names<'a>, name: &Text) -> Option<&'a VarType>
     }
 }
 
-/// Where what a name means stands.
+/// The storage slot of what a name denotes.
 pub fn spot_by(names: &Names, name: &Text) -> Option<Spot>
     ensures value { result ≡ spot_named (known_by names.now) name.now }
     ensures small { IfSome result (λ spot. offset_of spot < 2 ^ 32) }
@@ -127,7 +127,7 @@ pub fn spot_of(names: &Names, name: &Text) -> Spot
     }
 }
 
-/// The first word of the frame behind the variables.
+/// The first word of the frame after the variables.
 pub fn free_word(names: &Names) -> u32
     ensures value { result ≡ free_of (known_by names.now) }
     ensures small { result ≤ 64 }

@@ -1,10 +1,10 @@
 // The scope of a statement.
 ghost use Rattle.std.specs.Prelude.{◌≡◌, ◌<◌, ◌≤◌, ◌^◌, ◌∷◌, map, length, reverse, IfOk, OnOk, OnErr, IfSome, slice_get};
 ghost use Rattle.std.specs.Option.{option_map, unwrap_or};
-ghost use Rattle.rpp_tree.specs.Views.{source_of, procedure_of};
-ghost use Rattle.class_table.specs.Members.{no_procedure};
-ghost use Rattle.class_table.specs.Classes.{procedure_at};
-ghost use Rattle.code_conventions.specs.declared.memory.TheConstants.{MOST_VARIABLES};
+ghost use Rattle.refine_form.specs.rpp_tree.Views.{source_of, procedure_of};
+ghost use Rattle.refine_form.specs.class_table.Members.{no_procedure};
+ghost use Rattle.refine_form.specs.class_table.Classes.{procedure_at};
+ghost use Rattle.refine_form.specs.code_conventions.declared.memory.TheConstants.{MOST_VARIABLES};
 ghost use Rattle.code_scope.specs.Visible.{offset_of, kind_named, spot_named, free_of, known_by, known_in, outer_of};
 
 use crate::known::Names;
@@ -18,9 +18,9 @@ use rpp_words::NoMemory;
 use std::alloc::Global;
 use std::marker::Model;
 
-/// Where the visible variables of a method stand: each parameter and local in a word of the open
-/// frame, the outermost in the first one, and each field in the present object. The last parameter
-/// is the outermost variable.
+/// The storage slots of a method's visible variables. Each parameter and local is in a word of the
+/// current frame, the outermost in the first one, and each field is in the current object. The last
+/// parameter is the outermost variable.
 #[derive(Drop)]
 pub struct Scope<'a> {
     checked: &'a Checked,
@@ -29,8 +29,8 @@ pub struct Scope<'a> {
 }
 
 impl<'a> Model for Scope<'a> {
-    ghost use Rattle.rpp_tree.specs.contracts.tree.Stmt as stmt;
-    ghost use Rattle.rpp_tree.specs.contracts.tree.Expr as expr;
+    ghost use Rattle.refine_form.specs.rpp_tree.contracts.tree.Stmt as stmt;
+    ghost use Rattle.refine_form.specs.rpp_tree.contracts.tree.Expr as expr;
     ghost use Rattle.std.specs.Coded.{codes};
     ghost use Rattle.code_scope.specs.Visible.{Visible};
 
@@ -39,7 +39,7 @@ impl<'a> Model for Scope<'a> {
     ghost coded = { Prim.hlevel (codes, stmt.the_row.coded, expr.the_row.coded) };
 
     ghost use Rattle.std.specs.Prelude.{◌≤◌, length, reverse};
-    ghost use Rattle.code_conventions.specs.declared.memory.TheConstants.{MOST_VARIABLES};
+    ghost use Rattle.refine_form.specs.code_conventions.declared.memory.TheConstants.{MOST_VARIABLES};
 
     ghost view = { λ s. record {
       program = s.checked.now;
@@ -94,7 +94,7 @@ impl<'a> Scope<'a> {
         })
     }
 
-    /// A local is declared: it stands in the word `free`. The only error is that memory ran out.
+    /// A local is declared: its word is `free`. The only error is that memory ran out.
     pub fn push(&mut self, alloc: Global, var: &Var) -> Result<(), NoMemory>
         requires { length self.old.variables < MOST_VARIABLES }
         ensures pushed { OnOk result
@@ -145,7 +145,7 @@ impl<'a> Scope<'a> {
         free_word(&names)
     }
 
-    /// The type of what a name means; nothing where it means nothing.
+    /// The type of what a name means; nothing if it means nothing.
     pub fn kind(&self, name: &Text) -> Option<&VarType>
         ensures { option_map (λ kind. kind.now) result ≡ kind_named (known_in self.now) name.now }
     {
@@ -153,7 +153,7 @@ impl<'a> Scope<'a> {
         kind_by(&names, name)
     }
 
-    /// Where what a name means stands; nothing where it means nothing.
+    /// The storage slot of what a name denotes; nothing if it denotes nothing.
     pub fn spot(&self, name: &Text) -> Option<Spot>
         ensures value { result ≡ spot_named (known_in self.now) name.now }
         ensures small { IfSome result (λ spot. offset_of spot < 2 ^ 32) }

@@ -1,1 +1,4 @@
+pub use Rattle.command_plan.specs.rpp_ports
+pub use Rattle.command_plan.specs.rpp_probes
+pub use Rattle.command_plan.specs as command_plan
 pub mod Lines

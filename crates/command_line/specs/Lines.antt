@@ -14,7 +14,7 @@ use Rattle.command_line.specs.declared.line.TheConstants.{MOST_PROCESSORS}
 use Rattle.command_plan.specs.declared.plan.Room.{Room}
 use Rattle.command_plan.specs.declared.plan.Sizes.{Sizes}
 use Rattle.command_plan.specs.Files.{state_named, state_of_names, save_of_names}
-use Rattle.pisa_scripts.specs.Lines.{short_number}
+use Rattle.command_plan.specs.pisa_scripts.Lines.{short_number}
 use Rattle.command_line.specs.declared.line.Line.TheVariants as line
 
 -- a line as contracts see it

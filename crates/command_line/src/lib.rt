@@ -1,6 +1,5 @@
-//! The words of a command line, and the line that they are: a command with its files and numbers.
-//! The layer above may use `Line` and `read_words`; which words are a line is `line_of` of
-//! specs/Lines.antt.
+//! The arguments of a call, and the command with its files and numbers. The layer above may use
+//! `Line` and `read_words`; `line_of` of specs/Lines.antt says which arguments are a command.
 #![tactic(auto)]
 
 mod line;

@@ -89,7 +89,7 @@ pub enum Line {
         steps: u64,
         input: Option<String>,
     },
-    /// The same, and after a finish the run of the flipped image from where the first run ended.
+    /// The same, and after a finish the run of the inverse image from where the first run ended.
     Turn {
         file: String,
         heap: u64,
@@ -105,8 +105,9 @@ pub enum Line {
         deep: u64,
         steps: u64,
     },
-    /// Compiles and wraps a program, and runs it: its file, the order of the heap, the depth, the
-    /// number of steps, the names of the results, and the file of its input, if there is one.
+    /// Compiles and wraps a program, and runs it. It has the program's file, the order of the heap,
+    /// the depth, the number of steps, the names of the results, and the file of its input, if
+    /// there is one.
     Wrap {
         file: String,
         heap: u64,

@@ -1,11 +1,11 @@
--- What holds of texts that were read.
+-- What holds for texts that were read.
 use Rattle.std.proofs.Common.{◌≡◌, ℕ, ◌≤◌, List, length, subst}
 use Rattle.std.specs.declared.option.Option.{Option}
 use Rattle.pisa_loader.specs.declared.input.TheConstants.{MOST_INPUT}
 use Rattle.rpp_ports.specs.Ports.{Texts, IsTextOf}
 use Rattle.command_plan.specs.Plans.{WithText, WithInput, WithState, IsInputText, IsStateText}
 
--- P holds of what was given on, which is the text that was read
+-- P holds for what was given on, which is the text that was read
 pub with_text : (told : Option Texts) (name : List ℕ) (limit : ℕ) (read given : List ℕ) (P : List ℕ → Type 0)
     → IsTextOf told name read → length read ≤ limit → given ≡ read → P given → WithText told name limit P
 with_text told name limit read given P is within same holds =

@@ -10,13 +10,10 @@ use Rattle.command_plan.specs.declared.plan.NoPlan.TheVariants.{NoMemory, Unread
 use Rattle.command_plan.specs.Files.{Needed, LacksOne, Unreadable, IsUnread, FirstUnread, OnlyReads}
 use Rattle.rpp_ports.specs.declared.shelf.ShelfFault.TheVariants as fault
 
-rose_later : (b m n : ℕ) → m ≤ n → Rose b m → Rose b n
-rose_later b m n h rose = omega arith
-
 rose_before : (b m n : ℕ) → b ≤ m → Rose m n → Rose b n
 rose_before b m n h rose = grind (arith, nat_tests)
 
--- what a cause says where another rise is as good
+-- what a cause says if another rise is as good
 cause_by : (told : Option Texts) (name : List ℕ) (limit : ℕ) (R S : Type 0) (why : ShelfFault) → (R → S)
     → ReadCause told name limit R why → ReadCause told name limit S why
 cause_by told name limit R S fault.NoMemory f c = tt
@@ -41,41 +38,11 @@ first_by told [] R S line f h = h
 first_by told (file ∷ files) R S line f (inl is) = inl (unread_by told file R S line f is)
 first_by told (file ∷ files) R S line f (inr more) = inr (more.0, first_by told files R S line f more.1)
 
-lacks_more : (texts : Texts) (file : Needed) (files : List Needed) → LacksOne texts (file ∷ [])
-    → LacksOne texts (file ∷ files)
-lacks_more texts file files (inl lacks) = inl lacks
-lacks_more texts file files (inr none) = absurd none
-
-unreadable_first : (told : Option Texts) (file : Needed) (files : List Needed) (R : Type 0)
-    → Unreadable told (file ∷ []) R → Unreadable told (file ∷ files) R
-unreadable_first told file files R (inl rose) = inl rose
-unreadable_first (Some texts) file files R (inr lacks) = inr (lacks_more texts file files lacks)
-unreadable_first None file files R (inr lacks) = absurd lacks
-
 unreadable_next : (told : Option Texts) (file : Needed) (files : List Needed) (R S : Type 0) → (R → S)
     → Unreadable told files R → Unreadable told (file ∷ files) S
 unreadable_next told file files R S f (inl rose) = inl (f rose)
 unreadable_next (Some texts) file files R S f (inr lacks) = inr (inr lacks)
 unreadable_next None file files R S f (inr lacks) = absurd lacks
-
-first_line : (told : Option Texts) (file : Needed) (files : List Needed) (R : Type 0) (line : List ℕ)
-    → FirstUnread told (file ∷ []) R line → FirstUnread told (file ∷ files) R line
-first_line told file files R line (inl is) = inl is
-first_line told file files R line (inr more) = absurd more.1
-
--- the first file could not be read
-pub first_fails : {T U : Type 0} (old new : Option Texts) (b n : ℕ) (file : Needed) (files : List Needed)
-    (stop : NoPlan)
-    → OnlyReads {T = T} old new b n (file ∷ []) (Err stop) → OnlyReads {T = U} old new b n (file ∷ files) (Err stop)
-first_fails old new b n file files NoMemory reads = record
-    { kept = reads.kept; later = reads.later; cause = tt; first = tt; whole = tt }
-first_fails old new b n file files (Unread text) reads = record {
-  kept = reads.kept;
-  later = reads.later;
-  cause = unreadable_first old file files (Rose b n) reads.cause;
-  first = first_line old file files (Rose b n) (string_bytes text) reads.first;
-  whole = tt;
-}
 
 whole_of : (told : Option Texts) (file : Needed) (files : List Needed)
     → IfSome told (λ texts. ¬ LacksOne texts (file ∷ [])) → IfSome told (λ texts. ¬ LacksOne texts files)

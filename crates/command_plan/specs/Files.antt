@@ -2,7 +2,7 @@
 use Rattle.std.specs.Prelude.{◌≡◌, ◌≢◌, ◌++◌, codes, string_bytes, ◌⊎◌, ℕ, ◌≤◌, List, [], ◌∷◌, ⊤}
 use Rattle.std.specs.Prelude.{None, Some, IsSomeAnd, IfSome, OnOk, IfErr, Result, if◌then◌else◌}
 use Rattle.std.specs.declared.option.Option.{Option}
-use Rattle.rpp_tree.specs.declared.limits.TheConstants.{MOST_BYTES}
+use Rattle.pisa_loader.specs.rpp_tree.declared.limits.TheConstants.{MOST_BYTES}
 use Rattle.pisa_loader.specs.declared.input.TheConstants.{MOST_INPUT}
 use Rattle.rpp_ports.specs.Ports.{Texts, Rose, IsMissing, IsTooLong, ReadCause}
 use Rattle.rpp_ports.specs.declared.shelf.ShelfFault.{ShelfFault}
@@ -31,7 +31,7 @@ image_file name = record { name = name; limit = MOST_IMAGE }
 abbrev pub input : List ℕ → Needed
 input name = record { name = name; limit = MOST_INPUT }
 
--- the input, where there is one
+-- the input, if there is one
 abbrev pub input_files : Option (List ℕ) → List Needed
 input_files None = []
 input_files (Some name) = input name ∷ []
@@ -39,7 +39,7 @@ input_files (Some name) = input name ∷ []
 abbrev pub state_file : List ℕ → Needed
 state_file name = record { name = name; limit = MOST_STATE }
 
--- the state, where there is one
+-- the state, if there is one
 abbrev pub state_files : Option (List ℕ) → List Needed
 state_files None = []
 state_files (Some name) = state_file name ∷ []
@@ -50,7 +50,7 @@ LacksOne texts [] = ⊥
 LacksOne texts (file ∷ files) = (IsMissing texts file.name ⊎ IsTooLong texts file.name file.limit)
     ⊎ LacksOne texts files
 
--- the count rose, or a told map lacks one of the files
+-- the count rose, or a map of known contents does not have one of the files
 abbrev pub Unreadable : Option Texts → List Needed → Type 0 → Type 0
 Unreadable told files rose = rose ⊎ IsSomeAnd told (λ texts. LacksOne texts files)
 
@@ -101,7 +101,7 @@ pub record OnlyReads {T : Type 0} (old new : Option Texts) (before now : ℕ) (f
 abbrev pub state_named : List ℕ → Option (List ℕ)
 state_named word = if bytes_eq word (codes "-") then None else Some word
 
--- the file of the state to begin with, and that of the state to save, where there are such
+-- the file of the state to begin with, and that of the state to save, if there are such
 abbrev pub state_of_names : Option StateNames → Option (List ℕ)
 state_of_names None = None
 state_of_names (Some names) = state_named (string_bytes names.state)

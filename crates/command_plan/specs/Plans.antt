@@ -52,8 +52,8 @@ abbrev pub writes : (name bytes text : List ℕ) → Planned
 writes name bytes text =
     record { verdict = Done; text = text; writing = Some (record { name = name; bytes = bytes }) }
 
--- A file was read, and P holds of its text, which has at most so many bytes. Where the shelf tells
--- its texts, it is the one that it tells; else it is what the shelf gave.
+-- A file was read, and P holds for its text, which has at most so many bytes. If the file store
+-- knows its contents, these are used; otherwise what the file store returned.
 pub record WithText (told : Option Texts) (name : List ℕ) (limit : ℕ) (P : List ℕ → Type 0) : Type 0
   where
     pub text : List ℕ
@@ -61,12 +61,12 @@ pub record WithText (told : Option Texts) (name : List ℕ) (limit : ℕ) (P : L
     pub within : length text ≤ limit
     pub holds : P text
 
--- the text of an input, which is empty where there is none
+-- the text of an input, which is empty if there is none
 abbrev pub IsInputText : Option Texts → Option (List ℕ) → List ℕ → Type 0
 IsInputText told None text = text ≡ []
 IsInputText told (Some name) text = IsTextOf told name text
 
--- the input was read where there is one, and P holds of its text
+-- the input was read if there is one, and P holds for its text
 pub record WithInput (told : Option Texts) (name : Option (List ℕ)) (P : List ℕ → Type 0) : Type 0
   where
     pub text : List ℕ
@@ -74,13 +74,13 @@ pub record WithInput (told : Option Texts) (name : Option (List ℕ)) (P : List 
     pub within : length text ≤ MOST_INPUT
     pub holds : P text
 
--- the text of a state, where there is one
+-- the text of a state, if there is one
 abbrev pub IsStateText : Option Texts → Option (List ℕ) → Option (List ℕ) → Type 0
 IsStateText told None text = text ≡ None
 IsStateText told (Some name) None = ⊥
 IsStateText told (Some name) (Some text) = IsTextOf told name text × (length text ≤ MOST_STATE)
 
--- the state was read where there is one, and P holds of its text
+-- the state was read if there is one, and P holds for its text
 pub record WithState (told : Option Texts) (name : Option (List ℕ)) (P : Option (List ℕ) → Type 0)
     : Type 0 where
   pub text : Option (List ℕ)
@@ -91,7 +91,7 @@ pub record WithState (told : Option Texts) (name : Option (List ℕ)) (P : Optio
 abbrev pub WritesOnly : Planned → Option (List ℕ) → Type 0
 WritesOnly p name = (p.writing ≡ None) ⊎ (option_map (λ w. w.name) p.writing ≡ name)
 
--- where there is a plan, P holds of it, and of the texts that the shelf tells, if it does
+-- if there is a plan, P holds for it, and for the contents that the file store knows, if it does
 abbrev pub GivesPlan : (told : Option Texts) → (P : Option Texts → Planned → Type 0)
     → Result Plan NoPlan → Type 0
 GivesPlan told P result = IfOk result (λ plan. P told (planned plan))

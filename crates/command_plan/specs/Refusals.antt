@@ -2,7 +2,7 @@
 use Rattle.std.specs.Prelude.{ℕ, ◌==◌, List, ◌++◌, codes, if◌then◌else◌}
 use Rattle.std.specs.Fmt.{decimal}
 use Rattle.class_table.specs.Refusal.{Refusal}
-use Rattle.rpp_words.specs.Texts.{line_end}
+use Rattle.pisa_scripts.specs.rpp_words.Texts.{line_end}
 
 abbrev pub refused : ℕ → ℕ → Refusal
 refused number at = record { number = number; at = at }

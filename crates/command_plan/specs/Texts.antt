@@ -2,12 +2,12 @@
 use Rattle.std.specs.Prelude.{ℕ, List, [], ◌++◌, codes, length}
 use Rattle.std.specs.Fmt.{decimal}
 use Rattle.pisa_asm.specs.declared.error.AsmError.{AsmError}
-use Rattle.pisa_image.specs.declared.error.ImageError.{ImageError}
-use Rattle.rpp_words.specs.Texts.{line_end}
-use Rattle.pisa_isa.specs.declared.cell.Cell.{Cell}
+use Rattle.pisa_loader.specs.pisa_image.declared.error.ImageError.{ImageError}
+use Rattle.pisa_scripts.specs.rpp_words.Texts.{line_end}
+use Rattle.pisa_scripts.specs.pisa_isa.declared.cell.Cell.{Cell}
 use Rattle.pisa_loader.specs.declared.error.LoadError.{LoadError}
 use Rattle.pisa_asm.specs.declared.error.AsmError.TheVariants as asm
-use Rattle.pisa_image.specs.declared.error.ImageError.TheVariants as image
+use Rattle.pisa_loader.specs.pisa_image.declared.error.ImageError.TheVariants as image
 use Rattle.pisa_loader.specs.declared.error.LoadError.TheVariants as load
 
 -- refused N NAME at L, with the number of the line, or without a place
@@ -38,7 +38,7 @@ image_line (image.ImageTrailing at) = codes "refused 34 ImageTrailing at "
     ++ (decimal at ++ line_end)
 image_line image.NoMemory = []
 
--- what is printed where the limits, the input or a state are refused
+-- what is printed if the limits, the input or a state are refused
 abbrev pub load_line : LoadError → List ℕ
 load_line load.HeapOrder = codes "refused 35 HeapOrder" ++ line_end
 load_line load.DeepRange = codes "refused 36 DeepRange" ++ line_end
@@ -49,7 +49,7 @@ load_line (load.BadInputLine line) = codes "refused 40 BadInputLine at "
     ++ (decimal line ++ line_end)
 load_line load.NoMemory = []
 
--- what is printed where this line of a script is no command
+-- what is printed if this line of a script is no command
 abbrev pub bad_command_line : (line : ℕ) → List ℕ
 bad_command_line line = codes "refused 39 BadCommand at " ++ (decimal line ++ line_end)
 

@@ -1,6 +1,6 @@
-//! What a command makes: a plan of a status, a text and at most one file, or the reason that stops
-//! it; with the files that commands read, and the lines on refusals and faults. Commands live in
-//! crates above this one, and the top call above them.
+//! The plan of a command: a status, a text and at most one file. Instead of a plan there may be the
+//! reason that stops the command. Here are also the files that commands read, and the lines on
+//! refusals and faults. Commands live in crates above this one, and the top call above them.
 #![tactic(auto)]
 
 mod plan;

@@ -42,7 +42,7 @@ pub struct Writing {
     pub bytes: Vec<u8>,
 }
 
-/// What is to be written, printed and answered.
+/// What is to be written, printed and returned.
 #[derive(Drop)]
 pub struct Plan {
     pub verdict: Verdict,

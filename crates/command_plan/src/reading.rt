@@ -2,8 +2,9 @@
 ghost use Rattle.std.specs.Prelude.{◌≡◌, ◌<◌, option_map, IfOk, string_bytes, ◌≤◌, [], ◌∷◌, length, Ok, None, Some};
 ghost use Rattle.command_plan.specs.Files.{state_of_names, OnlyReads, image_file, source, input_files, state_files, why_of, unread};
 ghost use Rattle.command_plan.specs.Plans.{IsInputText, IsStateText};
+ghost use Rattle.command_plan.specs.Reads.{Gave, Asks};
 ghost use Rattle.rpp_ports.specs.Ports.{IsTextOf};
-ghost use Rattle.rpp_tree.specs.declared.limits.TheConstants.{MOST_BYTES};
+ghost use Rattle.pisa_loader.specs.rpp_tree.declared.limits.TheConstants.{MOST_BYTES};
 ghost use Rattle.pisa_loader.specs.declared.input.TheConstants.{MOST_INPUT};
 
 use crate::plan::NoPlan;
@@ -36,6 +37,12 @@ pub fn read_file<S: Shelf>(
 ) -> Result<Vec<u8>, NoPlan>
     ensures text { IfOk result (λ bytes. IsTextOf (S.texts shelf.old) name.now bytes.items) }
     ensures within { IfOk result (λ bytes. length bytes.items ≤ limit) }
+    ensures gave { IfOk result (λ bytes. Gave (S.texts shelf.old)
+        (record { name = name.now; limit = limit } ∷ []) (bytes.items ∷ []) (S.events shelf.old)
+        (S.events shelf.new)) }
+    ensures asks { Asks (S.texts shelf.old) (S.faults shelf.old) (S.faults shelf.new)
+        (record { name = name.now; limit = limit } ∷ []) (S.events shelf.old)
+        (S.events shelf.new) result }
     ensures reads { OnlyReads (S.texts shelf.old) (S.texts shelf.new) (S.faults shelf.old)
         (S.faults shelf.new)
         (record { name = name.now; limit = limit } ∷ []) result }
@@ -86,7 +93,7 @@ pub struct Given {
     pub input: Vec<u8>,
 }
 
-/// A source, and an input where there is one; else the input is empty.
+/// A source, and an input if there is one; else the input is empty.
 pub fn read_given<S: Shelf>(
     alloc: Global,
     shelf: &mut S,
@@ -107,7 +114,7 @@ pub fn read_given<S: Shelf>(
     Ok(Given { text, input })
 }
 
-/// The text of an input where there is one; else it is empty.
+/// The text of an input if there is one; else it is empty.
 pub fn read_input_file<S: Shelf>(
     alloc: Global,
     shelf: &mut S,
@@ -125,14 +132,14 @@ pub fn read_input_file<S: Shelf>(
     }
 }
 
-/// The bytes of an image file, and of a state file where there is one.
+/// The bytes of an image file, and of a state file if there is one.
 #[derive(Drop)]
 pub struct Images {
     pub image: Vec<u8>,
     pub state: Option<Vec<u8>>,
 }
 
-/// An image, and a state where one is named.
+/// An image, and a state if one is named.
 pub fn read_images<S: Shelf>(
     alloc: Global,
     shelf: &mut S,
@@ -152,7 +159,7 @@ pub fn read_images<S: Shelf>(
     Ok(Images { image, state })
 }
 
-// The bytes of a state, where one is named.
+// The bytes of a state, if one is named.
 fn read_state<S: Shelf>(
     alloc: Global,
     shelf: &mut S,

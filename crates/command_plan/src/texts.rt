@@ -59,7 +59,7 @@ fn refusal_name(number: u32) -> &'static str
     }
 }
 
-/// What is printed where the limits, the input or a state are refused.
+/// What is printed if the limits, the input or a state are refused.
 pub fn load_line(alloc: Global, e: LoadError) -> Result<String, AllocError>
     ensures { IfOk result (λ line. string_bytes line ≡ line_of_load e) }
 {
@@ -77,14 +77,14 @@ pub fn load_line(alloc: Global, e: LoadError) -> Result<String, AllocError>
     }
 }
 
-/// What is printed where this line of a script is no command.
+/// What is printed if this line of a script is no command.
 pub fn bad_command_line(alloc: Global, line: u32) -> Result<String, AllocError>
     ensures { IfOk result (λ text. string_bytes text ≡ line_of_bad_command line) }
 {
     format!(in alloc; "refused 39 BadCommand at {line}\n")
 }
 
-/// A text with the line on the number of steps behind it.
+/// A text followed by the line on the number of steps.
 pub fn with_steps(text: String, spent: u64) -> Result<String, AllocError>
     ensures { IfOk result (λ longer. string_bytes longer ≡ string_bytes text ++ steps_line spent) }
 {
@@ -118,7 +118,7 @@ pub fn report_bound(alloc: Global, bound: u64) -> Result<Plan, AllocError>
     Ok(Plan::prints(Verdict::Bound, format!(in alloc; "bound\nsteps {bound}\n")?))
 }
 
-/// What is printed where an assembly text is refused.
+/// What is printed if an assembly text is refused.
 pub fn asm_line(alloc: Global, e: AsmError) -> Result<String, AllocError>
     ensures { IfOk result (λ line. string_bytes line ≡ line_of_asm e) }
 {
@@ -146,7 +146,7 @@ pub fn asm_line(alloc: Global, e: AsmError) -> Result<String, AllocError>
     }
 }
 
-/// What is printed where the bytes of an image are refused.
+/// What is printed if the bytes of an image are refused.
 pub fn image_line(alloc: Global, e: ImageError) -> Result<String, AllocError>
     ensures { IfOk result (λ line. string_bytes line ≡ line_of_image e) }
 {

@@ -1,8 +1,8 @@
 // Plans that write an image.
 ghost use Rattle.std.specs.Prelude.{◌≡◌, Ok, IfOk, OnOk, string_bytes};
-ghost use Rattle.pisa_isa.specs.declared.cell.Cell.{Cell};
-ghost use Rattle.pisa_image.specs.ImageBytes.{image_bytes};
-ghost use Rattle.pisa_image.specs.Reading.{image_at};
+ghost use Rattle.pisa_scripts.specs.pisa_isa.declared.cell.Cell.{Cell};
+ghost use Rattle.pisa_loader.specs.pisa_image.ImageBytes.{image_bytes};
+ghost use Rattle.pisa_loader.specs.pisa_image.Reading.{image_at};
 ghost use Rattle.command_plan.specs.Plans.{planned, writes};
 ghost use Rattle.command_plan.specs.Texts.{cells_line as line_of_cells};
 

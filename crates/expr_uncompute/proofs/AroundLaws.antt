@@ -1,11 +1,11 @@
--- The laws of pieces that find places and values around a middle.
+-- The laws of fragments that find places and values around a middle.
 use Rattle.std.proofs.Common.{◌≡◌, ℕ, ◌+◌, Bool, List, ◌∙◌}
 use Rattle.std.specs.Prelude.{Ok}
 use Rattle.rpp_tree.specs.Tree.{Expression, Null, Lvalue}
-use Rattle.pisa_isa.specs.Machine.{Memory}
-use Rattle.paired_code.specs.declared.part.Symbol.{Symbol}
-use Rattle.paired_code.specs.Machine.{Image, reg}
-use Rattle.refine_form.specs.declared.spot.Spot.{Spot}
+use Rattle.register_expressions.specs.pisa_isa.Machine.{Memory}
+use Rattle.register_expressions.specs.paired_code.declared.part.Symbol.{Symbol}
+use Rattle.register_expressions.specs.paired_code.Machine.{Image, reg}
+use Rattle.register_expressions.specs.refine_form.declared.spot.Spot.{Spot}
 use Rattle.register_expressions.specs.Code.{words, around}
 use Rattle.expr_uncompute.specs.Code.{place_words, found_place_cells, found_value_cells, found_places_cells}
 use Rattle.register_expressions.specs.Number.{number, read_of, index_of, place_address}
@@ -40,7 +40,7 @@ ready_again free n m cells' h c = record {
   empty = λ a lo hi. c.above a lo ∙ h.empty a lo hi;
 }
 
--- a piece that finds the same in both memories, around a middle
+-- a fragment that finds the same in both memories, around a middle
 encloses : (w mid : List Symbol) (k low n v a a' : ℕ) (m : Memory) (fill : List ℕ → List ℕ) (Kept : List ℕ → Type 0)
     → Goes w k m (found v a a' (fill m.cells) m) → Filled low n m.cells (fill m.cells)
     → ((cells' : List ℕ) → Changes low m.cells cells' → Kept cells'

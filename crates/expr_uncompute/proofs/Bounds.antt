@@ -7,11 +7,11 @@ use Rattle.rpp_tree.specs.declared.tree.BinOp.TheVariants as op
 use Rattle.rpp_tree.specs.declared.tree.UpdateOp.{UpdateOp}
 use Rattle.rpp_tree.specs.Tree.{Expression, Number, Null, Variable, Element, Binary, Lvalue, Whole, Item, nodes}
 use Rattle.rpp_tree.specs.Tree.{index_nodes}
-use Rattle.paired_code.specs.declared.part.Symbol.{Symbol}
-use Rattle.paired_code.specs.Layout.{check_differ_cells}
-use Rattle.refine_form.specs.declared.spot.Spot.{Spot}
-use Rattle.code_scope.specs.Visible.{offset_of}
-use Rattle.roopl_semantics.specs.Elements.{elements, index_elements, own_element, read_cost}
+use Rattle.register_expressions.specs.paired_code.declared.part.Symbol.{Symbol}
+use Rattle.register_expressions.specs.paired_code.Layout.{check_differ_cells}
+use Rattle.register_expressions.specs.refine_form.declared.spot.Spot.{Spot}
+use Rattle.register_expressions.specs.code_scope.Visible.{offset_of}
+use Rattle.register_expressions.specs.roopl_semantics.Elements.{elements, index_elements, own_element, read_cost}
 use Rattle.register_expressions.specs.Number.{index_of}
 use Rattle.register_expressions.specs.Code as cells
 use Rattle.expr_uncompute.specs.Code
@@ -32,9 +32,11 @@ use Rattle.register_expressions.proofs.HeldBounds.{element_length, held_value_mo
 use Rattle.register_expressions.proofs.HeldBounds.{held_least, held_length, held_value_least, held_test_least}
 use Rattle.register_expressions.proofs.HeldBounds.{held_value_length, held_test_length}
 use Rattle.expr_uncompute.specs.Found.{found_place_steps, found_value_steps, found_places_steps}
-use Rattle.code_conventions.specs.declared.faults.TheConstants.{SHARED_ARRAY}
-use Rattle.code_conventions.specs.declared.registers.TheConstants.{AMOUNT, CONTENT, FIRST_WORD, ITEM, LEFT, OTHER_PLACE}
-use Rattle.code_conventions.specs.declared.registers.TheConstants.{PLACE, RIGHT, SECOND_WORD, TRUTH}
+use Rattle.register_expressions.specs.code_conventions.declared.faults.TheConstants.{SHARED_ARRAY}
+use Rattle.register_expressions.specs.code_conventions.declared.registers.TheConstants.{AMOUNT, CONTENT, FIRST_WORD}
+use Rattle.register_expressions.specs.code_conventions.declared.registers.TheConstants.{ITEM, LEFT, OTHER_PLACE}
+use Rattle.register_expressions.specs.code_conventions.declared.registers.TheConstants.{PLACE, RIGHT, SECOND_WORD}
+use Rattle.register_expressions.specs.code_conventions.declared.registers.TheConstants.{TRUTH}
 
 -- ---- steps
 
@@ -110,7 +112,7 @@ compare_is (Binary at op left right) =
     let b = compare_is right in
     omega (arith, length-append (elements left) (elements right))
 
--- where no element is read there is nothing to compare
+-- if no element is read there is nothing to compare
 compare_none : (e : Expression) → has_element e ≡ false → compare_steps e ≡ 0
 compare_none (Number at word) h = refl
 compare_none (Null at) h = refl
@@ -134,7 +136,7 @@ apart_is (Item name index) e =
     let b = compare_is e in
     omega (arith, length-append (elements index) (elements e))
 
--- and what a swap compares: twice so much where both places are elements
+-- and what a swap compares: twice so much if both places are elements
 both_apart_most : (left right : Lvalue) → both_apart_steps left right ≤ 32 * read_cost
     (own_element left ++ own_element right) (index_elements left ++ index_elements right)
 both_apart_most (Whole name) (Whole other) = omega arith
@@ -160,7 +162,8 @@ both_apart_least (Item name index) right =
     let b = index_compare_is right in
     omega (arith, length-append (elements index) (index_elements right))
 
--- a statement counts 1 beside its nodes, and 1 for each element that it reads where it changes one
+-- a statement counts 1 in addition to its nodes, and 1 for each element that it reads if it changes
+-- one
 found_update_most : (target : Lvalue) (e : Expression) → found_update_steps target e ≤ 162 *
     (1 + index_nodes target + nodes e + read_cost (own_element target) (index_elements target ++ elements e))
 found_update_most target e = let a = place_less target in let b = fetch_most e in let c = apart_is target e in
@@ -259,14 +262,6 @@ pub place_words_most : (target : Lvalue) → Code.place_words target ≤ index_n
 place_words_most (Whole name) = omega arith
 place_words_most (Item name index) = let a = words_most index in omega arith
 
--- and has few tokens for its nodes
-pub tokens_most : (e : Expression) → tokens e ≤ 3 * nodes e
-tokens_most (Number at word) = omega arith
-tokens_most (Null at) = omega arith
-tokens_most (Variable name) = omega arith
-tokens_most (Element name index) = let a = tokens_most index in omega arith
-tokens_most (Binary at o left right) = let a = tokens_most left in let b = tokens_most right in omega arith
-
 -- ---- cells
 
 module _ (spot : List ℕ → Spot) (free : ℕ) where
@@ -278,9 +273,11 @@ module _ (spot : List ℕ → Spot) (free : ℕ) where
   operand_cells (Null at) i into = omega arith
   operand_cells (Variable name) i into = let h = copy_cells (spot name.text) into in omega arith
   operand_cells (Element name index) i into = let h = copy_cells
-      (Rattle.refine_form.specs.declared.spot.Spot.TheVariants.Frame (free + i)) into in omega arith
+      (Rattle.register_expressions.specs.refine_form.declared.spot.Spot.TheVariants.Frame (free + i)) into in
+      omega arith
   operand_cells (Binary at o left right) i into = let h =
-      copy_cells (Rattle.refine_form.specs.declared.spot.Spot.TheVariants.Frame (free + i)) into in omega arith
+      copy_cells (Rattle.register_expressions.specs.refine_form.declared.spot.Spot.TheVariants.Frame (free + i)) into in
+      omega arith
 
   operator_cells : (o : BinOp) → length (cells.operator_cells o) ≤ 5
   operator_cells op.Add = omega arith
@@ -353,7 +350,8 @@ module _ (spot : List ℕ → Spot) (free : ℕ) where
   prepare_cells (Variable name) i = omega arith
   prepare_cells (Element name index) i =
       let whole : Expression = Element name index in
-      let s = cells.store_cells (Rattle.refine_form.specs.declared.spot.Spot.TheVariants.Frame (free + i)) ITEM
+      let s = cells.store_cells (Rattle.register_expressions.specs.refine_form.declared.spot.Spot.TheVariants.Frame
+      (free + i)) ITEM
       in
       let a = prepare_cells index (i + 1) in
       let c = open_cells whole i in
@@ -362,11 +360,13 @@ module _ (spot : List ℕ → Spot) (free : ℕ) where
         length-append (Code.prepare_cells spot free index (i + 1))
             (cells.around (Code.open_cells spot free whole i) s),
         length_around (Code.open_cells spot free whole i) s,
-        store_cells (Rattle.refine_form.specs.declared.spot.Spot.TheVariants.Frame (free + i)) ITEM,
+        store_cells (Rattle.register_expressions.specs.refine_form.declared.spot.Spot.TheVariants.Frame (free + i))
+            ITEM,
       )
   prepare_cells (Binary at o left right) i =
       let whole : Expression = Binary at o left right in
-      let s = cells.store_cells (Rattle.refine_form.specs.declared.spot.Spot.TheVariants.Frame (free + i))
+      let s = cells.store_cells (Rattle.register_expressions.specs.refine_form.declared.spot.Spot.TheVariants.Frame
+      (free + i))
       (cells.operator_result o) in
       let p = Code.prepare_cells spot free left (i + 1) in
       let r = Code.prepare_cells spot free right (i + 1 + cells.words left) in
@@ -378,11 +378,11 @@ module _ (spot : List ℕ → Spot) (free : ℕ) where
         length-append (p ++ r) (cells.around (Code.open_cells spot free whole i) s),
         length-append p r,
         length_around (Code.open_cells spot free whole i) s,
-        store_cells (Rattle.refine_form.specs.declared.spot.Spot.TheVariants.Frame (free + i))
+        store_cells (Rattle.register_expressions.specs.refine_form.declared.spot.Spot.TheVariants.Frame (free + i))
             (cells.operator_result o),
       )
 
-  -- the parts and the opened node, with room for nine cells
+  -- the subexpressions and the opened node, with space for nine cells
   both_cells : (e : Expression) (i : ℕ) → length (Code.parts_cells spot free e i) + length
       (Code.open_cells spot free e i) + 9 ≤ 29 * tokens e
   both_cells (Number at word) i = omega arith
@@ -726,7 +726,7 @@ module _ (spot : List ℕ → Spot) (free : ℕ) where
       by false = found_swap_cells (Item name index) (Whole other)
   swap_cells (Item name index) (Item other k) = found_swap_cells (Item name index) (Item other k)
 
--- ---- and how many at least: a step stands for three counts at most
+-- ---- and at least how many: a step is worth at most three cost units
 
 prepare_least : (e : Expression) → nodes e ≤ prepare_steps e + 1
 prepare_least (Number at word) = omega arith

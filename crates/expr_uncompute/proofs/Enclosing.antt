@@ -1,12 +1,12 @@
--- A piece that leads on, around a middle whose run ends within bounds.
+-- A fragment that leads on, around a middle whose run ends within bounds.
 use Rattle.std.proofs.Common.{ℕ, ◌+◌, Bool, true, false, List, ◌++◌, arith}
-use Rattle.pisa_isa.specs.Machine.{Memory}
-use Rattle.paired_code.specs.declared.part.Symbol.{Symbol}
-use Rattle.paired_code.specs.Machine.{Image}
-use Rattle.paired_code.specs.Layout.{mirror_cells}
-use Rattle.paired_code.specs.Pieces.{Outcome, Done, Will, after}
-use Rattle.paired_code.proofs.Laws.{Next, will_of, will_more, will_seq, will_seq_back}
-use Rattle.paired_code.proofs.Contract.{mirror_law}
+use Rattle.register_expressions.specs.pisa_isa.Machine.{Memory}
+use Rattle.register_expressions.specs.paired_code.declared.part.Symbol.{Symbol}
+use Rattle.register_expressions.specs.paired_code.Machine.{Image}
+use Rattle.register_expressions.specs.paired_code.Layout.{mirror_cells}
+use Rattle.register_expressions.specs.paired_code.Pieces.{Outcome, Done, Will, after}
+use Rattle.register_expressions.proofs.paired_code_laws.Laws.{Next, will_of, will_more, will_seq, will_seq_back}
+use Rattle.register_expressions.proofs.paired_code_laws.Contract.{mirror_law}
 use Rattle.register_expressions.specs.Code.{around}
 use Rattle.expr_uncompute.specs.Found.{LeavesWithin, leaves_within, TrapsWithin, traps_within}
 use Rattle.register_expressions.proofs.Goes.{Goes}
@@ -14,9 +14,6 @@ use Rattle.register_expressions.proofs.Goes.{Goes}
 -- the middle leaves, and so does the whole
 module _ (im : Image) (w mid : List Symbol) (j least most : ℕ) (m m1 m2 m' : Memory) (g : Goes w j m m1)
     (h : Goes w j m' m2) where
-  abbrev Ends : Outcome → Type 0
-  Ends = LeavesWithin m' (j + (least + j)) (j + (most + j))
-
   away : (o : Outcome) → LeavesWithin m2 least most o → Next
       (λ z k. Will im (mirror_cells w) false z (λ o. LeavesWithin m' (j + (least + j)) (j + (most + j))
       (after j (after k o)))) (λ o. LeavesWithin m' (j + (least + j)) (j + (most + j)) (after j o)) o

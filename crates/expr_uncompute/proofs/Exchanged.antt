@@ -6,13 +6,13 @@ use Rattle.std.specs.Prelude.{slice_index, slice_set, nat_eq, not, if◌then◌e
 use Rattle.std.proofs.lemmas.List.{get_or-set_same, get_or-set_other, set_comm, set-set}
 use Rattle.std.proofs.lemmas.Bool.{cases_eq}
 use Rattle.std.proofs.lemmas.Bool.Decides.{nat_tests}
-use Rattle.code_conventions.specs.declared.memory.TheConstants.{HEADER_WORDS}
-use Rattle.pisa_isa.specs.Machine.{Memory}
-use Rattle.code_conventions.specs.declared.registers.TheConstants.{FIRST_WORD, RIGHT, SECOND_WORD}
-use Rattle.paired_code.specs.declared.part.Symbol.{Symbol}
-use Rattle.refine_form.specs.declared.spot.Spot.{Spot}
-use Rattle.refine_form.specs.declared.spot.Spot.TheVariants.{Field, Frame}
-use Rattle.code_scope.specs.Visible.{offset_of}
+use Rattle.register_expressions.specs.code_conventions.declared.memory.TheConstants.{HEADER_WORDS}
+use Rattle.register_expressions.specs.pisa_isa.Machine.{Memory}
+use Rattle.register_expressions.specs.code_conventions.declared.registers.TheConstants.{FIRST_WORD, RIGHT, SECOND_WORD}
+use Rattle.register_expressions.specs.paired_code.declared.part.Symbol.{Symbol}
+use Rattle.register_expressions.specs.refine_form.declared.spot.Spot.{Spot}
+use Rattle.register_expressions.specs.refine_form.declared.spot.Spot.TheVariants.{Field, Frame}
+use Rattle.register_expressions.specs.code_scope.Visible.{offset_of}
 use Rattle.register_expressions.specs.Code.{addi, exch, base_of}
 use Rattle.expr_uncompute.specs.Code.{onward, four_exchanges, swap_at, swap_by_one, have_one_base, swap_spots}
 use Rattle.register_expressions.specs.Number.{Bases, address_of}
@@ -38,7 +38,7 @@ module _ (both : (x y : ℕ) → List ℕ → Memory) (p q : ℕ) (first_p secon
   abbrev four : List Symbol
   four = first_p ∷ second_q ∷ second_p ∷ first_q ∷ []
 
-  -- whatever stands there
+  -- whatever is there
   four_go : (ys ws1 ws2 ws3 ws4 : List ℕ) (x y y' x' : ℕ) → p < length ys → q < length ys
       → slice_index ys p ≡ x → slice_set ys p 0 ≡ ws1 → slice_index ws1 q ≡ y → slice_set ws1 q 0 ≡ ws2
       → slice_index ws2 p ≡ y' → slice_set ws2 p y ≡ ws3 → slice_index ws3 q ≡ x' → slice_set ws3 q x ≡ ws4
@@ -126,7 +126,7 @@ module _ (b : Bases) (f : ℕ → ℕ) where
       (mem (onto b x y) f (keeping 0 0 0) zs)
   both_at x y zs h k = goes_cons (there_goes b f (keeping 0 0 0) zs x h) (on_goes b f (keeping 0 0 0) zs x y h k)
 
-  -- both bases stand at their spots
+  -- both bases are at their storage slots
   at_goes : (x y : Spot) (zs : List ℕ) → stand (onto b x y) x ≡ address_of b x → address_of b x < length zs
       → address_of b y < length zs → length zs ≤ 2 ^ 31 → Goes (swap_at x y) 8 (mem b f (keeping 0 0 0) zs)
       (mem b f (keeping 0 0 0) (swapped_at (address_of b x) (address_of b y) zs))
@@ -210,7 +210,8 @@ module _ (b : Bases) (f : ℕ → ℕ) where
       go true e = by_one_goes x y zs (differ x y e) h k small
       go false e = at_goes x y zs (meet x y e) h k small
 
--- ---- a variable, at whose word its base stands, and an element whose address is in the register of its array
+-- ---- a variable, whose word holds its base, and an element whose address is in the register of
+-- its array
 
 module _ (b : Bases) (f : ℕ → ℕ) (i a : ℕ) where
   abbrev beside : (x y : ℕ) → Scratch

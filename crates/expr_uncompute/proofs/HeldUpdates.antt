@@ -1,21 +1,22 @@
--- A word updated by a value whose parts stand in registers: of a variable, or of an element that is found once.
+-- A word updated by a value whose subexpressions are in registers: the word of a variable, or of an
+-- element that is found once.
 use Rattle.std.proofs.Common.{◌≡◌, ◌≢◌, ℕ, zero, suc, ◌+◌, ◌-◌, ◌^◌, ◌<◌, ◌≤◌, ◌⊎◌, inl, inr, List, [], ◌∷◌, ◌++◌, ◌*◌}
 use Rattle.std.proofs.Common.{length, false}
 use Rattle.std.proofs.Common.{length-set, refl, sym, ap, ◌∙◌, subst, arith}
 use Rattle.std.specs.Prelude.{true, slice_index, slice_set, Ok, Err}
 use Rattle.std.proofs.lemmas.List.{get_or-set_same, set-set}
-use Rattle.rpp_words.specs.Words.{sum_of, difference_of}
+use Rattle.register_expressions.specs.rpp_words.Words.{sum_of, difference_of}
 use Rattle.rpp_tree.specs.declared.tree.UpdateOp.{UpdateOp}
 use Rattle.rpp_tree.specs.declared.tree.UpdateOp.TheVariants as update
 use Rattle.rpp_tree.specs.declared.tree.Ident.{Ident}
 use Rattle.rpp_tree.specs.Tree.{Expression, Number, Null, Variable, Element, Binary}
 use Rattle.std.specs.Prelude.{bit_xor}
-use Rattle.pisa_isa.specs.Machine.{Memory}
-use Rattle.code_conventions.specs.declared.registers.TheConstants.{CONTENT, FRAME, OBJECT}
-use Rattle.paired_code.specs.declared.part.Symbol.{Symbol}
-use Rattle.roopl_semantics.specs.Operators.{updated}
-use Rattle.refine_form.specs.declared.spot.Spot.{Spot}
-use Rattle.refine_form.specs.declared.spot.Spot.TheVariants.{Field, Frame}
+use Rattle.register_expressions.specs.pisa_isa.Machine.{Memory}
+use Rattle.register_expressions.specs.code_conventions.declared.registers.TheConstants.{CONTENT, FRAME, OBJECT}
+use Rattle.register_expressions.specs.paired_code.declared.part.Symbol.{Symbol}
+use Rattle.register_expressions.specs.roopl_semantics.Operators.{updated}
+use Rattle.register_expressions.specs.refine_form.declared.spot.Spot.{Spot}
+use Rattle.register_expressions.specs.refine_form.declared.spot.Spot.TheVariants.{Field, Frame}
 use Rattle.register_expressions.specs.Code.{around, base_of, reach_cells, part}
 use Rattle.expr_uncompute.specs.Code.{update_cell}
 use Rattle.register_expressions.specs.Code.{held_cells, element_cells}
@@ -116,7 +117,7 @@ part_not : (sp : Spot) → part 0 ≢ base_of sp
 part_not (Field i) e = omega arith
 part_not (Frame i) e = omega arith
 
--- the word of a spot
+-- the word of a storage slot
 word_goes : (b : Bases) (op : UpdateOp) (g : ℕ → ℕ) (zs : List ℕ) (sp : Spot) (v : ℕ) → g OBJECT ≡ b.object
     → g FRAME ≡ b.frame → g CONTENT ≡ 0 → g (part 0) ≡ v → AllWords zs → v < 2 ^ 32 → address_of b sp < length zs
     → length zs ≤ 2 ^ 31
@@ -200,7 +201,7 @@ module _ (b : Bases) (spot : List ℕ → Spot) (low : ℕ) (zs zs' : List ℕ) 
     abbrev wide : Changes 32 b either (held_cells spot e k) (held_steps e) k 9
     wide = more_change 32 b either (omega arith) (omega arith) opened.change
 
-    -- the value opened behind what stands in front, a change of that word, and back
+    -- the value opened after what precedes it, a change of that word, and the inverse
     pub opened_around : {front mid : List Symbol} {j t : ℕ} {z z' : Memory} (g : ℕ → ℕ) → Free b k 9 g
         → Goes front j z (known 32 g zs) → Goes front j z' (known 32 g zs')
         → ((h : ℕ → ℕ) → ((r : ℕ) → r < part k → h r ≡ g r) → h (part k) ≡ v → v < 2 ^ 32
@@ -292,7 +293,7 @@ module _ (b : Bases) (f : ℕ → ℕ) (spot : List ℕ → Spot) (low : ℕ) (o
       (is FRAME (omega arith) ∙ free.frame_is) (is CONTENT (omega arith) ∙ free.content_is) has all vw
       (rw at below) small)))
 
-  -- an element whose index and address stand in registers below the value
+  -- an element whose index and address are in registers below the value
   pub near_update_goes : (name : Ident) (index : Expression) → 2 + need index + need e < 10
       → has_element index ≡ false → Sees spot b low zs (Element name index) → Sees spot b low zs' (Element name index)
       → Same spot b zs zs' index → (n : IsInside zs (word_of spot b zs name.text) (number spot b zs index) a)

@@ -1,8 +1,8 @@
--- The words that places and values fill, where words below them change.
+-- The words that places and values fill, if words below them change.
 use Rattle.std.proofs.Common.{◌≡◌, ℕ, ◌+◌, ◌≤◌, inr, List, length, refl, sym, ap, ◌∙◌, arith}
 use Rattle.std.specs.Prelude.{slice_index, slice_set}
 use Rattle.rpp_tree.specs.Tree.{Expression, Number, Null, Variable, Element, Binary, Lvalue, Whole, Item}
-use Rattle.refine_form.specs.declared.spot.Spot.{Spot}
+use Rattle.register_expressions.specs.refine_form.declared.spot.Spot.{Spot}
 use Rattle.register_expressions.specs.Code.{words}
 use Rattle.expr_uncompute.specs.Code.{place_words}
 use Rattle.register_expressions.specs.Number.{Bases, given, number, read_of, Sees, Same, SamePlace}
@@ -23,7 +23,7 @@ module _ (spot : List ℕ → Spot) (free : ℕ) (b : Bases) where
   abbrev pub From : List ℕ → List ℕ → Type 0
   From zs zs' = (a : ℕ) → b.frame + free ≤ a → slice_index zs' a ≡ slice_index zs a
 
-  -- what is stored depends on the numbers alone
+  -- what is stored depends only on the numbers
   pub stored_from : (e : Expression) (i : ℕ) (zs zs' : List ℕ) → length zs' ≡ length zs → Sees spot b low zs e
       → Sees spot b low zs' e → Same spot b zs zs' e → From zs zs'
       → From (stored spot free b e i zs) (stored spot free b e i zs')

@@ -3,12 +3,12 @@ use Rattle.std.proofs.Common.{◌≡◌, ◌≢◌, ℕ, ◌+◌, ◌^◌, ◌<�
 use Rattle.std.proofs.Common.{ap, ◌∙◌, arith}
 use Rattle.std.specs.Prelude.{slice_index, slice_set, nat_eq, ◌||◌}
 use Rattle.std.proofs.lemmas.Bool.Decides.{nat_tests}
-use Rattle.pisa_isa.specs.Machine.{Memory}
+use Rattle.register_expressions.specs.pisa_isa.Machine.{Memory}
 use Rattle.rpp_tree.specs.Tree.{Expression, Number, Null, Variable, Element, Binary, Lvalue, Whole, Item}
-use Rattle.code_conventions.specs.declared.faults.TheConstants.{SHARED_ARRAY}
-use Rattle.code_conventions.specs.declared.registers.TheConstants.{CONTENT, LEFT}
-use Rattle.paired_code.specs.Layout.{Differ}
-use Rattle.refine_form.specs.declared.spot.Spot.{Spot}
+use Rattle.register_expressions.specs.code_conventions.declared.faults.TheConstants.{SHARED_ARRAY}
+use Rattle.register_expressions.specs.code_conventions.declared.registers.TheConstants.{CONTENT, LEFT}
+use Rattle.register_expressions.specs.paired_code.Layout.{Differ}
+use Rattle.register_expressions.specs.refine_form.declared.spot.Spot.{Spot}
 use Rattle.register_expressions.specs.Number.{Bases, address_of, word_of, read_of, index_of, reads_array, shares}
 use Rattle.register_expressions.specs.Number.{swap_shares, Sees}
 use Rattle.register_expressions.specs.Code.{reach_cells, copy_cells}
@@ -25,7 +25,7 @@ neither false y e = (refl, e)
 neither true y e = absurd (cc)
 
 module _ (spot : List ℕ → Spot) (b : Bases) (low : ℕ) where
-  -- what is read stands below an address: there the words decide
+  -- what is read is below an address: there the words decide
   pub reads_same : (zs zs' : List ℕ) → Agree low zs zs' → (y : ℕ) (e : Expression) → Sees spot b low zs e
       → reads_array spot b zs' y e ≡ reads_array spot b zs y e
   reads_same zs zs' ag y (Number at word) s = refl

@@ -5,14 +5,14 @@ use Rattle.std.specs.Prelude.{slice_index, slice_set}
 use Rattle.std.specs.Int.Bits.{xor_self}
 use Rattle.std.proofs.lemmas.List.{get_or-set_same, get_or-set_other, set_comm, set-set}
 use Rattle.std.proofs.lemmas.Bool.{cases_eq}
-use Rattle.rpp_words.specs.Words.{sum_of, difference_of}
+use Rattle.register_expressions.specs.rpp_words.Words.{sum_of, difference_of}
 use Rattle.rpp_tree.specs.declared.tree.UpdateOp.{UpdateOp}
 use Rattle.rpp_tree.specs.declared.tree.UpdateOp.TheVariants as update
-use Rattle.pisa_isa.specs.Machine.{Memory}
-use Rattle.code_conventions.specs.declared.registers.TheConstants.{AMOUNT, CONTENT}
-use Rattle.roopl_semantics.specs.Operators.{updated}
-use Rattle.refine_form.specs.declared.spot.Spot.{Spot}
-use Rattle.code_scope.specs.Visible.{offset_of}
+use Rattle.register_expressions.specs.pisa_isa.Machine.{Memory}
+use Rattle.register_expressions.specs.code_conventions.declared.registers.TheConstants.{AMOUNT, CONTENT}
+use Rattle.register_expressions.specs.roopl_semantics.Operators.{updated}
+use Rattle.register_expressions.specs.refine_form.declared.spot.Spot.{Spot}
+use Rattle.register_expressions.specs.code_scope.Visible.{offset_of}
 use Rattle.register_expressions.specs.Code.{around, addi, exch, base_of, reach_cells}
 use Rattle.expr_uncompute.specs.Code.{update_cell, number_cell, onward, both_reached}
 use Rattle.register_expressions.specs.Number.{Bases, address_of}

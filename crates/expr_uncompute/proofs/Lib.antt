@@ -1,3 +1,8 @@
+pub use Rattle.register_expressions.proofs.meaning_sound_laws
+pub use Rattle.register_expressions.proofs.refine_frame_laws
+pub use Rattle.register_expressions.proofs.refine_form_laws
+pub use Rattle.register_expressions.proofs.code_scope_laws
+pub use Rattle.register_expressions.proofs as register_expressions_laws
 pub mod Stored
 pub mod Opening
 pub mod Nodes

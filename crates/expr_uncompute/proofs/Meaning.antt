@@ -6,11 +6,11 @@ use Rattle.std.proofs.lemmas.Bool.{cases_lt, cases_eq}
 use Rattle.rpp_tree.specs.declared.tree.BinOp.{BinOp}
 use Rattle.rpp_tree.specs.declared.tree.BinOp.TheVariants as op
 use Rattle.rpp_tree.specs.Tree.{Expression, Number, Null, Variable, Element, Binary, Lvalue, Whole, Item, Source}
-use Rattle.roopl_semantics.specs.Operators.{operated, truth_word}
-use Rattle.roopl_semantics.specs.Store.{Value, Word, Nil, Name, State, number_of, object_at}
-use Rattle.roopl_semantics.specs.Value.{Part, variable_value, read_cell, value, cell_of, element_cell, element_of}
-use Rattle.roopl_semantics.specs.Value.{combined as combined_values}
-use Rattle.refine_form.specs.declared.spot.Spot.{Spot}
+use Rattle.register_expressions.specs.roopl_semantics.Operators.{operated, truth_word}
+use Rattle.register_expressions.specs.roopl_semantics.Store.{Value, Word, Nil, Name, State, number_of, object_at}
+use Rattle.register_expressions.specs.roopl_semantics.Value.{Part, variable_value, read_cell, value, cell_of, element_cell, element_of}
+use Rattle.register_expressions.specs.roopl_semantics.Value.{combined as combined_values}
+use Rattle.register_expressions.specs.refine_form.declared.spot.Spot.{Spot}
 use Rattle.register_expressions.specs.Number.{Bases, word_of, number, place_address, element_address, element_at}
 use Rattle.register_expressions.specs.Number.{word_in, combined}
 use Rattle.expr_uncompute.specs.Means.{is_equation, shown, shown_result, cell_result, AreOperands, words, compared}

@@ -1,18 +1,19 @@
--- The laws of values and tests in the form in which pieces meet the source, with counts and steps.
+-- The laws of values and conditions in the form in which fragments meet the source, with counts and
+-- steps.
 use Rattle.std.proofs.Common.{◌≡◌, ℕ, ◌≤◌, Bool, List, refl, sym, ap, arith}
 use Rattle.std.specs.Prelude.{bit_xor, Result, Ok, Err}
 use Rattle.rpp_tree.specs.Tree.{Expression, Source, nodes}
-use Rattle.pisa_isa.specs.Machine.{Memory}
-use Rattle.paired_code.specs.declared.part.Symbol.{Symbol}
-use Rattle.paired_code.specs.Machine.{Image, reg, with_reg}
-use Rattle.paired_code.specs.Pieces.{Will}
-use Rattle.paired_code.specs.Does.{Rates, Told, Fine, Fault, Meets, fine, faults}
-use Rattle.paired_code.proofs.Laws.{will_of}
-use Rattle.roopl_semantics.specs.Operators.{is_true, truth_word}
-use Rattle.roopl_semantics.specs.Store.{Value, State}
-use Rattle.roopl_semantics.specs.Value.{value}
-use Rattle.roopl_semantics.specs.Execution.{holds}
-use Rattle.refine_form.specs.declared.spot.Spot.{Spot}
+use Rattle.register_expressions.specs.pisa_isa.Machine.{Memory}
+use Rattle.register_expressions.specs.paired_code.declared.part.Symbol.{Symbol}
+use Rattle.register_expressions.specs.paired_code.Machine.{Image, reg, with_reg}
+use Rattle.register_expressions.specs.paired_code.Pieces.{Will}
+use Rattle.register_expressions.specs.paired_code.Does.{Rates, Told, Fine, Fault, Meets, fine, faults}
+use Rattle.register_expressions.proofs.paired_code_laws.Laws.{will_of}
+use Rattle.register_expressions.specs.roopl_semantics.Operators.{is_true, truth_word}
+use Rattle.register_expressions.specs.roopl_semantics.Store.{Value, State}
+use Rattle.register_expressions.specs.roopl_semantics.Value.{value}
+use Rattle.register_expressions.specs.roopl_semantics.Execution.{holds}
+use Rattle.register_expressions.specs.refine_form.declared.spot.Spot.{Spot}
 use Rattle.register_expressions.specs.Code.{words}
 use Rattle.expr_uncompute.specs.Steps.{value_steps, test_steps}
 use Rattle.register_expressions.specs.Laws.{bases_of, Ready, Xored, truth_of}
@@ -50,7 +51,7 @@ module _ (address slot : ℕ → ℕ) (program : Source) (spot : List ℕ → Sp
       by (Err c) r = will_of im p d m _ _ r.2 (faults (let h = rated 162 b.steps (value_steps e) (nodes e) many
           (value_most e) in omega (arith, r.1)))
 
-  -- the truth of it
+  -- the truth value of it
   pub test_meets : IsInt address slot (value program st e) → TestLaw spot free into e p
       → Will im p d m (Meets (λ t m1. m1 ≡ with_reg m into (bit_xor (reg m into) (truth_word t))) b n 0
       (told_test (nodes e) (value program st e)))

@@ -3,13 +3,13 @@ use Rattle.std.proofs.Common.{◌≡◌, ◌≢◌, ℕ, ◌+◌, ◌^◌, ◌<�
 use Rattle.std.proofs.Common.{arith}
 use Rattle.std.specs.Prelude.{slice_index, slice_set, Result, Ok, Err}
 use Rattle.std.proofs.lemmas.List.{get_or-set_other, set_comm}
-use Rattle.code_conventions.specs.declared.memory.TheConstants.{HEADER_WORDS}
+use Rattle.register_expressions.specs.code_conventions.declared.memory.TheConstants.{HEADER_WORDS}
 use Rattle.rpp_tree.specs.declared.tree.BinOp.{BinOp}
 use Rattle.rpp_tree.specs.declared.tree.BinOp.TheVariants as op
 use Rattle.rpp_tree.specs.declared.tree.Ident.{Ident}
 use Rattle.rpp_tree.specs.Tree.{Expression, Element, Binary}
-use Rattle.refine_form.specs.declared.spot.Spot.{Spot}
-use Rattle.refine_form.specs.declared.spot.Spot.TheVariants.{Frame}
+use Rattle.register_expressions.specs.refine_form.declared.spot.Spot.{Spot}
+use Rattle.register_expressions.specs.refine_form.declared.spot.Spot.TheVariants.{Frame}
 use Rattle.register_expressions.specs.Code.{words, around, store_cells, operator_result}
 use Rattle.expr_uncompute.specs.Code.{open_cells}
 use Rattle.register_expressions.specs.Number.{Bases, given, word_of, number, element_at, Sees}
@@ -24,7 +24,7 @@ use Rattle.register_expressions.proofs.Numbers.{Agree, AllWords, number_same, se
 use Rattle.expr_uncompute.proofs.Stored.{home, Reads, reads_same}
 use Rattle.expr_uncompute.proofs.Opening.{Room, Parted, element_place, opened, open_goes, open_gives, result_has}
 use Rattle.register_expressions.proofs.Ways.{ok_is, inside_of, address_of_word}
-use Rattle.code_conventions.specs.declared.registers.TheConstants.{CONTENT, ITEM}
+use Rattle.register_expressions.specs.code_conventions.declared.registers.TheConstants.{CONTENT, ITEM}
 
 operator_apart : (o : BinOp) → operator_result o ≢ CONTENT
 operator_apart op.Add e = omega arith

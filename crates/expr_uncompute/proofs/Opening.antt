@@ -1,12 +1,12 @@
--- The value of a node in its register, where its parts are prepared.
+-- The value of a node in its register, if its parts are prepared.
 use Rattle.std.proofs.Common.{◌≡◌, ◌≢◌, ℕ, ◌+◌, ◌^◌, ◌<◌, ◌≤◌, List, [], ◌∷◌, length, refl, sym, ap, ◌∙◌, subst, arith}
 use Rattle.std.specs.Prelude.{slice_index, slice_set, Result, Ok, Err}
-use Rattle.code_conventions.specs.declared.memory.TheConstants.{HEADER_WORDS}
+use Rattle.register_expressions.specs.code_conventions.declared.memory.TheConstants.{HEADER_WORDS}
 use Rattle.rpp_tree.specs.Tree.{Expression, Number, Null, Variable, Element, Binary}
-use Rattle.paired_code.specs.Machine.{reg}
-use Rattle.roopl_semantics.specs.Operators.{operated}
-use Rattle.refine_form.specs.declared.spot.Spot.{Spot}
-use Rattle.refine_form.specs.declared.spot.Spot.TheVariants.{Frame}
+use Rattle.register_expressions.specs.paired_code.Machine.{reg}
+use Rattle.register_expressions.specs.roopl_semantics.Operators.{operated}
+use Rattle.register_expressions.specs.refine_form.declared.spot.Spot.{Spot}
+use Rattle.register_expressions.specs.refine_form.declared.spot.Spot.TheVariants.{Frame}
 use Rattle.register_expressions.specs.Code.{words}
 use Rattle.expr_uncompute.specs.Code.{operand_cells, checked_cells}
 use Rattle.register_expressions.specs.Code.{point_cells, exch}
@@ -25,7 +25,7 @@ use Rattle.register_expressions.proofs.Numbers.{AllWords, number_word}
 use Rattle.expr_uncompute.proofs.Stored.{home, Reads}
 use Rattle.register_expressions.proofs.Ways.{ok_is, both_ok, inside_of, fault_of, address_of_word, fault_of_word}
 use Rattle.register_expressions.proofs.Ways.{IsFault, by_index, by_nil, by_end}
-use Rattle.code_conventions.specs.declared.registers.TheConstants.{LEFT, RIGHT}
+use Rattle.register_expressions.specs.code_conventions.declared.registers.TheConstants.{LEFT, RIGHT}
 
 module _ (spot : List ℕ → Spot) (free : ℕ) (b : Bases) where
   abbrev low : ℕ
@@ -119,7 +119,7 @@ module _ (spot : List ℕ → Spot) (free : ℕ) (b : Bases) where
       × Reads spot free b zs right (i + 1 + words left) (given (number spot b zs right))
   Parted zs e i = Unit {0}
 
-  -- the address of an element, where it has one
+  -- the address of an element, if it has one
   abbrev pub element_place : List ℕ → List ℕ → Expression → ℕ
   element_place zs name index = word_of spot b zs name + given (number spot b zs index) + HEADER_WORDS
 

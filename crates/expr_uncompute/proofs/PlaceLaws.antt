@@ -2,19 +2,19 @@
 use Rattle.std.proofs.Common.{◌≡◌, ◌≢◌, ℕ, ◌+◌, ◌^◌, ◌<◌, ◌≤◌, List, [], ◌∷◌, ◌++◌, length, refl, sym, ap, ◌∙◌, subst}
 use Rattle.std.proofs.Common.{arith}
 use Rattle.std.specs.Prelude.{slice_index, Ok, Err}
-use Rattle.code_conventions.specs.declared.memory.TheConstants.{HEADER_WORDS}
+use Rattle.register_expressions.specs.code_conventions.declared.memory.TheConstants.{HEADER_WORDS}
 use Rattle.rpp_tree.specs.declared.tree.Ident.{Ident}
 use Rattle.rpp_tree.specs.Tree.{Expression, Number, Null, Variable, Element, Binary, Lvalue, Whole, Item}
-use Rattle.pisa_isa.specs.Machine.{Memory}
-use Rattle.code_conventions.specs.declared.registers.TheConstants.{AMOUNT, OTHER_PLACE, PLACE, RIGHT}
-use Rattle.paired_code.specs.Layout.{mirror_cells}
-use Rattle.paired_code.specs.declared.part.Symbol.{Symbol}
-use Rattle.refine_form.specs.declared.spot.Spot.{Spot}
-use Rattle.refine_form.specs.declared.spot.Spot.TheVariants.{Field, Frame}
+use Rattle.register_expressions.specs.pisa_isa.Machine.{Memory}
+use Rattle.register_expressions.specs.code_conventions.declared.registers.TheConstants.{AMOUNT, OTHER_PLACE, PLACE, RIGHT}
+use Rattle.register_expressions.specs.paired_code.Layout.{mirror_cells}
+use Rattle.register_expressions.specs.paired_code.declared.part.Symbol.{Symbol}
+use Rattle.register_expressions.specs.refine_form.declared.spot.Spot.{Spot}
+use Rattle.register_expressions.specs.refine_form.declared.spot.Spot.TheVariants.{Field, Frame}
 use Rattle.register_expressions.specs.Code.{xor, addi, around, base_of, point_cells}
 use Rattle.expr_uncompute.specs.Code.{checked_cells, open_cells, prepare_cells, fetch_cells, place_words, place_cells}
 use Rattle.expr_uncompute.specs.Code.{result_of}
-use Rattle.code_scope.specs.Visible.{offset_of}
+use Rattle.register_expressions.specs.code_scope.Visible.{offset_of}
 use Rattle.register_expressions.specs.Number.{Bases, address_of, given, word_of, number, place_address, read_of, Sees}
 use Rattle.expr_uncompute.specs.Steps.{checked_steps, open_steps, prepare_steps, fetch_steps, place_steps}
 use Rattle.register_expressions.proofs.Goes.{Goes, Traps, goes_seq, goes_cons, goes_to, goes_around, goes_set}
@@ -128,7 +128,7 @@ module _ (spot : List ℕ → Spot) (free : ℕ) (b : Bases) where
   module _ (f : ℕ → ℕ) (m p q i : ℕ) (zs : List ℕ) (name : Ident) (index : Expression)
       (h : FitPlace (Item name index) i zs) (a : ℕ)
       (n : IsInside zs (word_of spot b zs name.text) (number spot b zs index) a) where
-    -- where its index is prepared, an element's index and its address stand in registers
+    -- if its index is prepared, an element's index and its address are in registers
     pub item_opens : Goes (checked_cells spot free name.text index i ++ point_cells) (checked_steps index + 2)
         (mem b f (keeping m p q) (stored spot free b index i zs))
         (mem b f (operands m p q n.x a) (stored spot free b index i zs))

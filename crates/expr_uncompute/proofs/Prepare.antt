@@ -5,12 +5,12 @@ use Rattle.std.specs.Prelude.{slice_index, slice_set, Result, Ok, Err}
 use Rattle.rpp_tree.specs.declared.tree.BinOp.{BinOp}
 use Rattle.rpp_tree.specs.declared.tree.Ident.{Ident}
 use Rattle.rpp_tree.specs.Tree.{Expression, Number, Null, Variable, Element, Binary}
-use Rattle.pisa_isa.specs.Machine.{Memory}
-use Rattle.code_conventions.specs.declared.registers.TheConstants.{ITEM, RIGHT}
-use Rattle.paired_code.specs.Layout.{mirror_cells}
-use Rattle.paired_code.specs.declared.part.Symbol.{Symbol}
-use Rattle.refine_form.specs.declared.spot.Spot.{Spot}
-use Rattle.refine_form.specs.declared.spot.Spot.TheVariants.{Frame}
+use Rattle.register_expressions.specs.pisa_isa.Machine.{Memory}
+use Rattle.register_expressions.specs.code_conventions.declared.registers.TheConstants.{ITEM, RIGHT}
+use Rattle.register_expressions.specs.paired_code.Layout.{mirror_cells}
+use Rattle.register_expressions.specs.paired_code.declared.part.Symbol.{Symbol}
+use Rattle.register_expressions.specs.refine_form.declared.spot.Spot.{Spot}
+use Rattle.register_expressions.specs.refine_form.declared.spot.Spot.TheVariants.{Frame}
 use Rattle.register_expressions.specs.Code.{words, point_cells, exch, store_cells}
 use Rattle.expr_uncompute.specs.Code.{open_cells}
 use Rattle.register_expressions.specs.Code.{operator_result}

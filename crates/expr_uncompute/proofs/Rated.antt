@@ -1,13 +1,13 @@
 -- Counts and steps within rates, and faults in so many steps.
 use Rattle.std.proofs.Common.{ℕ, ◌*◌, ◌≤◌, Bool, List, arith}
 use Rattle.std.proofs.Math.Nat.{mul-le-mul_right}
-use Rattle.pisa_isa.specs.Machine.{Memory}
-use Rattle.paired_code.specs.declared.part.Symbol.{Symbol}
-use Rattle.paired_code.specs.Machine.{Image}
-use Rattle.paired_code.specs.Pieces.{Outcome, Will}
-use Rattle.paired_code.specs.Does.{Rates, Fault, Meets, faults}
-use Rattle.paired_code.proofs.Laws.{will_of, will_more}
-use Rattle.roopl_semantics.specs.Store.{State}
+use Rattle.register_expressions.specs.pisa_isa.Machine.{Memory}
+use Rattle.register_expressions.specs.paired_code.declared.part.Symbol.{Symbol}
+use Rattle.register_expressions.specs.paired_code.Machine.{Image}
+use Rattle.register_expressions.specs.paired_code.Pieces.{Outcome, Will}
+use Rattle.register_expressions.specs.paired_code.Does.{Rates, Fault, Meets, faults}
+use Rattle.register_expressions.proofs.paired_code_laws.Laws.{will_of, will_more}
+use Rattle.register_expressions.specs.roopl_semantics.Store.{State}
 use Rattle.expr_uncompute.specs.Promises.{IsTrap}
 use Rattle.expr_uncompute.specs.Found.{TrapsWithin, traps_within}
 

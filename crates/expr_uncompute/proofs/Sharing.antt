@@ -1,13 +1,13 @@
--- A changed element and one that is read are of one array in the source exactly where they are by
+-- A changed element and one that is read are of one array in the source exactly if they are by
 -- the words of the memory.
 use Rattle.std.proofs.Common.{◌≡◌, ℕ, Bool, true, false, List, [], ◌∷◌, ◌++◌, refl, sym, ap, ◌∙◌}
 use Rattle.std.specs.Prelude.{nat_eq, ◌||◌}
 use Rattle.rpp_tree.specs.declared.tree.Ident.{Ident}
 use Rattle.rpp_tree.specs.Tree.{Expression, Number, Null, Variable, Element, Binary, Lvalue, Whole, Item, Source}
-use Rattle.roopl_semantics.specs.Store.{State}
-use Rattle.roopl_semantics.specs.Value.{variable_value}
-use Rattle.roopl_semantics.specs.Elements.{elements, index_elements, own_element, same_array, is_among, share_array}
-use Rattle.refine_form.specs.declared.spot.Spot.{Spot}
+use Rattle.register_expressions.specs.roopl_semantics.Store.{State}
+use Rattle.register_expressions.specs.roopl_semantics.Value.{variable_value}
+use Rattle.register_expressions.specs.roopl_semantics.Elements.{elements, index_elements, own_element, same_array, is_among, share_array}
+use Rattle.register_expressions.specs.refine_form.declared.spot.Spot.{Spot}
 use Rattle.register_expressions.specs.Number.{Bases, index_of, reads_array, shares, update_shares, swap_shares}
 use Rattle.expr_uncompute.specs.Means.{shown, Means, MeansPlace, TellsArrays, TellsShares}
 

@@ -1,20 +1,20 @@
--- The laws against the source: values, tests, updates and swaps under what a relation of memory and
--- state gives.
+-- The laws against the source: values, conditions, updates and swaps under what a relation of
+-- memory and state gives.
 use Rattle.std.proofs.Common.{◌≡◌, ℕ, ◌+◌, Bool, true, false, List, sym, ap, ◌∙◌, subst}
 use Rattle.std.specs.Prelude.{slice_index, slice_set, Ok, Err}
 use Rattle.rpp_tree.specs.declared.tree.UpdateOp.{UpdateOp}
 use Rattle.rpp_tree.specs.Tree.{Expression, Number, Null, Variable, Element, Binary, Lvalue, Whole, Item, Source}
-use Rattle.pisa_isa.specs.Machine.{Memory}
-use Rattle.paired_code.specs.Machine.{Image}
-use Rattle.paired_code.specs.Pieces.{Done, Runs}
-use Rattle.paired_code.specs.declared.part.Symbol.{Symbol}
-use Rattle.roopl_semantics.specs.Operators.{updated}
-use Rattle.roopl_semantics.specs.Store.{Value, State, number_of}
-use Rattle.roopl_semantics.specs.Value.{Cell, read, value, cell_of}
-use Rattle.refine_form.specs.declared.spot.Spot.{Spot}
+use Rattle.register_expressions.specs.pisa_isa.Machine.{Memory}
+use Rattle.register_expressions.specs.paired_code.Machine.{Image}
+use Rattle.register_expressions.specs.paired_code.Pieces.{Done, Runs}
+use Rattle.register_expressions.specs.paired_code.declared.part.Symbol.{Symbol}
+use Rattle.register_expressions.specs.roopl_semantics.Operators.{updated}
+use Rattle.register_expressions.specs.roopl_semantics.Store.{Value, State, number_of}
+use Rattle.register_expressions.specs.roopl_semantics.Value.{Cell, read, value, cell_of}
+use Rattle.register_expressions.specs.refine_form.declared.spot.Spot.{Spot}
 use Rattle.register_expressions.specs.Code.{words}
 use Rattle.expr_uncompute.specs.Code.{place_words}
-use Rattle.roopl_semantics.specs.Elements.{shared_array_fault}
+use Rattle.register_expressions.specs.roopl_semantics.Elements.{shared_array_fault}
 use Rattle.register_expressions.specs.Number.{Bases, number, read_of, index_of, place_address, update_shares}
 use Rattle.register_expressions.specs.Number.{swap_shares, Sees, Same, SamePlace}
 use Rattle.expr_uncompute.specs.Steps.{value_steps, test_steps, place_steps, fetch_steps, apart_steps, both_apart_steps}
@@ -36,7 +36,7 @@ module _ (address slot : ℕ → ℕ) (program : Source) (spot : List ℕ → Sp
       subst (λ z. Xored into (value_steps e) m z im p d) (number_is address slot program st spot (bases_of m) m.cells e
       h) (law.xors im d m r s)
 
-  -- a test
+  -- a condition
   pub source_test : (into : ℕ) (e : Expression) (p : List Symbol) → TestLaw spot free into e p
       → (im : Image) (d : Bool) (m : Memory) (st : State) → Ready free (words e) m → SeesIn spot free m e
       → Means address slot program st spot (bases_of m) m.cells e
@@ -54,7 +54,7 @@ module _ (address slot : ℕ → ℕ) (program : Source) (spot : List ℕ → Sp
     same_of e h h' v = number_is address slot program st' spot b cells' e h' ∙ ap (shown_result address slot) v
         ∙ sym (number_is address slot program st spot b cells e h)
 
-    -- where the values are the same, so are the numbers
+    -- if the values are the same, so are the numbers
     pub same_numbers : (e : Expression) → Means address slot program st spot b cells e
         → Means address slot program st' spot b cells' e → SameValues program st st' e → Same spot b cells cells' e
     same_numbers (Number at word) h h' v = tt
@@ -79,7 +79,7 @@ module _ (address slot : ℕ → ℕ) (program : Source) (spot : List ℕ → Sp
 
   -- ---- updates
 
-  -- what is known of a state and its memory, and of the state after the write and its memory
+  -- what holds for a state and its memory, and for the state after the write and its memory
   pub record Updating (target : Lvalue) (e : Expression) (m : Memory) (st st' : State) (cells' : List ℕ) : Type 0 where
     pub can : CanRun spot free (place_words target + words e) (read_of target) e m
     pub place_means : MeansPlace address slot program st spot (bases_of m) m.cells target

@@ -1,13 +1,14 @@
--- A base that goes to a spot and on to another, and exchanges the word there with a register.
+-- A base that goes to a storage slot and on to another, and exchanges the word there with a
+-- register.
 use Rattle.std.proofs.Common.{◌≡◌, ℕ, ◌+◌, ◌^◌, ◌<◌, List, [], ◌∷◌, length, refl, ap, subst, arith}
 use Rattle.std.specs.Prelude.{slice_index, slice_set}
-use Rattle.code_conventions.specs.declared.memory.TheConstants.{HEADER_WORDS}
-use Rattle.rpp_words.specs.Words.{sum_of, difference_of}
-use Rattle.pisa_isa.specs.Machine.{Memory}
-use Rattle.code_conventions.specs.declared.registers.TheConstants.{AMOUNT, CONTENT, FRAME, OBJECT}
-use Rattle.refine_form.specs.declared.spot.Spot.{Spot}
-use Rattle.refine_form.specs.declared.spot.Spot.TheVariants.{Field, Frame}
-use Rattle.code_scope.specs.Visible.{offset_of}
+use Rattle.register_expressions.specs.code_conventions.declared.memory.TheConstants.{HEADER_WORDS}
+use Rattle.register_expressions.specs.rpp_words.Words.{sum_of, difference_of}
+use Rattle.register_expressions.specs.pisa_isa.Machine.{Memory}
+use Rattle.register_expressions.specs.code_conventions.declared.registers.TheConstants.{AMOUNT, CONTENT, FRAME, OBJECT}
+use Rattle.register_expressions.specs.refine_form.declared.spot.Spot.{Spot}
+use Rattle.register_expressions.specs.refine_form.declared.spot.Spot.TheVariants.{Field, Frame}
+use Rattle.register_expressions.specs.code_scope.Visible.{offset_of}
 use Rattle.register_expressions.specs.Code.{addi, exch, base_of}
 use Rattle.expr_uncompute.specs.Code.{onward}
 use Rattle.register_expressions.specs.Number.{Bases, address_of}
@@ -15,7 +16,7 @@ use Rattle.register_expressions.proofs.Goes.{Goes, goes_to, goes_addi, goes_addi
 use Rattle.register_expressions.proofs.Reading.{moved}
 use Rattle.register_expressions.proofs.Scratch.{Scratch, keeping, mem}
 
--- where the base of a spot stands
+-- the address of a storage slot's base
 abbrev pub stand : Bases → Spot → ℕ
 stand c (Field i) = c.object
 stand c (Frame i) = c.frame
@@ -25,7 +26,7 @@ far : (o i j : ℕ) → o + i < 2 ^ 32 → o + j < 2 ^ 32 → sum_of (o + i) (di
 far o i j h k = omega arith
 
 module _ (b : Bases) where
-  -- the bases after a base went to a spot, and it or the other one to a second
+  -- the bases after a base went to a storage slot, and it or the other one to a second
   abbrev pub onto : (x y : Spot) → Bases
   onto (Field i) (Field j) = moved b (Field j)
   onto (Frame i) (Frame j) = moved b (Frame j)
@@ -68,7 +69,7 @@ module _ (b : Bases) where
         zs) b.object (HEADER_WORDS + j) k refl (omega arith) (λ z. refl) (λ z. refl)
 
 module _ (f : ℕ → ℕ) where
-  -- a register that is exchanged with the word at a base, by what stands in it
+  -- a register that is exchanged with the word at a base, by what the register holds
   pub record Exchanges (r : ℕ) (put : ℕ → Scratch) : Type 0 where
     pub by_object : (c : Bases) (z : ℕ) (ws : List ℕ) → c.object < length ws → Goes (exch r OBJECT ∷ []) 1
         (mem c f (put z) ws) (mem c f (put (slice_index ws c.object)) (slice_set ws c.object z))

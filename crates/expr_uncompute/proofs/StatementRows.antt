@@ -4,21 +4,21 @@ use Rattle.std.proofs.Common.{◌≡◌, ℕ, ◌+◌, ◌≤◌, Bool, true, fa
 use Rattle.std.specs.Prelude.{slice_index, slice_set, Result, Ok, Err}
 use Rattle.rpp_tree.specs.declared.tree.UpdateOp.{UpdateOp}
 use Rattle.rpp_tree.specs.Tree.{Expression, Lvalue, Update, Swap, nodes, index_nodes}
-use Rattle.pisa_isa.specs.Machine.{Memory}
-use Rattle.paired_code.specs.declared.part.Symbol.{Symbol}
-use Rattle.paired_code.specs.Machine.{Image}
-use Rattle.paired_code.specs.Pieces.{Will}
-use Rattle.paired_code.specs.Does.{Rates, Meets, fine, faults, Does}
-use Rattle.paired_code.proofs.Laws.{will_of}
-use Rattle.roopl_semantics.specs.Operators.{updated}
-use Rattle.roopl_semantics.specs.Run.{Run, after_cost, given, give, spend, fault_if, ◌>>=◌}
-use Rattle.roopl_semantics.specs.Store.{Value, Word, State, number_of}
-use Rattle.roopl_semantics.specs.Value.{Cell, read, written, value, cell_of}
-use Rattle.roopl_semantics.specs.Elements.{elements, index_elements, own_element, share_array, read_cost}
-use Rattle.roopl_semantics.specs.Elements.{shared_array_fault}
-use Rattle.roopl_semantics.specs.Execution.{Setting, Runner, statement}
-use Rattle.refine_form.specs.declared.spot.Spot.{Spot}
-use Rattle.refine_form.specs.Form.{told, turned as facing}
+use Rattle.register_expressions.specs.pisa_isa.Machine.{Memory}
+use Rattle.register_expressions.specs.paired_code.declared.part.Symbol.{Symbol}
+use Rattle.register_expressions.specs.paired_code.Machine.{Image}
+use Rattle.register_expressions.specs.paired_code.Pieces.{Will}
+use Rattle.register_expressions.specs.paired_code.Does.{Rates, Meets, fine, faults, Does}
+use Rattle.register_expressions.proofs.paired_code_laws.Laws.{will_of}
+use Rattle.register_expressions.specs.roopl_semantics.Operators.{updated}
+use Rattle.register_expressions.specs.roopl_semantics.Run.{Run, after_cost, given, give, spend, fault_if, ◌>>=◌}
+use Rattle.register_expressions.specs.roopl_semantics.Store.{Value, Word, State, number_of}
+use Rattle.register_expressions.specs.roopl_semantics.Value.{Cell, read, written, value, cell_of}
+use Rattle.register_expressions.specs.roopl_semantics.Elements.{elements, index_elements, own_element, share_array, read_cost}
+use Rattle.register_expressions.specs.roopl_semantics.Elements.{shared_array_fault}
+use Rattle.register_expressions.specs.roopl_semantics.Execution.{Setting, Runner, statement}
+use Rattle.register_expressions.specs.refine_form.declared.spot.Spot.{Spot}
+use Rattle.register_expressions.specs.refine_form.Form.{told, turned as facing}
 use Rattle.register_expressions.specs.Code.{words}
 use Rattle.expr_uncompute.specs.Code.{place_words}
 use Rattle.register_expressions.specs.Number.{read_of, index_of}
@@ -128,7 +128,7 @@ module _ (setting : Setting) (address slot : State → ℕ → ℕ) (R : State �
       statement_is false at k run st = refl
       statement_is true at k run st = refl
 
-      -- so an update's piece does what the source does
+      -- so an update's fragment does what the source does
       pub update_does : (d : Bool) (at k : ℕ) (run : Runner)
           → Does im p d R R b n 0 (λ st. told (after_cost 1 (statement setting k run (facing d (Update at op target e))
           st)))

@@ -5,17 +5,17 @@ use Rattle.std.specs.Prelude.{slice_index, slice_set, Ok, Err}
 use Rattle.std.proofs.lemmas.List.{get_or-set_same, get_or-set_other, set_comm, set-set, set-get_or}
 use Rattle.std.proofs.lemmas.Nat.{xor_lt}
 use Rattle.std.proofs.lemmas.Bool.{cases_eq}
-use Rattle.rpp_words.proofs.Laws.{difference_of-sum_of, sum_of-difference_of, xor-twice}
+use Rattle.register_expressions.proofs.rpp_words_laws.Laws.{difference_of-sum_of, sum_of-difference_of, xor-twice}
 use Rattle.rpp_tree.specs.declared.tree.UpdateOp.{UpdateOp}
 use Rattle.rpp_tree.specs.declared.tree.UpdateOp.TheVariants as update
 use Rattle.rpp_tree.specs.Tree.{Expression, Lvalue, Whole, Item}
-use Rattle.stmt_inverter.specs.Inverse.{inverse_operator}
-use Rattle.pisa_isa.specs.Machine.{Memory}
-use Rattle.paired_code.specs.Machine.{Image, reg}
-use Rattle.paired_code.specs.Pieces.{Done, Trapped, Runs}
-use Rattle.paired_code.specs.declared.part.Symbol.{Symbol}
-use Rattle.roopl_semantics.specs.Operators.{updated}
-use Rattle.refine_form.specs.declared.spot.Spot.{Spot}
+use Rattle.register_expressions.specs.stmt_inverter.Inverse.{inverse_operator}
+use Rattle.register_expressions.specs.pisa_isa.Machine.{Memory}
+use Rattle.register_expressions.specs.paired_code.Machine.{Image, reg}
+use Rattle.register_expressions.specs.paired_code.Pieces.{Done, Trapped, Runs}
+use Rattle.register_expressions.specs.paired_code.declared.part.Symbol.{Symbol}
+use Rattle.register_expressions.specs.roopl_semantics.Operators.{updated}
+use Rattle.register_expressions.specs.refine_form.declared.spot.Spot.{Spot}
 use Rattle.register_expressions.specs.Code.{words}
 use Rattle.expr_uncompute.specs.Code.{place_words, update_cells, swap_cells}
 use Rattle.register_expressions.specs.Number.{Bases, number, read_of, index_of, place_address, update_shares}

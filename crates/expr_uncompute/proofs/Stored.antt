@@ -1,11 +1,11 @@
--- The words of the frame in which the elements and operators of an expression stand.
+-- The words of the frame that hold the elements and operators of an expression.
 use Rattle.std.proofs.Common.{◌≡◌, ◌≢◌, ℕ, ◌+◌, ◌<◌, ◌≤◌, ◌⊎◌, inl, inr, List, length, length-set, refl, sym, ap, ◌∙◌}
 use Rattle.std.proofs.Common.{arith}
 use Rattle.std.specs.Prelude.{slice_index, slice_set, Ok}
 use Rattle.std.proofs.lemmas.List.{get_or-set_same, get_or-set_other}
 use Rattle.rpp_tree.specs.Tree.{Expression, Number, Null, Variable, Element, Binary}
-use Rattle.refine_form.specs.declared.spot.Spot.{Spot}
-use Rattle.refine_form.specs.declared.spot.Spot.TheVariants.{Frame}
+use Rattle.register_expressions.specs.refine_form.declared.spot.Spot.{Spot}
+use Rattle.register_expressions.specs.refine_form.declared.spot.Spot.TheVariants.{Frame}
 use Rattle.register_expressions.specs.Code.{words}
 use Rattle.register_expressions.specs.Number.{Bases, address_of, given, word_of, number, Sees, Same}
 use Rattle.register_expressions.proofs.Numbers.{Agree, number_same, sees_same}
@@ -29,7 +29,7 @@ module _ (spot : List ℕ → Spot) (free : ℕ) (b : Bases) where
       slice_set (stored right (i + 1 + words left) (stored left (i + 1) zs)) (home i)
       (given (number spot b zs (Binary at op left right)))
 
-  -- and those with the parts alone prepared
+  -- and those with only the subexpressions prepared
   abbrev pub parted : Expression → (i : ℕ) → List ℕ → List ℕ
   parted (Element name index) i zs = stored index (i + 1) zs
   parted (Binary at op left right) i zs = stored right (i + 1 + words left) (stored left (i + 1) zs)
@@ -99,7 +99,7 @@ module _ (spot : List ℕ → Spot) (free : ℕ) (b : Bases) where
       (rw (stored_length right (i + 1 + words left) (stored left (i + 1) zs), stored_length left (i + 1) zs)
       (omega arith))
 
-  -- and goes on reading it where its own words and those below stay
+  -- and goes on reading it if its own words and those below stay
   pub reads_same : (e : Expression) (i v : ℕ) (zs zs' : List ℕ) → Sees spot b (b.frame + free) zs e
       → Agree (b.frame + free) zs zs' → ((a : ℕ) → home i ≤ a → a < home (i + words e)
       → slice_index zs' a ≡ slice_index zs a) → Reads zs e i v → Reads zs' e i v
@@ -118,7 +118,7 @@ module _ (spot : List ℕ → Spot) (free : ℕ) (b : Bases) where
   same_number (Element name index) zs zs' h = h.0
   same_number (Binary at op left right) zs zs' h = h.0
 
-  -- the same where all words below stay
+  -- the same if all words below stay
   pub same_lifted : (e : Expression) (zs zs' ys ys' : List ℕ) → Agree (b.frame + free) zs ys
       → Agree (b.frame + free) zs' ys' → Sees spot b (b.frame + free) zs e → Sees spot b (b.frame + free) zs' e
       → Same spot b zs zs' e → Same spot b ys ys' e

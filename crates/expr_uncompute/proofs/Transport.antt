@@ -1,17 +1,17 @@
 -- What a relation gives of the state after a write, it gives by the addresses of the state before.
 use Rattle.std.proofs.Common.{◌≡◌, ℕ, ◌+◌, false, List, ◌++◌, refl, sym, ap, ◌∙◌}
 use Rattle.std.specs.Prelude.{slice_index, slice_set, Result, Ok, Err}
-use Rattle.code_conventions.specs.declared.memory.TheConstants.{HEADER_WORDS}
-use Rattle.pisa_isa.specs.Machine.{Memory}
+use Rattle.register_expressions.specs.code_conventions.declared.memory.TheConstants.{HEADER_WORDS}
+use Rattle.register_expressions.specs.pisa_isa.Machine.{Memory}
 use Rattle.rpp_tree.specs.declared.tree.BinOp.{BinOp}
 use Rattle.rpp_tree.specs.declared.tree.UpdateOp.{UpdateOp}
 use Rattle.rpp_tree.specs.Tree.{Expression, Number, Null, Variable, Element, Binary, Lvalue, Whole, Item, Source}
-use Rattle.roopl_semantics.specs.Operators.{updated}
-use Rattle.roopl_semantics.specs.Store.{Value, Word, Nil, Name, State, number_of}
-use Rattle.roopl_semantics.specs.Value.{Cell, Slot, Part, cell_named, variable_value, read, written, value, cell_of}
-use Rattle.roopl_semantics.specs.Elements.{elements, index_elements, own_element, share_array}
-use Rattle.roopl_semantics.specs.Execution.{Setting}
-use Rattle.refine_form.specs.declared.spot.Spot.{Spot}
+use Rattle.register_expressions.specs.roopl_semantics.Operators.{updated}
+use Rattle.register_expressions.specs.roopl_semantics.Store.{Value, Word, Nil, Name, State, number_of}
+use Rattle.register_expressions.specs.roopl_semantics.Value.{Cell, Slot, Part, cell_named, variable_value, read, written, value, cell_of}
+use Rattle.register_expressions.specs.roopl_semantics.Elements.{elements, index_elements, own_element, share_array}
+use Rattle.register_expressions.specs.roopl_semantics.Execution.{Setting}
+use Rattle.register_expressions.specs.refine_form.declared.spot.Spot.{Spot}
 use Rattle.register_expressions.specs.Code.{words}
 use Rattle.expr_uncompute.specs.Code.{place_words}
 use Rattle.register_expressions.specs.Number.{Bases, read_of, index_of}
@@ -99,7 +99,7 @@ module _ (setting : Setting) (address slot : State → ℕ → ℕ) (R : State �
   cells_after o st m cell v = slice_set m.cells (cell_address (address st) (slot st) cell)
       (updated o (number_of (read st cell)) (number_of v))
 
-  -- of the relation: what an update reads stands in the memory, and the write leads to a related
+  -- of the relation: what an update reads is in the memory, and the write leads to a related
   -- memory; of the source: the write changes no value that is read
   pub record UpdateNeeds (target : Lvalue) (e : Expression) : Type 0 where
     pub tells : (st : State) (m : Memory) → R st m → TellsShares (address st) (slot st) setting.program st spot

@@ -7,12 +7,12 @@ use Rattle.rpp_tree.specs.declared.tree.UpdateOp.{UpdateOp}
 use Rattle.rpp_tree.specs.declared.tree.UpdateOp.TheVariants as update
 use Rattle.rpp_tree.specs.declared.tree.Ident.{Ident}
 use Rattle.rpp_tree.specs.Tree.{Expression, Number, Null, Variable, Element, Binary, Lvalue, Whole, Item}
-use Rattle.pisa_isa.specs.Machine.{Memory}
-use Rattle.code_conventions.specs.declared.registers.TheConstants.{AMOUNT, CONTENT, FIRST_WORD, OTHER_PLACE, PLACE}
-use Rattle.code_conventions.specs.declared.registers.TheConstants.{RIGHT, SECOND_WORD}
-use Rattle.paired_code.specs.declared.part.Symbol.{Symbol}
-use Rattle.roopl_semantics.specs.Operators.{updated}
-use Rattle.refine_form.specs.declared.spot.Spot.{Spot}
+use Rattle.register_expressions.specs.pisa_isa.Machine.{Memory}
+use Rattle.register_expressions.specs.code_conventions.declared.registers.TheConstants.{AMOUNT, CONTENT, FIRST_WORD, OTHER_PLACE, PLACE}
+use Rattle.register_expressions.specs.code_conventions.declared.registers.TheConstants.{RIGHT, SECOND_WORD}
+use Rattle.register_expressions.specs.paired_code.declared.part.Symbol.{Symbol}
+use Rattle.register_expressions.specs.roopl_semantics.Operators.{updated}
+use Rattle.register_expressions.specs.refine_form.declared.spot.Spot.{Spot}
 use Rattle.register_expressions.specs.Code.{around, words, exch}
 use Rattle.expr_uncompute.specs.Code.{update_cell, place_words, place_cells, fetch_cells, apart_cells, both_apart_cells}
 use Rattle.expr_uncompute.specs.Code.{update_middle, four_exchanges, swap_middle, found_update_cells, update_cells}
@@ -20,7 +20,7 @@ use Rattle.expr_uncompute.specs.Code.{found_swap_cells, swap_cells, held_update_
 use Rattle.expr_uncompute.specs.Code.{near_place_cells, near_update_cells, item_update_cells}
 use Rattle.register_expressions.specs.Code.{base_of, addi}
 use Rattle.expr_uncompute.specs.Code.{near_swap_cells}
-use Rattle.code_scope.specs.Visible.{offset_of}
+use Rattle.register_expressions.specs.code_scope.Visible.{offset_of}
 use Rattle.register_expressions.specs.Held.{need, has_element, is_opened_once, is_near, is_near_index}
 use Rattle.register_expressions.specs.Number.{Bases, address_of, number, word_of, element_at, read_of, index_of}
 use Rattle.register_expressions.specs.Number.{place_address, reads_array, update_shares, swap_shares, Sees, Same}
@@ -134,7 +134,7 @@ module _ (spot : List ℕ → Spot) (free : ℕ) (b : Bases) where
         (fetch_goes spot free b f a 0 e (place_words target) zs1 (value_fits spot free b target e zs h s) v
         (number_same spot b low zs zs1 (placed_below spot free b target zs) e s ∙ nv))
 
-    -- what is known of the cells then
+    -- what holds for the cells then
     record Filled (zs ys : List ℕ) : Type 0 where
       all : AllWords ys
       count : length ys ≡ length zs

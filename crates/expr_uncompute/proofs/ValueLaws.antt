@@ -1,14 +1,14 @@
--- The value of an expression, or its truth, xored into a register.
+-- The value of an expression, or its truth value, xored into a register.
 use Rattle.std.proofs.Common.{◌≡◌, ◌≢◌, ℕ, ◌+◌, List, [], ◌∷◌, ◌++◌, refl, ap, ◌∙◌, arith}
 use Rattle.std.specs.Prelude.{bit_xor, Ok, Err}
-use Rattle.rpp_words.proofs.Laws.{xor-twice}
+use Rattle.register_expressions.proofs.rpp_words_laws.Laws.{xor-twice}
 use Rattle.rpp_tree.specs.declared.tree.BinOp.{BinOp}
 use Rattle.rpp_tree.specs.declared.tree.BinOp.TheVariants as op
 use Rattle.rpp_tree.specs.Tree.{Expression, Number, Null, Variable, Element, Binary}
-use Rattle.paired_code.specs.Machine.{reg}
-use Rattle.paired_code.specs.declared.part.Symbol.{Symbol}
-use Rattle.roopl_semantics.specs.Operators.{is_true, truth_word}
-use Rattle.refine_form.specs.declared.spot.Spot.{Spot}
+use Rattle.register_expressions.specs.paired_code.Machine.{reg}
+use Rattle.register_expressions.specs.paired_code.declared.part.Symbol.{Symbol}
+use Rattle.register_expressions.specs.roopl_semantics.Operators.{is_true, truth_word}
+use Rattle.register_expressions.specs.refine_form.declared.spot.Spot.{Spot}
 use Rattle.register_expressions.specs.Code.{around, xor, truth_cells}
 use Rattle.expr_uncompute.specs.Code.{open_cells, parts_cells, result_of}
 use Rattle.register_expressions.specs.Code.{operator_result}
@@ -25,7 +25,7 @@ use Rattle.expr_uncompute.proofs.Stored.{parted}
 use Rattle.expr_uncompute.proofs.Opening.{based, emptied, opened, open_goes, open_gives, result_has}
 use Rattle.expr_uncompute.proofs.Prepare.{Fit, parts_done, parted_sees, parted_number, parted_room, parts_goes}
 use Rattle.expr_uncompute.proofs.Prepare.{NodeFault, early, late, node_fault}
-use Rattle.code_conventions.specs.declared.registers.TheConstants.{TRUTH}
+use Rattle.register_expressions.specs.code_conventions.declared.registers.TheConstants.{TRUTH}
 
 -- a register is as it was after the same xor again
 pub written_twice : (b : Bases) (f : ℕ → ℕ) (s : Scratch) (zs : List ℕ) (i v : ℕ) → IsTarget i
@@ -98,7 +98,7 @@ module _ (spot : List ℕ → Spot) (free : ℕ) (b : Bases) where
           goes_around (parts_goes spot free b m p q f e i v zs fit n)
           (goes_around (open_there f v n) sink (open_there f' v n)) (parts_goes spot free b m p q f' e i v zs fit n)
 
-    -- its truth
+    -- its truth value
     module _ (f : ℕ → ℕ) (v into : ℕ) (n : number spot b zs e ≡ Ok v) (t : IsTarget into) where
       abbrev told : ℕ
       told = truth_word (is_true v)

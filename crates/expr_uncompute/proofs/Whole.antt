@@ -1,16 +1,16 @@
--- The laws of values and tests, over memories.
+-- The laws of values and conditions, over memories.
 use Rattle.std.proofs.Common.{◌≡◌, ℕ, ◌+◌, inl, inr, Bool, true, false, List, [], ◌∷◌, refl, sym, ap}
 use Rattle.std.proofs.Common.{◌∙◌, subst}
 use Rattle.std.proofs.Common.{arith}
 use Rattle.std.specs.Prelude.{slice_index, bit_xor, if◌then◌else◌, Result, Ok, Err}
 use Rattle.rpp_tree.specs.Tree.{Expression}
-use Rattle.pisa_isa.specs.Machine.{Memory}
-use Rattle.code_conventions.specs.declared.registers.TheConstants.{TRUTH}
-use Rattle.paired_code.specs.Machine.{Image, reg, with_reg}
-use Rattle.paired_code.specs.Pieces.{Done, Trapped, Runs}
-use Rattle.paired_code.specs.declared.part.Symbol.{Symbol}
-use Rattle.roopl_semantics.specs.Operators.{is_true, truth_word}
-use Rattle.refine_form.specs.declared.spot.Spot.{Spot}
+use Rattle.register_expressions.specs.pisa_isa.Machine.{Memory}
+use Rattle.register_expressions.specs.code_conventions.declared.registers.TheConstants.{TRUTH}
+use Rattle.register_expressions.specs.paired_code.Machine.{Image, reg, with_reg}
+use Rattle.register_expressions.specs.paired_code.Pieces.{Done, Trapped, Runs}
+use Rattle.register_expressions.specs.paired_code.declared.part.Symbol.{Symbol}
+use Rattle.register_expressions.specs.roopl_semantics.Operators.{is_true, truth_word}
+use Rattle.register_expressions.specs.refine_form.declared.spot.Spot.{Spot}
 use Rattle.register_expressions.specs.Code.{Target, words, xor, truth_cells}
 use Rattle.expr_uncompute.specs.Code.{value_cells, test_cells, result_of}
 use Rattle.register_expressions.specs.Code.{held_value_cells, held_test_cells}
@@ -155,7 +155,7 @@ module _ (spot : List ℕ → Spot) (free into : ℕ) (e : Expression) (m : Memo
         (prepared_test_cells spot free e into) d
     prepared_test = test_by (number spot (bases_of m) m.cells e) refl
 
-    -- and with its parts in registers, where there are enough
+    -- and with its parts in registers, if there are enough
     pub value_law : Xored into (value_steps e) m (number spot (bases_of m) m.cells e) im (value_cells spot free e into)
         d
     value_law = by (is_held e) refl

@@ -5,7 +5,7 @@ use Rattle.std.specs.Prelude.{slice_index, slice_set}
 use Rattle.std.proofs.lemmas.List.{get_or-set_same, get_or-set_other, set_past, set_comm}
 use Rattle.std.proofs.lemmas.Bool.{cases_lt, cases_eq}
 use Rattle.rpp_tree.specs.Tree.{Expression, Number, Null, Variable, Element, Binary, Lvalue, Whole, Item}
-use Rattle.refine_form.specs.declared.spot.Spot.{Spot}
+use Rattle.register_expressions.specs.refine_form.declared.spot.Spot.{Spot}
 use Rattle.register_expressions.specs.Code.{words}
 use Rattle.expr_uncompute.specs.Code.{place_words}
 use Rattle.register_expressions.specs.Number.{Bases, read_of, Sees, Same, SamePlace}
@@ -109,7 +109,7 @@ module _ (spot : List ℕ → Spot) (free : ℕ) (b : Bases) where
   placed_written write w (Whole name) zs s s' h = refl
   placed_written write w (Item name index) zs s s' h = stored_written spot free b write w index 0 zs s.2 s'.2 h.1
 
-  -- a value behind a place
+  -- a value after an lvalue
   pub value_fits : (target : Lvalue) (e : Expression) (zs : List ℕ) → FitFrom target (words e) zs → Sees spot b low zs e
       → Fit spot free b e (place_words target) (placed spot free b target 0 zs)
   value_fits target e zs h s = record {

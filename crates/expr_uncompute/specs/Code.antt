@@ -1,21 +1,21 @@
--- The cells of values, tests, updates and swaps, in their linear form.
+-- The cells of values, conditions, updates and swaps, in their linear form.
 use Rattle.std.specs.Prelude.{ℕ, ◌+◌, nat_eq, Bool, ◌&&◌, not, if◌then◌else◌, List, [], ◌∷◌, ◌++◌}
-use Rattle.rpp_words.specs.Words.{difference_of}
+use Rattle.register_expressions.specs.rpp_words.Words.{difference_of}
 use Rattle.rpp_tree.specs.declared.tree.Ident.{Ident}
 use Rattle.rpp_tree.specs.declared.tree.UpdateOp.{UpdateOp}
 use Rattle.rpp_tree.specs.declared.tree.UpdateOp.TheVariants as update
 use Rattle.rpp_tree.specs.Tree.{Expression, Number, Null, Variable, Element, Binary, Lvalue, Whole}
 use Rattle.rpp_tree.specs.Tree.{Item}
-use Rattle.code_conventions.specs.declared.registers.TheConstants.{AMOUNT, CONTENT, FIRST_WORD}
-use Rattle.code_conventions.specs.declared.registers.TheConstants.{FRAME, ITEM, LEFT, OBJECT}
-use Rattle.code_conventions.specs.declared.registers.TheConstants.{OTHER_PLACE, PLACE, RIGHT}
-use Rattle.code_conventions.specs.declared.registers.TheConstants.{SECOND_WORD, TRUTH}
-use Rattle.paired_code.specs.declared.part.Symbol.{Symbol}
-use Rattle.paired_code.specs.Layout.{check_differ_cells}
-use Rattle.code_conventions.specs.declared.faults.TheConstants.{SHARED_ARRAY}
-use Rattle.refine_form.specs.declared.spot.Spot.{Spot}
-use Rattle.refine_form.specs.declared.spot.Spot.TheVariants.{Field, Frame}
-use Rattle.code_scope.specs.Visible.{offset_of}
+use Rattle.register_expressions.specs.code_conventions.declared.registers.TheConstants.{AMOUNT, CONTENT, FIRST_WORD}
+use Rattle.register_expressions.specs.code_conventions.declared.registers.TheConstants.{FRAME, ITEM, LEFT, OBJECT}
+use Rattle.register_expressions.specs.code_conventions.declared.registers.TheConstants.{OTHER_PLACE, PLACE, RIGHT}
+use Rattle.register_expressions.specs.code_conventions.declared.registers.TheConstants.{SECOND_WORD, TRUTH}
+use Rattle.register_expressions.specs.paired_code.declared.part.Symbol.{Symbol}
+use Rattle.register_expressions.specs.paired_code.Layout.{check_differ_cells}
+use Rattle.register_expressions.specs.code_conventions.declared.faults.TheConstants.{SHARED_ARRAY}
+use Rattle.register_expressions.specs.refine_form.declared.spot.Spot.{Spot}
+use Rattle.register_expressions.specs.refine_form.declared.spot.Spot.TheVariants.{Field, Frame}
+use Rattle.register_expressions.specs.code_scope.Visible.{offset_of}
 use Rattle.register_expressions.specs.Number.{index_of}
 use Rattle.register_expressions.specs.Held.{need, is_held, is_opened_once, is_near, is_near_index}
 use Rattle.register_expressions.specs.Code.{add, sub, xor, exch, addi, xori, around, base_of}
@@ -24,7 +24,7 @@ use Rattle.register_expressions.specs.Code.{truth_cells, operator_cells, operato
 use Rattle.register_expressions.specs.Code.{index_check, point_cells, part, element_cells}
 use Rattle.register_expressions.specs.Code.{held_cells, held_value_cells, held_test_cells}
 
--- fault 16 where the words of two spots are the same
+-- fault 16 if the words of two storage slots are the same
 abbrev pub compare_cells : (x y : Spot) → List Symbol
 compare_cells x y =
     around (copy_cells x LEFT ++ reach_cells y) (check_differ_cells LEFT CONTENT SHARED_ARRAY)
@@ -51,7 +51,7 @@ number_cell update.Add d word = addi d word
 number_cell update.Sub d word = addi d (difference_of 0 word)
 number_cell update.Xor d word = xori d word
 
--- from an offset at which a base stands, it goes to a spot, or the other base does
+-- from an offset that has a base, it goes to a storage slot, or the other base does
 abbrev pub from_object : (from : ℕ) → Spot → Symbol
 from_object from (Field i) = addi OBJECT (difference_of (offset_of (Field i)) from)
 from_object from (Frame i) = addi FRAME i
@@ -60,7 +60,7 @@ abbrev pub from_frame : (from : ℕ) → Spot → Symbol
 from_frame from (Field i) = addi OBJECT (offset_of (Field i))
 from_frame from (Frame i) = addi FRAME (difference_of i from)
 
--- the same from a spot at which its base stands
+-- the same from a storage slot that has its base
 abbrev pub onward : (x y : Spot) → Symbol
 onward (Field i) y = from_object (offset_of (Field i)) y
 onward (Frame i) y = from_frame i y
@@ -74,7 +74,7 @@ both_reached x y = addi (base_of x) (offset_of x) ∷ exch AMOUNT (base_of x) �
 abbrev pub update_middle : UpdateOp → List Symbol
 update_middle op = exch CONTENT PLACE ∷ update_cell op CONTENT AMOUNT ∷ exch CONTENT PLACE ∷ []
 
--- at two addresses in registers; where the two are one, its word stays
+-- at two addresses in registers; if the two are one, its word stays
 abbrev pub four_exchanges : (p q : ℕ) → List Symbol
 four_exchanges p q =
     exch FIRST_WORD p ∷ exch SECOND_WORD q ∷ exch SECOND_WORD p ∷ exch FIRST_WORD q ∷ []
@@ -82,12 +82,13 @@ four_exchanges p q =
 abbrev pub swap_middle : List Symbol
 swap_middle = four_exchanges PLACE OTHER_PLACE
 
--- of two spots that have two bases or are one: both bases stand there
+-- two storage slots that have two bases or are one: both bases are there
 abbrev pub swap_at : (x y : Spot) → List Symbol
 swap_at x y = around (addi (base_of x) (offset_of x) ∷ onward x y ∷ [])
     (four_exchanges (base_of x) (base_of y))
 
--- of two spots of one base: while the first word is out, it goes to the second spot and back
+-- of two storage slots of one base: while the first word is out, it goes to the second storage slot
+-- and back
 abbrev pub beyond : (x y : Spot) → List Symbol
 beyond x y = around (onward x y ∷ []) (exch SECOND_WORD (base_of y) ∷ exch FIRST_WORD (base_of y)
     ∷ [])
@@ -136,7 +137,7 @@ module _ (spot : List ℕ → Spot) where
   held_update_cells op s e = around (held_cells spot e 0)
       (around (reach_cells s) (update_cell op CONTENT (part 0) ∷ []))
 
-  -- the word of an element, whose index and address stand below the value
+  -- the word of an element, whose index and address are below the value
   abbrev pub near_update_cells : UpdateOp → List ℕ → (index value : Expression) → List Symbol
   near_update_cells op name index value =
       around (element_cells spot name (held_cells spot index 2) 0
@@ -144,7 +145,7 @@ module _ (spot : List ℕ → Spot) where
       (near_middle op (2 + need index))
 
 module _ (spot : List ℕ → Spot) (free : ℕ) where
-  -- the value of an operand xored into a register: a word of the frame has it, from i on, where it
+  -- the value of an operand xored into a register: a word of the frame has it, from i on, if it
   -- is no leaf
   abbrev pub operand_cells : Expression → (i into : ℕ) → List Symbol
   operand_cells (Number at word) i into = xori into word ∷ []
@@ -159,7 +160,7 @@ module _ (spot : List ℕ → Spot) (free : ℕ) where
       operand_cells index i LEFT
       ++ (copy_cells (spot name) RIGHT ++ (nil_check ++ index_check))
 
-  -- the value of an expression in its register, where its parts are prepared
+  -- the value of an expression in its register, if its parts are prepared
   abbrev pub open_cells : Expression → (i : ℕ) → List Symbol
   open_cells (Number at word) i = xori CONTENT word ∷ []
   open_cells (Null at) i = []
@@ -194,7 +195,7 @@ module _ (spot : List ℕ → Spot) (free : ℕ) where
   abbrev pub fetch_cells : Expression → (i into : ℕ) → List Symbol
   fetch_cells e i into = parts_cells e i ++ around (open_cells e i) (xor into (result_of e) ∷ [])
 
-  -- ---- values, tests, updates and swaps
+  -- ---- values, conditions, updates and swaps
 
   -- the value of an expression xored into a register
   abbrev pub prepared_value_cells : Expression → (into : ℕ) → List Symbol
@@ -207,7 +208,7 @@ module _ (spot : List ℕ → Spot) (free : ℕ) where
       around (parts_cells e 0) (around (open_cells e 0 ++ truth_cells TRUTH (result_of e))
       (xor into TRUTH ∷ []))
 
-  -- the same with parts in registers, where there are enough
+  -- the same with parts in registers, if there are enough
   abbrev pub value_cells : Expression → (into : ℕ) → List Symbol
   value_cells e into = if is_held e then held_value_cells spot e into
       else prepared_value_cells e into
@@ -272,7 +273,7 @@ module _ (spot : List ℕ → Spot) (free : ℕ) where
   update_cells op (Whole name) value = whole_update_cells op name value
   update_cells op (Item name index) value = item_update_cells op name index value
 
-  -- the words of two places swapped; where they are one, it stays as it is
+  -- the words of two places swapped; if they are one, it stays as it is
   abbrev pub found_swap_cells : Lvalue → Lvalue → List Symbol
   found_swap_cells left right =
       around ((place_cells left 0 PLACE ++ place_cells right (place_words left) OTHER_PLACE)

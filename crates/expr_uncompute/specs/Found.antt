@@ -1,15 +1,15 @@
 -- Places and values found around any middle: what a middle finds and may change, and the laws of
--- the whole piece.
+-- the whole fragment.
 use Rattle.std.specs.Prelude.{◌≡◌, ℕ, ◌+◌, ◌^◌, ◌<◌, ◌≤◌, Bool, true, false, List, length}
 use Rattle.std.specs.Prelude.{slice_index, Ok, Err}
 use Rattle.rpp_tree.specs.Tree.{Expression, Null, Lvalue}
-use Rattle.pisa_isa.specs.Machine.{Memory}
-use Rattle.code_conventions.specs.declared.registers.TheConstants.{AMOUNT, OTHER_PLACE, PLACE}
-use Rattle.paired_code.specs.declared.part.Symbol.{Symbol}
-use Rattle.paired_code.specs.Machine.{Image, with_reg}
-use Rattle.paired_code.specs.Pieces.{Outcome, Done, Trapped, Will}
-use Rattle.roopl_semantics.specs.Elements.{shared_array_fault}
-use Rattle.refine_form.specs.declared.spot.Spot.{Spot}
+use Rattle.register_expressions.specs.pisa_isa.Machine.{Memory}
+use Rattle.register_expressions.specs.code_conventions.declared.registers.TheConstants.{AMOUNT, OTHER_PLACE, PLACE}
+use Rattle.register_expressions.specs.paired_code.declared.part.Symbol.{Symbol}
+use Rattle.register_expressions.specs.paired_code.Machine.{Image, with_reg}
+use Rattle.register_expressions.specs.paired_code.Pieces.{Outcome, Done, Trapped, Will}
+use Rattle.register_expressions.specs.roopl_semantics.Elements.{shared_array_fault}
+use Rattle.register_expressions.specs.refine_form.declared.spot.Spot.{Spot}
 use Rattle.register_expressions.specs.Code.{words}
 use Rattle.expr_uncompute.specs.Code.{place_words}
 use Rattle.register_expressions.specs.Number.{Bases, number, read_of, index_of, place_address}
@@ -36,7 +36,7 @@ abbrev pub found : (v a a' : ℕ) → List ℕ → Memory → Memory
 found v a a' cells m = record (with_reg (with_reg (with_reg m AMOUNT v) PLACE a) OTHER_PLACE a')
     { cells = cells }
 
--- the same cells, but for n words from an address on, which hold any words
+-- the same cells, except for n words from an address on, which hold any words
 pub record Filled (low n : ℕ) (cells ys : List ℕ) : Type 0 where
   pub count : length ys ≡ length cells
   pub words : (a : ℕ) → slice_index ys a < 2 ^ 32
@@ -51,8 +51,8 @@ pub record Changes (low : ℕ) (cells cells' : List ℕ) : Type 0 where
 
 -- p is a middle between so many steps that find a value and two addresses, and those that take them
 -- away again.
--- Where the middle leads from any filled words to the changed cells, so does p from the cells
--- themselves, and where the middle traps, p traps. `Kept` says of the changed cells that the same
+-- If the middle leads from any filled words to the changed cells, so does p from the cells
+-- themselves, and if the middle traps, p traps. `Kept` says of the changed cells that the same
 -- value and addresses are found there.
 pub record Encloses (im : Image) (d : Bool) (m : Memory) (low n steps v a a' : ℕ)
     (Kept : List ℕ → Type 0)

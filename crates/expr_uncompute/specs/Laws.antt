@@ -1,10 +1,10 @@
--- What code of expressions does, by the memory alone.
+-- What code of expressions does, only by the memory.
 use Rattle.std.specs.Prelude.{◌≡◌, ℕ, Bool, true, false, List, slice_index, slice_set}
 use Rattle.rpp_tree.specs.declared.tree.UpdateOp.{UpdateOp}
 use Rattle.rpp_tree.specs.Tree.{Expression, Lvalue}
-use Rattle.stmt_inverter.specs.Inverse.{inverse_operator}
-use Rattle.roopl_semantics.specs.Operators.{updated}
-use Rattle.refine_form.specs.declared.spot.Spot.{Spot}
+use Rattle.register_expressions.specs.stmt_inverter.Inverse.{inverse_operator}
+use Rattle.register_expressions.specs.roopl_semantics.Operators.{updated}
+use Rattle.register_expressions.specs.refine_form.declared.spot.Spot.{Spot}
 use Rattle.register_expressions.specs.Number.{Bases, read_of, update_shares, swap_shares, Sees}
 use Rattle.register_expressions.specs.Number.{Same, SamePlace}
 
@@ -17,7 +17,7 @@ turned true op = inverse_operator op
 abbrev pub updated_at : Bool → UpdateOp → (a v : ℕ) → List ℕ → List ℕ
 updated_at d op a v cells = slice_set cells a (updated (turned d op) (slice_index cells a) v)
 
--- the cells with two words swapped; where they are one, nothing changes
+-- the cells with two words swapped; if they are one, nothing changes
 abbrev pub swapped_at : (p q : ℕ) → List ℕ → List ℕ
 swapped_at p q cells = slice_set (slice_set cells p (slice_index cells q)) q (slice_index cells p)
 

@@ -1,16 +1,16 @@
--- How the words of a memory stand for the values of the source that an expression reads.
+-- How the words of a memory represent the values of the source that an expression reads.
 use Rattle.std.specs.Prelude.{◌≡◌, ◌≢◌, ℕ, ◌+◌, ◌<◌, nat_eq, Bool, true, false, List, length}
 use Rattle.std.specs.Prelude.{slice_index, Result, Ok, Err}
 use Rattle.rpp_tree.specs.declared.tree.BinOp.{BinOp}
 use Rattle.rpp_tree.specs.declared.tree.BinOp.TheVariants as op
 use Rattle.rpp_tree.specs.Tree.{Expression, Number, Null, Variable, Element, Binary, Lvalue, Whole}
 use Rattle.rpp_tree.specs.Tree.{Item, Source}
-use Rattle.code_conventions.specs.declared.memory.TheConstants.{HEADER_WORDS}
-use Rattle.roopl_semantics.specs.Store.{Value, Word, Nil, Name, State, number_of, same_value}
-use Rattle.roopl_semantics.specs.Store.{object_at}
-use Rattle.roopl_semantics.specs.Value.{Cell, Slot, Part, cell_named, variable_value, read, value}
-use Rattle.roopl_semantics.specs.Value.{cell_of}
-use Rattle.refine_form.specs.declared.spot.Spot.{Spot}
+use Rattle.register_expressions.specs.code_conventions.declared.memory.TheConstants.{HEADER_WORDS}
+use Rattle.register_expressions.specs.roopl_semantics.Store.{Value, Word, Nil, Name, State, number_of, same_value}
+use Rattle.register_expressions.specs.roopl_semantics.Store.{object_at}
+use Rattle.register_expressions.specs.roopl_semantics.Value.{Cell, Slot, Part, cell_named, variable_value, read, value}
+use Rattle.register_expressions.specs.roopl_semantics.Value.{cell_of}
+use Rattle.register_expressions.specs.refine_form.declared.spot.Spot.{Spot}
 use Rattle.register_expressions.specs.Number.{Bases, address_of, word_of}
 
 -- the operators that also compare references
@@ -19,7 +19,8 @@ is_equation op.Equal = true
 is_equation op.NotEqual = true
 is_equation o = false
 
--- where the objects and arrays stand by their names, and the variables by their places in the frame
+-- the addresses of the objects and arrays by their object ids, and of the variables by their words
+-- of the frame
 module _ (address slot : ℕ → ℕ) where
   -- a value as a word
   abbrev pub shown : Value → ℕ
@@ -40,7 +41,7 @@ module _ (address slot : ℕ → ℕ) where
   cell_result (Ok cell) = Ok (cell_address cell)
   cell_result (Err fault) = Err fault
 
-  -- two words, or two references that are the same exactly where their words are, for an operator
+  -- two words, or two references that are the same exactly if their words are, for an operator
   -- that takes them
   pub data AreOperands (o : BinOp) (l r : Value) : Type 0 where
     words : number_of l ≡ shown l → number_of r ≡ shown r → AreOperands o l r
@@ -89,7 +90,7 @@ module _ (address slot : ℕ → ℕ) where
         × StandsArray (variable_value program st name.text) × IsInt (value program st index)
         × Means index
 
-    -- an array is one of which an expression reads an element exactly where their words are the
+    -- an array is one of which an expression reads an element exactly if their words are the
     -- same
     abbrev pub TellsArrays : (array : Value) → Expression → Type 0
     TellsArrays array (Number at word) = Unit {0}

@@ -1,14 +1,14 @@
--- The laws that contracts state of pieces, quantified over images, directions and memories.
+-- The laws that contracts state of fragments, quantified over images, directions and memories.
 use Rattle.std.specs.Prelude.{◌≡◌, ℕ, ◌+◌, ◌≤◌, Bool, true, false, List, Ok, Err}
 use Rattle.rpp_tree.specs.declared.tree.UpdateOp.{UpdateOp}
 use Rattle.rpp_tree.specs.Tree.{Expression, Lvalue}
-use Rattle.pisa_isa.specs.Machine.{Memory}
-use Rattle.code_conventions.specs.declared.registers.TheConstants.{FRAME}
-use Rattle.paired_code.specs.declared.part.Symbol.{Symbol}
-use Rattle.paired_code.specs.Machine.{Image, reg}
-use Rattle.paired_code.specs.Pieces.{Done, Trapped, Runs}
-use Rattle.roopl_semantics.specs.Elements.{shared_array_fault}
-use Rattle.refine_form.specs.declared.spot.Spot.{Spot}
+use Rattle.register_expressions.specs.pisa_isa.Machine.{Memory}
+use Rattle.register_expressions.specs.code_conventions.declared.registers.TheConstants.{FRAME}
+use Rattle.register_expressions.specs.paired_code.declared.part.Symbol.{Symbol}
+use Rattle.register_expressions.specs.paired_code.Machine.{Image, reg}
+use Rattle.register_expressions.specs.paired_code.Pieces.{Done, Trapped, Runs}
+use Rattle.register_expressions.specs.roopl_semantics.Elements.{shared_array_fault}
+use Rattle.register_expressions.specs.refine_form.declared.spot.Spot.{Spot}
 use Rattle.register_expressions.specs.Code.{words}
 use Rattle.expr_uncompute.specs.Code.{place_words}
 use Rattle.register_expressions.specs.Number.{number, read_of, index_of, place_address}
@@ -18,7 +18,7 @@ use Rattle.expr_uncompute.specs.Steps.{apart_steps, both_apart_steps, update_ste
 use Rattle.register_expressions.specs.Laws.{bases_of, Ready, Xored, truth_of}
 use Rattle.expr_uncompute.specs.Laws.{updated_at, swapped_at, Stays, BothStay}
 
--- where the free words of the frame begin: all that is read stands below
+-- where the free words of the frame begin: all that is read is below
 abbrev pub free_at : ℕ → Memory → ℕ
 free_at free m = reg m FRAME + free
 
@@ -32,7 +32,7 @@ pub record ValueLaw (spot : List ℕ → Spot) (free into : ℕ) (e : Expression
   pub xors : (im : Image) (d : Bool) (m : Memory) → Ready free (words e) m → SeesIn spot free m e
       → Xored into (value_steps e) m (number spot (bases_of m) m.cells e) im p d
 
--- the truth of it
+-- the truth value of it
 pub record TestLaw (spot : List ℕ → Spot) (free into : ℕ) (e : Expression)
     (p : List Symbol) : Type 0 where
   pub xors : (im : Image) (d : Bool) (m : Memory) → Ready free (words e) m → SeesIn spot free m e
@@ -78,7 +78,7 @@ pub record UpdateLaw (spot : List ℕ → Spot) (free : ℕ) (op : UpdateOp) (ta
       → IsTrap im p d m shared_array_fault
       (place_steps target + fetch_steps value + apart_steps target (index_of target) value)
 
--- either way two places are swapped; where they are one, nothing changes
+-- either way two places are swapped; if they are one, nothing changes
 pub record SwapLaw (spot : List ℕ → Spot) (free : ℕ) (left right : Lvalue)
     (p : List Symbol) : Type 0 where
   pub swaps : (im : Image) (d : Bool) (m : Memory)

@@ -2,9 +2,9 @@
 ghost use Rattle.std.specs.Prelude.{◌≡◌, ◌<◌, ◌^◌, IfOk};
 ghost use Rattle.rpp_tree.specs.Tree.{Null};
 ghost use Rattle.rpp_tree.specs.Views.{expression_of, lvalue_of};
-ghost use Rattle.paired_code.specs.Code.{unmarked};
+ghost use Rattle.register_expressions.specs.paired_code.Code.{unmarked};
 ghost use Rattle.expr_uncompute.specs.Code.{compare_cells, compare_all as cells_of_all, apart_cells, both_apart_cells};
-ghost use Rattle.code_scope.specs.Visible.{offset_of, spot_of as spot_of_name, known_by};
+ghost use Rattle.register_expressions.specs.code_scope.Visible.{offset_of, spot_of as spot_of_name, known_by};
 ghost use Rattle.register_expressions.specs.Number.{read_of, index_of};
 
 use code_conventions::faults::SHARED_ARRAY;
@@ -18,7 +18,7 @@ use rpp_tree::tree::{Expr, Place};
 use rpp_words::NoMemory;
 use std::alloc::Global;
 
-// Fault 16 where the words of two spots are the same.
+// Fault 16 if the words of two storage slots are the same.
 fn compare(alloc: Global, x: Spot, y: Spot) -> Result<Piece, NoMemory>
     requires first { offset_of x < 2 ^ 32 }
     requires second { offset_of y < 2 ^ 32 }
@@ -108,7 +108,7 @@ pub fn apart(alloc: Global, names: &Names, place: &Place, value: &Expr) -> Resul
     }
 }
 
-/// The check of a place alone: against its index.
+/// The check of an lvalue only: against its index.
 pub fn own_apart(alloc: Global, names: &Names, place: &Place) -> Result<Piece, NoMemory>
     ensures { IfOk result (λ p.
         p ≡ unmarked (apart_cells (spot_of_name (known_by names.now)) (lvalue_of place.now)

@@ -2,13 +2,13 @@
 ghost use Rattle.std.specs.Prelude.{◌≡◌, ◌≤◌, ◌+◌, ◌*◌, [], ◌++◌, length, IfOk};
 ghost use Rattle.rpp_tree.specs.Tree.{nodes, index_nodes};
 ghost use Rattle.rpp_tree.specs.Views.{expression_of, lvalue_of};
-ghost use Rattle.roopl_semantics.specs.Elements.{elements, index_elements, own_element, read_cost};
+ghost use Rattle.register_expressions.specs.roopl_semantics.Elements.{elements, index_elements, own_element, read_cost};
 ghost use Rattle.register_expressions.specs.Code.{words as words_of};
 ghost use Rattle.expr_uncompute.specs.Code.{place_words as words_of_place};
 ghost use Rattle.expr_uncompute.specs.Found.{PlaceAroundLaw, ValueAroundLaw, PlacesAroundLaw, found_place_steps, found_value_steps, found_places_steps};
 ghost use Rattle.register_expressions.specs.Steps.{tokens};
 ghost use Rattle.expr_uncompute.specs.Steps.{place_tokens};
-ghost use Rattle.code_scope.specs.Visible.{spot_of, free_of, known_in};
+ghost use Rattle.register_expressions.specs.code_scope.Visible.{spot_of, free_of, known_in};
 
 use crate::middles::{around_place, around_places, around_value};
 use code_scope::Scope;
@@ -18,10 +18,10 @@ use rpp_words::NoMemory;
 use std::alloc::Global;
 
 /// A middle that changes a place, in both directions: before it the address of the place goes into
-/// `PLACE`, and after it the register is 0 again. The fault of the place comes first; then, where
+/// `PLACE`, and after it the register is 0 again. The fault of the place comes first; then, if
 /// the place is an element, its array is compared with that of each element that its index reads:
-/// fault 16 where they are one. The middle finds words in the frame behind the variables, which it
-/// leaves as they are. The only error is that memory ran out.
+/// fault 16 if they are one. The middle may use words in the frame after the variables, and
+/// leaves them as they are. The only error is that memory ran out.
 pub fn place_around(
     alloc: Global,
     place: &Place,
@@ -73,7 +73,7 @@ pub fn place_and_value_around(
 }
 
 /// A middle that reads one place and changes a second one: the address of the first is in `PLACE`,
-/// that of the second in `OTHER_PLACE`. Their faults come in this order, and then fault 16 where
+/// that of the second in `OTHER_PLACE`. Their faults come in this order, and then fault 16 if
 /// the second is an element of an array of which one of the two indexes reads an element.
 pub fn places_around(
     alloc: Global,

@@ -2,14 +2,14 @@
 ghost use Rattle.std.specs.Prelude.{◌≡◌, ◌≤◌, ◌+◌, ◌*◌, [], ◌++◌, length, IfOk};
 ghost use Rattle.rpp_tree.specs.Tree.{nodes, index_nodes};
 ghost use Rattle.rpp_tree.specs.Views.{expression_of, lvalue_of};
-ghost use Rattle.roopl_semantics.specs.Elements.{elements, index_elements, own_element, read_cost};
+ghost use Rattle.register_expressions.specs.roopl_semantics.Elements.{elements, index_elements, own_element, read_cost};
 ghost use Rattle.register_expressions.specs.Code.{Target, words as words_of};
 ghost use Rattle.expr_uncompute.specs.Code.{place_words as words_of_place};
 ghost use Rattle.expr_uncompute.specs.Promises.{ValueLaw, TestLaw, UpdateLaw, SwapLaw};
 ghost use Rattle.expr_uncompute.specs.Sizes.{swap_size};
 ghost use Rattle.register_expressions.specs.Steps.{tokens};
 ghost use Rattle.expr_uncompute.specs.Steps.{value_steps, test_steps, update_steps, swap_steps, place_tokens};
-ghost use Rattle.code_scope.specs.Visible.{spot_of, free_of, known_in};
+ghost use Rattle.register_expressions.specs.code_scope.Visible.{spot_of, free_of, known_in};
 
 use crate::places::{swap_piece, update_piece};
 use crate::values::{test_piece, value_piece};
@@ -20,11 +20,11 @@ use rpp_words::NoMemory;
 use std::alloc::Global;
 
 /// The value of an expression xored into the register `into`, in both directions, or a stop with
-/// the fault that its evaluation meets first: 5 where an array is nil, 9 where an index, a word
-/// without sign, is not below the length. No other register differs then, and no cell: each part
-/// is computed once, into a register or into its word of the frame behind the variables, and
-/// uncomputed, as Axelsen does for values of reversible programs. Registers 5 to 10 and 16 to 24
-/// are 0 before and after. The only error is that memory ran out.
+/// the fault that its evaluation meets first. Fault 5 means that an array is nil, and 9 that an
+/// index, as an unsigned word, is not below the length. No other register differs then, and no
+/// cell. Each subexpression is computed once, into a register or into its word of the frame after
+/// the variables, and uncomputed, as Axelsen does for values of reversible programs. Registers 5 to
+/// 10 and 16 to 24 are 0 before and after. The only error is that memory ran out.
 pub fn value_code(alloc: Global, e: &Expr, scope: &Scope, into: u8) -> Result<Piece, NoMemory>
     requires register { Target into }
     requires room { words_of (expression_of e.now) ≤ 1000 }
@@ -55,8 +55,8 @@ pub fn test_code(alloc: Global, e: &Expr, scope: &Scope, into: u8) -> Result<Pie
 }
 
 /// An update of a place by a value; backward it is undone. The fault of the place comes before that
-/// of the value. Then, where the place is an element, its array is compared with that of each
-/// element that is read, in both directions before the write: fault 16 where they are one. The word
+/// of the value. Then, if the place is an element, its array is compared with that of each
+/// element that is read, in both directions before the write: fault 16 if they are one. The word
 /// of the place may differ then, and nothing else.
 pub fn update_code(
     alloc: Global,
@@ -83,7 +83,7 @@ pub fn update_code(
     update_piece(alloc, op, place, value, &names)
 }
 
-/// The words of two places swapped, in both directions; where the two are one place, it stays. The
+/// The words of two places swapped, in both directions; if the two are one place, it stays. The
 /// fault of the left place comes first, and then, as in an update, fault 16 for either place.
 pub fn swap_code(
     alloc: Global,

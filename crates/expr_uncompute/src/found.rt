@@ -1,10 +1,10 @@
-// Places and values found: what stands in the registers while a statement changes a place.
+// Lvalues and values found: what is in the registers while a statement changes an lvalue.
 ghost use Rattle.std.specs.Prelude.{◌≡◌, ◌<◌, ◌≤◌, ◌+◌, ◌^◌, [], ◌∷◌, ◌++◌, IfOk};
 ghost use Rattle.rpp_tree.specs.Views.{expression_of, lvalue_of};
-ghost use Rattle.paired_code.specs.Code.{unmarked};
+ghost use Rattle.register_expressions.specs.paired_code.Code.{unmarked};
 ghost use Rattle.register_expressions.specs.Code.{xor as xor_cell, addi as addi_cell, base_of, words as words_of};
 ghost use Rattle.expr_uncompute.specs.Code.{place_words as words_of_place, fetch_cells, place_cells, found_place_cells, found_value_cells, found_places_cells};
-ghost use Rattle.code_scope.specs.Visible.{offset_of, spot_of as spot_of_name, free_of, known_by};
+ghost use Rattle.register_expressions.specs.code_scope.Visible.{offset_of, spot_of as spot_of_name, free_of, known_by};
 
 use crate::apart::{apart, apart_from, own_apart};
 use crate::values::{checked, open, parts, place_words, prepare, result_register};

@@ -1,7 +1,8 @@
-//! The code of expressions: values, tests, updates and swaps of places as pieces of reversible code,
-//! each with the law of its runs in both directions. A `Scope` tells where the visible variables of
-//! a method stand. The layer above may use the calls, `Scope`, `Spot`, and the laws of
-//! specs/Promises.antt; which cells a piece has is this crate's own matter.
+//! The code of expressions: values, conditions, and updates and swaps of lvalues. Each is a
+//! fragment of reversible code with the law of its runs in both directions. A `Scope` has the
+//! storage slots of a method's visible variables. The layer above may use the calls, `Scope`,
+//! `Spot`, and the laws of specs/Promises.antt; which cells a fragment has is this crate's own
+//! matter.
 #![tactic(auto)]
 
 mod apart;

@@ -1,13 +1,13 @@
 // Places and values found around any middle.
 ghost use Rattle.std.specs.Prelude.{◌≡◌, ◌≤◌, ◌+◌, ◌*◌, [], length, IfOk};
 ghost use Rattle.rpp_tree.specs.Views.{expression_of, lvalue_of};
-ghost use Rattle.paired_code.specs.Code.{unmarked};
+ghost use Rattle.register_expressions.specs.paired_code.Code.{unmarked};
 ghost use Rattle.register_expressions.specs.Code.{around, words as words_of};
 ghost use Rattle.expr_uncompute.specs.Code.{place_words as words_of_place, found_place_cells, found_value_cells, found_places_cells};
 ghost use Rattle.expr_uncompute.specs.Found.{PlaceAroundLaw, ValueAroundLaw, PlacesAroundLaw};
 ghost use Rattle.register_expressions.specs.Steps.{tokens};
 ghost use Rattle.expr_uncompute.specs.Steps.{place_tokens};
-ghost use Rattle.code_scope.specs.Visible.{spot_of as spot_of_name, free_of, known_by};
+ghost use Rattle.register_expressions.specs.code_scope.Visible.{spot_of as spot_of_name, free_of, known_by};
 
 use crate::found::{found_place, found_places, found_value};
 use code_scope::Names;

@@ -2,7 +2,7 @@
 ghost use Rattle.std.specs.Prelude.{◌≡◌, ◌≢◌, ◌<◌, ◌≤◌, ◌+◌, ◌*◌, ◌^◌, [], ◌∷◌, ◌++◌, length, IfOk};
 ghost use Rattle.rpp_tree.specs.Tree.{Whole, Item};
 ghost use Rattle.rpp_tree.specs.Views.{expression_of, lvalue_of};
-ghost use Rattle.paired_code.specs.Code.{unmarked};
+ghost use Rattle.register_expressions.specs.paired_code.Code.{unmarked};
 ghost use Rattle.register_expressions.specs.Code.{words as words_of, around, reach_cells, base_of, addi as addi_cell};
 ghost use Rattle.expr_uncompute.specs.Code.{place_words as words_of_place, update_cell as cell_of_update, number_cell as cell_of_number, onward as onward_cell, from_object as onward_from_object, from_frame as onward_from_frame_cell, both_reached as both_reached_cells, found_update_cells, held_update_cells, operated_update_cells, whole_update_cells, near_middle as near_middle_cells, near_place_cells, near_update_cells, item_update_cells, update_cells, four_exchanges as four_of, swap_at as swap_at_cells, beyond as beyond_cells, swap_by_one as swap_by_one_cells, have_one_base as one_base, swap_spots as swap_spots_cells, found_swap_cells, near_swap_cells, whole_swap_cells, item_swap_cells, swap_cells};
 ghost use Rattle.register_expressions.specs.Held.{need as need_of};
@@ -11,7 +11,7 @@ ghost use Rattle.expr_uncompute.specs.Promises.{UpdateLaw, SwapLaw};
 ghost use Rattle.expr_uncompute.specs.Sizes.{swap_size};
 ghost use Rattle.register_expressions.specs.Steps.{tokens};
 ghost use Rattle.expr_uncompute.specs.Steps.{place_tokens};
-ghost use Rattle.code_scope.specs.Visible.{offset_of, spot_of as spot_of_name, free_of, known_by};
+ghost use Rattle.register_expressions.specs.code_scope.Visible.{offset_of, spot_of as spot_of_name, free_of, known_by};
 
 use crate::apart::both_apart;
 use crate::found::{both_places, found_value};
@@ -86,7 +86,7 @@ fn onward_from_frame(alloc: Global, from: u32, y: Spot) -> Result<Piece, NoMemor
     }
 }
 
-// A base that stands at the first spot, or the other base, goes to the second.
+// A base that is at the first storage slot, or the other base, goes to the second.
 fn onward(alloc: Global, x: Spot, y: Spot) -> Result<Piece, NoMemory>
     requires first { offset_of x < 2 ^ 32 }
     requires second { offset_of y < 2 ^ 32 }
@@ -144,7 +144,7 @@ fn by_value(
     enclosed(alloc, outer, middle)
 }
 
-// A variable updated by a value whose parts stand in registers.
+// A variable updated by a value whose subexpressions are in registers.
 fn by_held(
     alloc: Global,
     op: UpdateOp,

@@ -1,13 +1,13 @@
 // The code of values.
 ghost use Rattle.std.specs.Prelude.{◌≡◌, ◌≢◌, ◌<◌, ◌≤◌, ◌⊎◌, ◌+◌, ◌*◌, ◌++◌, length, IfOk};
 ghost use Rattle.rpp_tree.specs.Views.{expression_of, lvalue_of};
-ghost use Rattle.paired_code.specs.Code.{unmarked};
+ghost use Rattle.register_expressions.specs.paired_code.Code.{unmarked};
 ghost use Rattle.register_expressions.specs.Code.{Target, words as words_of, copy_cells, nil_check as nil_cells, index_check as index_cells};
 ghost use Rattle.expr_uncompute.specs.Code.{place_words as words_of_place, operand_cells, checked_cells as checked_of, open_cells, prepare_cells, parts_cells, prepared_value_cells, prepared_test_cells, value_cells, test_cells, result_of};
 ghost use Rattle.register_expressions.specs.Number.{read_of};
 ghost use Rattle.expr_uncompute.specs.Promises.{ValueLaw, TestLaw};
 ghost use Rattle.register_expressions.specs.Steps.{tokens};
-ghost use Rattle.code_scope.specs.Visible.{spot_of as spot_of_name, free_of, known_by};
+ghost use Rattle.register_expressions.specs.code_scope.Visible.{spot_of as spot_of_name, free_of, known_by};
 
 use code_conventions::registers::{CONTENT, ITEM, LEFT, RIGHT, TRUTH};
 use code_scope::{Names, free_word, spot_of};
@@ -158,7 +158,7 @@ fn open_read(alloc: Global, names: &Names, place: &Place, i: u32) -> Result<Piec
     }
 }
 
-/// The value of an expression in its register, where its parts are prepared.
+/// The value of an expression in its register, if its parts are prepared.
 pub fn open(alloc: Global, names: &Names, e: &Expr, i: u32) -> Result<Piece, NoMemory>
     requires { i + words_of (expression_of e.now) ≤ 1000 }
     ensures { IfOk result (λ p.

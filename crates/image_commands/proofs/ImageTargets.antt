@@ -2,17 +2,17 @@
 use Rattle.std.proofs.Common.{◌≡◌, ℕ, List, None, Some, Ok, Err, inl, inr, option_map, refl}
 use Rattle.std.specs.declared.option.Option.{Option}
 use Rattle.std.specs.Prelude.{Result}
-use Rattle.rpp_words.specs.declared.input.Limits.{Limits}
-use Rattle.rpp_ports.specs.Ports.{Texts}
-use Rattle.pisa_loader.specs.declared.error.LoadError.{LoadError}
-use Rattle.pisa_isa.specs.Image.{Segments}
-use Rattle.pisa_isa.specs.Notes.{NoteLists, NotedImage}
-use Rattle.pisa_image.specs.declared.error.ImageError.{ImageError}
-use Rattle.pisa_asm.specs.declared.error.AsmError.{AsmError}
-use Rattle.pisa_image.specs.Reading.{image_at}
-use Rattle.pisa_asm.specs.Passes.{noted_of_text}
-use Rattle.pisa_machine.specs.Position.{Position}
-use Rattle.pisa_isa.specs.Machine.{State}
+use Rattle.command_plan.specs.rpp_words.declared.input.Limits.{Limits}
+use Rattle.command_plan.specs.rpp_ports.Ports.{Texts}
+use Rattle.command_plan.specs.pisa_loader.declared.error.LoadError.{LoadError}
+use Rattle.image_inverter.specs.pisa_isa.Image.{Segments}
+use Rattle.image_inverter.specs.pisa_isa.Notes.{NoteLists, NotedImage}
+use Rattle.command_plan.specs.pisa_image.declared.error.ImageError.{ImageError}
+use Rattle.command_plan.specs.pisa_asm.declared.error.AsmError.{AsmError}
+use Rattle.command_plan.specs.pisa_image.Reading.{image_at}
+use Rattle.command_plan.specs.pisa_asm.Passes.{noted_of_text}
+use Rattle.two_way_debugger.specs.pisa_machine.Position.{Position}
+use Rattle.image_inverter.specs.pisa_isa.Machine.{State}
 use Rattle.command_plan.specs.Plans.{Planned, WritesOnly}
 use Rattle.image_commands.specs.ImagePlans.{OfImage, OfRunImage, IsAsmPlan, AssemblesFile, ListsFile, FlipsFile}
 use Rattle.image_commands.specs.ImagePlans.{RunsFile}

@@ -1,8 +1,8 @@
--- The counter of machine steps where a script is followed, and what want of memory leaves of it.
+-- The counter of machine steps if a script is followed, and its value if memory runs out.
 use Rattle.std.proofs.Common.{◌≡◌, ℕ, ◌+◌, List, Ok, Err, sym, subst}
 use Rattle.std.specs.Prelude.{Result, IfOk, IfErr, OnOk, ◌⊎◌}
-use Rattle.rpp_words.specs.declared.input.Limits.{Limits}
-use Rattle.pisa_isa.specs.Image.{Segments}
+use Rattle.command_plan.specs.rpp_words.declared.input.Limits.{Limits}
+use Rattle.image_inverter.specs.pisa_isa.Image.{Segments}
 use Rattle.two_way_debugger.specs.declared.command.Command.{Command}
 use Rattle.two_way_debugger.specs.declared.error.ScriptError.{ScriptError}
 use Rattle.two_way_debugger.specs.Shown.{spent_in}
@@ -10,7 +10,7 @@ use Rattle.command_plan.specs.declared.plan.Plan.{Plan}
 use Rattle.command_plan.specs.Plans.{planned}
 use Rattle.image_commands.specs.DebugPlans.{start_of, followed, MovesSome, IsScriptPlan, IsScriptShort}
 
--- what holds whatever the answer
+-- what holds whatever the result
 pub err_always : {A E : Type 0} (r : Result A E) (P : Type 0) → P → IfErr r (λ _. P)
 err_always (Ok x) P h = tt
 err_always (Err e) P h = h

@@ -1,20 +1,20 @@
--- The plan of `debug`. Of the machine steps that it makes, `count` is their counter as it is handed
--- in, and `counted` as it is left.
+-- The plan of `debug`. Its machine steps are counted: `count` is their counter as it is passed, and
+-- `counted` as it is left.
 use Rattle.std.specs.Prelude.{◌≡◌, ◌⊎◌, ℕ, ◌+◌, List, [], take, None, Some, Result, Ok, Err}
 use Rattle.std.specs.declared.option.Option.{Option}
-use Rattle.rpp_words.specs.declared.input.Limits.{Limits}
-use Rattle.rpp_words.specs.declared.input.TheConstants.{MOST_DEEP}
-use Rattle.rpp_ports.specs.Ports.{Texts}
-use Rattle.pisa_isa.specs.Image.{Segments}
-use Rattle.pisa_isa.specs.Notes.{NotedImage}
-use Rattle.pisa_isa.specs.Loaded.{loaded}
-use Rattle.pisa_isa.specs.Runs.{zero_registers}
-use Rattle.pisa_machine.specs.Position.{Position, first_position}
-use Rattle.pisa_image.specs.declared.error.ImageError.{ImageError}
-use Rattle.pisa_image.specs.Reading.{image_at}
-use Rattle.pisa_loader.specs.Limiting.{limits_refusal}
-use Rattle.pisa_loader.specs.declared.error.LoadError.{LoadError}
-use Rattle.pisa_scripts.specs.declared.lines.TheConstants.{MOST_SCRIPT}
+use Rattle.command_plan.specs.rpp_words.declared.input.Limits.{Limits}
+use Rattle.command_plan.specs.rpp_words.declared.input.TheConstants.{MOST_DEEP}
+use Rattle.command_plan.specs.rpp_ports.Ports.{Texts}
+use Rattle.image_inverter.specs.pisa_isa.Image.{Segments}
+use Rattle.image_inverter.specs.pisa_isa.Notes.{NotedImage}
+use Rattle.image_inverter.specs.pisa_isa.Loaded.{loaded}
+use Rattle.image_inverter.specs.pisa_isa.Runs.{zero_registers}
+use Rattle.two_way_debugger.specs.pisa_machine.Position.{Position, first_position}
+use Rattle.command_plan.specs.pisa_image.declared.error.ImageError.{ImageError}
+use Rattle.command_plan.specs.pisa_image.Reading.{image_at}
+use Rattle.command_plan.specs.pisa_loader.Limiting.{limits_refusal}
+use Rattle.command_plan.specs.pisa_loader.declared.error.LoadError.{LoadError}
+use Rattle.command_plan.specs.pisa_scripts.declared.lines.TheConstants.{MOST_SCRIPT}
 use Rattle.two_way_debugger.specs.declared.command.Command.{Command}
 use Rattle.two_way_debugger.specs.declared.error.ScriptError.{ScriptError}
 use Rattle.two_way_debugger.specs.declared.error.ScriptError.TheVariants.{BadCommand, NoMemory}
@@ -38,7 +38,7 @@ start_of image limits = first_position image zero_registers (loaded image.static
 abbrev pub followed : Segments → Limits → List Command → Planned
 followed image limits commands = prints Done (shown commands (start_of image limits))
 
--- the first line of the script that is no command is told, or its commands are followed
+-- the first line of the script that is no command is reported, or its commands are followed
 abbrev pub IsScriptPlan : Result (List Command) ScriptError → Segments → Limits
     → (count counted : ℕ) → Planned → Type 0
 IsScriptPlan (Err (BadCommand line)) image limits count counted p =
@@ -70,8 +70,7 @@ DebugsFile image heap deep script count counted told p =
     (λ bytes. WithText told script MOST_SCRIPT
     (λ text. IsDebugPlan (image_at bytes) heap deep text count counted p))
 
--- what want of memory leaves of the counter: the moves of some first commands were made, and no
--- others
+-- the counter if memory runs out: some first commands made their moves, and no others did
 pub record MovesSome (commands : List Command) (first : Position) (count counted : ℕ) : Type 0 where
   pub made : ℕ
   pub counter : counted ≡ count + spent_in (take made commands) first

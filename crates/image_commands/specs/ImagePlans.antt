@@ -1,31 +1,31 @@
--- The plans of the commands on images. Of the machine steps that a command makes, `count` is their
--- counter as it is handed in, and `counted` as it is left.
+-- The plans of the commands on images. A command's machine steps are counted: `count` is their
+-- counter as it is passed, and `counted` as it is left.
 use Rattle.std.specs.Prelude.{◌≡◌, ℕ, ◌+◌, List, [], length, None, Some, Result, Ok, Err, codes}
 use Rattle.std.specs.declared.option.Option.{Option}
-use Rattle.rpp_ports.specs.Ports.{Texts}
-use Rattle.pisa_image.specs.Reading.{image_at}
-use Rattle.pisa_asm.specs.declared.assembler.TheConstants.{MOST_TEXT}
-use Rattle.pisa_asm.specs.Passes.{noted_of_text}
+use Rattle.command_plan.specs.rpp_ports.Ports.{Texts}
+use Rattle.command_plan.specs.pisa_image.Reading.{image_at}
+use Rattle.command_plan.specs.pisa_asm.declared.assembler.TheConstants.{MOST_TEXT}
+use Rattle.command_plan.specs.pisa_asm.Passes.{noted_of_text}
 use Rattle.command_plan.specs.declared.reading.TheConstants.{MOST_IMAGE}
-use Rattle.rpp_words.specs.declared.input.Limits.{Limits}
-use Rattle.pisa_isa.specs.declared.machine.Stop.{Stop}
-use Rattle.pisa_isa.specs.declared.machine.Stop.TheVariants.{Finished, Trap, Bound as AtBound}
-use Rattle.pisa_isa.specs.Image.{Segments}
-use Rattle.pisa_isa.specs.Notes.{NoteLists, NotedImage, flipped_noted}
-use Rattle.pisa_image.specs.declared.error.ImageError.{ImageError}
-use Rattle.pisa_image.specs.ImageBytes.{image_bytes}
-use Rattle.pisa_asm.specs.declared.error.AsmError.{AsmError}
-use Rattle.pisa_asm.specs.Listing.{listing}
-use Rattle.pisa_isa.specs.Machine.{State as MachineState}
-use Rattle.pisa_isa.specs.Loaded.{loaded}
-use Rattle.pisa_isa.specs.Runs.{End, run, zero_registers}
-use Rattle.pisa_machine.specs.Position.{Position, first_position}
+use Rattle.command_plan.specs.rpp_words.declared.input.Limits.{Limits}
+use Rattle.image_inverter.specs.pisa_isa.declared.machine.Stop.{Stop}
+use Rattle.image_inverter.specs.pisa_isa.declared.machine.Stop.TheVariants.{Finished, Trap, Bound as AtBound}
+use Rattle.image_inverter.specs.pisa_isa.Image.{Segments}
+use Rattle.image_inverter.specs.pisa_isa.Notes.{NoteLists, NotedImage, flipped_noted}
+use Rattle.command_plan.specs.pisa_image.declared.error.ImageError.{ImageError}
+use Rattle.command_plan.specs.pisa_image.ImageBytes.{image_bytes}
+use Rattle.command_plan.specs.pisa_asm.declared.error.AsmError.{AsmError}
+use Rattle.command_plan.specs.pisa_asm.Listing.{listing}
+use Rattle.image_inverter.specs.pisa_isa.Machine.{State as MachineState}
+use Rattle.image_inverter.specs.pisa_isa.Loaded.{loaded}
+use Rattle.image_inverter.specs.pisa_isa.Runs.{End, run, zero_registers}
+use Rattle.two_way_debugger.specs.pisa_machine.Position.{Position, first_position}
 use Rattle.command_plan.specs.Texts.{asm_line, image_line, load_line, cells_line}
 use Rattle.image_commands.specs.RunTexts.{end_lines}
-use Rattle.pisa_loader.specs.Limiting.{limits_refusal, memory_size}
-use Rattle.pisa_loader.specs.States.{state_bytes, state_at, at_start, memory}
-use Rattle.pisa_loader.specs.declared.error.LoadError.{LoadError}
-use Rattle.rpp_words.specs.declared.input.TheConstants.{MOST_DEEP}
+use Rattle.command_plan.specs.pisa_loader.Limiting.{limits_refusal, memory_size}
+use Rattle.command_plan.specs.pisa_loader.States.{state_bytes, state_at, at_start, memory}
+use Rattle.command_plan.specs.pisa_loader.declared.error.LoadError.{LoadError}
+use Rattle.command_plan.specs.rpp_words.declared.input.TheConstants.{MOST_DEEP}
 use Rattle.command_plan.specs.declared.plan.Verdict.{Verdict}
 use Rattle.command_plan.specs.declared.plan.Verdict.TheVariants.{Done, ImageRefused, Trapped, Bound}
 use Rattle.command_plan.specs.declared.plan.Verdict.TheVariants.{InputRefused, Stopped}
@@ -38,7 +38,7 @@ verdict_of (Trap code) = Trapped
 verdict_of AtBound = Bound
 verdict_of _ = Stopped
 
--- the state where a run ended is written, where a file is named for it
+-- the state where a run ended is written, if a file is named for it
 abbrev pub saved : Option (List ℕ) → MachineState → Option Written
 saved None last = None
 saved (Some name) last = Some (record {
@@ -53,13 +53,13 @@ ran notes save end = record {
   writing = saved save end.last;
 }
 
--- the first refusal of an image file is told, or P holds of the image that was read
+-- the first refusal of an image file is reported, or P holds for the image that was read
 abbrev pub OfImage : (P : NotedImage → Planned → Type 0) → Result NotedImage ImageError → Planned
     → Type 0
 OfImage P (Err e) p = p ≡ prints ImageRefused (image_line e)
 OfImage P (Ok n) p = P n p
 
--- the same of an image that is to be run: where it is refused, no step is made
+-- the same of an image that is to be run: if it is refused, no step is made
 abbrev pub OfRunImage : (count counted : ℕ) → (P : NotedImage → Planned → Type 0)
     → Result NotedImage ImageError → Planned → Type 0
 OfRunImage count counted P (Err e) p =
@@ -73,7 +73,7 @@ first_of image limits None = Ok (first_position image zero_registers
 first_of image limits (Some bytes) =
     at_start image (state_at (memory_size (length image.statics) limits) bytes)
 
--- the state is judged, and then the run is made, once
+-- the state is checked, and then the run is made, once
 abbrev pub IsRanPlan : Result Position LoadError → NoteLists → (save : Option (List ℕ)) (steps : ℕ)
     → (count counted : ℕ) → Planned → Type 0
 IsRanPlan (Err e) notes save steps count counted p =
@@ -96,7 +96,8 @@ IsRunPlan read heap deep steps state save count counted p =
     OfRunImage count counted (λ n. IsSizedPlan (limits_refusal heap deep MOST_DEEP) n
     (record { heap = heap; deep = deep }) state save steps count counted) read p
 
--- the image that an assembly text writes is written with its notes, or its first refusal is told
+-- the image that an assembly text writes is written with its debug information, or its first
+-- refusal is reported
 abbrev pub IsAsmPlan : Result NotedImage AsmError → (name : List ℕ) → Planned → Type 0
 IsAsmPlan (Err e) name p = p ≡ prints ImageRefused (asm_line e)
 IsAsmPlan (Ok n) name p = p ≡ writes name (image_bytes n)
@@ -107,7 +108,7 @@ abbrev pub IsListPlan : Result NotedImage ImageError → (name : List ℕ) → P
 IsListPlan read name p =
     OfImage (λ n p. p ≡ writes name (listing n) (cells_line (codes "listed") n.image.code)) read p
 
--- the flipped image of an image that was read is written, with its notes turned
+-- the inverse image of an image that was read is written, with its debug information reversed
 abbrev pub IsFlipPlan : Result NotedImage ImageError → (name : List ℕ) → Planned → Type 0
 IsFlipPlan read name p =
     OfImage (λ n p. p ≡ writes name (image_bytes (flipped_noted n))
@@ -128,7 +129,7 @@ abbrev pub FlipsFile : (image flipped : List ℕ) → Option Texts → Planned �
 FlipsFile image flipped told p =
     WithText told image MOST_IMAGE (λ bytes. IsFlipPlan (image_at bytes) flipped p)
 
--- the plan of `run` of this file, from a state where one is named, to one where it is to be saved
+-- the plan of `run` of this file, from a state if one is named, to one if it is to be saved
 abbrev pub RunsFile : (image : List ℕ) → (heap deep steps : ℕ) → (state save : Option (List ℕ))
     → (count counted : ℕ) → Option Texts → Planned → Type 0
 RunsFile image heap deep steps state save count counted told p =

@@ -1,3 +1,4 @@
+pub use Rattle.two_way_debugger.specs as two_way_debugger
 pub mod RunTexts
 pub mod ImagePlans
 pub mod DebugPlans

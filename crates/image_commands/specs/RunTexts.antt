@@ -3,17 +3,17 @@ use Rattle.std.specs.Prelude.{ℕ, ◌-◌, ℤ, pos, int_le, int_lt, nat_lt, Bo
 use Rattle.std.specs.Prelude.{List, [], ◌∷◌, ◌++◌, None, Some, codes}
 use Rattle.std.specs.declared.option.Option.{Option}
 use Rattle.std.specs.Fmt.{decimal, signed_decimal}
-use Rattle.rpp_words.specs.Texts.{line_end}
-use Rattle.pisa_isa.specs.declared.notes.Mark.{Mark}
-use Rattle.pisa_isa.specs.declared.notes.FieldName.{FieldName}
-use Rattle.pisa_isa.specs.Machine.{word_at}
-use Rattle.pisa_isa.specs.Notes.{NoteLists}
-use Rattle.pisa_isa.specs.Runs.{End}
-use Rattle.pisa_scripts.specs.Stops.{stop_line}
-use Rattle.pisa_scripts.specs.Words.{word_shown, direction, register_lines}
+use Rattle.command_plan.specs.rpp_words.Texts.{line_end}
+use Rattle.image_inverter.specs.pisa_isa.declared.notes.Mark.{Mark}
+use Rattle.image_inverter.specs.pisa_isa.declared.notes.FieldName.{FieldName}
+use Rattle.image_inverter.specs.pisa_isa.Machine.{word_at}
+use Rattle.image_inverter.specs.pisa_isa.Notes.{NoteLists}
+use Rattle.image_inverter.specs.pisa_isa.Runs.{End}
+use Rattle.command_plan.specs.pisa_scripts.Stops.{stop_line}
+use Rattle.command_plan.specs.pisa_scripts.Words.{word_shown, direction, register_lines}
 use Rattle.command_plan.specs.Texts.{steps_line}
 
--- a code place is one of the cells of a mark
+-- a code address is one of the cells of a mark
 abbrev pub holds_place : (pc : ℤ) → Mark → Bool
 holds_place pc m = int_le (pos m.first) pc && int_lt pc (pos m.end)
 
@@ -25,7 +25,7 @@ abbrev pub narrower : Option Mark → Mark → Option Mark
 narrower None m = Some m
 narrower (Some best) m = if nat_lt (width m) (width best) then Some m else Some best
 
--- the same, where the mark holds the place
+-- the same, if the mark holds the place
 abbrev pub narrowed : (pc : ℤ) → Option Mark → Mark → Option Mark
 narrowed pc best m = if holds_place pc m then narrower best m else best
 
@@ -39,7 +39,7 @@ abbrev pub from_line : Option Mark → List ℕ
 from_line None = []
 from_line (Some m) = codes "from " ++ (decimal m.at ++ line_end)
 
--- a name with the word in its cell, 0 behind the memory
+-- a name with the word in its cell, 0 if the cell is after the memory
 abbrev pub name_line : (cells : List ℕ) → FieldName → List ℕ
 name_line cells n =
     n.text ++ (codes " = " ++ (word_shown (word_at cells n.cell) ++ line_end))
@@ -54,8 +54,8 @@ place_lines pc br back =
     codes "pc " ++ (signed_decimal pc
     ++ (codes "\nbr " ++ (word_shown br ++ (codes "\ndir " ++ (direction back ++ line_end)))))
 
--- why the run ended, its steps, where the machine stands, its statement, the registers that are not
--- 0, and the names' words
+-- the stop reason, the steps, the code address, the statement, the registers that are not 0, and
+-- the names' words
 abbrev pub end_lines : NoteLists → End → List ℕ
 end_lines notes end =
     ((((stop_line end.why ++ steps_line end.spent)

@@ -1,10 +1,10 @@
 // `debug IMG H D SCRIPT`: follows a script along the run of an image, both ways.
 ghost use Rattle.std.specs.Prelude.{◌≡◌, ◌⊎◌, ◌≤◌, ◌+◌, [], ◌∷◌, length, Ok, IfOk, IfErr, OnOk, IfSome, string_bytes};
-ghost use Rattle.pisa_image.specs.Reading.{image_at};
-ghost use Rattle.pisa_loader.specs.Limiting.{limits_refusal};
-ghost use Rattle.rpp_words.specs.Limits.{IsLimits};
-ghost use Rattle.rpp_words.specs.declared.input.TheConstants.{MOST_DEEP};
-ghost use Rattle.pisa_scripts.specs.declared.lines.TheConstants.{MOST_SCRIPT};
+ghost use Rattle.command_plan.specs.pisa_image.Reading.{image_at};
+ghost use Rattle.command_plan.specs.pisa_loader.Limiting.{limits_refusal};
+ghost use Rattle.command_plan.specs.rpp_words.Limits.{IsLimits};
+ghost use Rattle.command_plan.specs.rpp_words.declared.input.TheConstants.{MOST_DEEP};
+ghost use Rattle.command_plan.specs.pisa_scripts.declared.lines.TheConstants.{MOST_SCRIPT};
 ghost use Rattle.two_way_debugger.specs.Scripts.{script_of};
 ghost use Rattle.two_way_debugger.specs.Shown.{shown, spent_in};
 ghost use Rattle.command_plan.specs.Files.{OnlyReads, UnreadCause, image_file};
@@ -26,8 +26,8 @@ use std::sync::ledger::Ledger;
 use two_way_debugger::{Command, Debugger, ScriptError, read_script};
 
 /// Follows the script in a file along the run of the image in a file, from the loaded memory on,
-/// and tells what its commands print. It makes the steps of their moves and no others, and none
-/// where a file cannot be read.
+/// and reports what its commands print. It makes the steps of their moves and no others, and none
+/// if a file cannot be read.
 pub fn debug<S: Shelf, L: Ledger>(
     alloc: Global,
     shelf: &mut S,
@@ -98,7 +98,7 @@ fn debug_sized<L: Ledger>(
     }
 }
 
-// The script is judged, and then it is followed.
+// The script is checked, and then it is followed.
 fn debug_script<L: Ledger>(
     alloc: Global,
     image: Image,
@@ -145,7 +145,7 @@ fn follow_script<L: Ledger>(
     Ok(Plan::prints(Verdict::Done, text))
 }
 
-// What these commands print from where a machine stands.
+// What these commands print from the state of a machine.
 fn follow_from<L: Ledger>(
     alloc: Global,
     machine: Machine,

@@ -1,9 +1,9 @@
 // `asm T IMG`, `list IMG T` and `flip IMG IMG2`: images, from their texts and files and to them.
 ghost use Rattle.std.specs.Prelude.{◌≡◌, ◌≤◌, [], ◌∷◌, length, Ok, IfOk, IfSome};
-ghost use Rattle.pisa_isa.specs.Notes.{flipped_noted};
-ghost use Rattle.pisa_image.specs.Reading.{image_at};
-ghost use Rattle.pisa_asm.specs.declared.assembler.TheConstants.{MOST_TEXT};
-ghost use Rattle.pisa_asm.specs.Passes.{noted_of_text};
+ghost use Rattle.image_inverter.specs.pisa_isa.Notes.{flipped_noted};
+ghost use Rattle.command_plan.specs.pisa_image.Reading.{image_at};
+ghost use Rattle.command_plan.specs.pisa_asm.declared.assembler.TheConstants.{MOST_TEXT};
+ghost use Rattle.command_plan.specs.pisa_asm.Passes.{noted_of_text};
 ghost use Rattle.command_plan.specs.Plans.{planned, GivesPlan};
 ghost use Rattle.image_commands.specs.ImagePlans.{IsAsmPlan, IsListPlan, IsFlipPlan, AssemblesFile, ListsFile, FlipsFile};
 ghost use Rattle.command_plan.specs.declared.reading.TheConstants.{MOST_IMAGE};
@@ -68,7 +68,7 @@ fn write_listing(alloc: Global, noted: &Noted, name: &str) -> Result<Plan, NoMem
     Ok(Plan::writes(String::from_str(alloc, name)?, listing.into_bytes(), text))
 }
 
-/// Writes the flipped image of the image in a file.
+/// Writes the inverse image of the image in a file.
 pub fn flip<S: Shelf>(
     alloc: Global,
     shelf: &mut S,
@@ -102,7 +102,7 @@ fn write_flipped(alloc: Global, noted: &Noted, name: &str) -> Result<Plan, NoMem
     Ok(Plan::writes(String::from_str(alloc, name)?, bytes, text))
 }
 
-// The flipped image, with its notes turned.
+// The inverse image, with its debug information reversed.
 fn flipped(alloc: Global, noted: &Noted) -> Result<Noted, NoMemory>
     ensures { IfOk result (λ turned. turned ≡ flipped_noted noted.now) }
 {

@@ -1,7 +1,7 @@
 // What is printed of a run of an image.
 ghost use Rattle.std.specs.Prelude.{◌≡◌, ◌++◌, None, All, IfOk, OnOk, string_bytes};
 ghost use Rattle.std.specs.Str.{IsAscii};
-ghost use Rattle.pisa_isa.specs.Notes.{HasAsciiText};
+ghost use Rattle.image_inverter.specs.pisa_isa.Notes.{HasAsciiText};
 ghost use Rattle.image_commands.specs.RunTexts.{holds_place, narrower as narrower_of, narrowed as narrowed_of, narrowest as narrowest_of, width as width_of, from_line, name_line, name_lines, place_lines, end_lines as lines_of_end};
 
 use pisa_isa::{Core, FieldName, Mark, Notes};
@@ -9,8 +9,8 @@ use pisa_machine::{Machine, RunEnd, word_at};
 use pisa_scripts::{add_registers, add_stop, direction};
 use std::alloc::{AllocError, Global};
 
-/// What is printed of a run: why it ended, its steps, where the machine stands, and what is noted
-/// there.
+/// What is printed of a run: the stop reason, the steps, the code address, and its debug
+/// information.
 pub fn end_lines(
     alloc: Global,
     end: RunEnd,
@@ -37,7 +37,7 @@ pub fn end_lines(
     Ok(text)
 }
 
-// Where a machine stands.
+// The code address of a machine.
 fn add_place(text: &mut String, core: &Core) -> Result<(), AllocError>
     ensures { OnOk result (string_bytes text.new
         ≡ string_bytes text.old ++ place_lines core.now.pc core.now.br core.now.back) }
@@ -90,7 +90,7 @@ fn width(mark: Mark) -> u32
     mark.end.saturating_sub(mark.first)
 }
 
-// The line on the statement that a machine stands in, if it does in one.
+// The line on the statement at which a machine is, if it is at one.
 fn add_statement(text: &mut String, mark: Option<Mark>) -> Result<(), AllocError>
     ensures { OnOk result (string_bytes text.new ≡ string_bytes text.old ++ from_line mark) }
 {

@@ -1,11 +1,11 @@
 // `run IMG H D STEPS [STATE SAVE]`: runs an image.
 ghost use Rattle.std.specs.Prelude.{◌≡◌, ◌<◌, ◌≤◌, ◌+◌, ◌^◌, ◌∷◌, Ok, All, option_map, IfOk, IfErr};
-ghost use Rattle.pisa_isa.specs.Runs.{run as run_of_code};
-ghost use Rattle.pisa_isa.specs.Notes.{HasAsciiText};
-ghost use Rattle.pisa_image.specs.Reading.{image_at};
-ghost use Rattle.pisa_loader.specs.Limiting.{limits_refusal};
-ghost use Rattle.pisa_loader.specs.States.{Gives};
-ghost use Rattle.rpp_words.specs.Limits.{IsLimits};
+ghost use Rattle.image_inverter.specs.pisa_isa.Runs.{run as run_of_code};
+ghost use Rattle.image_inverter.specs.pisa_isa.Notes.{HasAsciiText};
+ghost use Rattle.command_plan.specs.pisa_image.Reading.{image_at};
+ghost use Rattle.command_plan.specs.pisa_loader.Limiting.{limits_refusal};
+ghost use Rattle.command_plan.specs.pisa_loader.States.{Gives};
+ghost use Rattle.command_plan.specs.rpp_words.Limits.{IsLimits};
 ghost use Rattle.command_plan.specs.declared.reading.TheConstants.{MOST_IMAGE};
 ghost use Rattle.command_plan.specs.Files.{state_of_names, save_of_names, OnlyReads, UnreadCause, image_file, state_files};
 ghost use Rattle.command_plan.specs.Plans.{planned, written, GivesPlan};
@@ -24,8 +24,8 @@ use rpp_words::{Input, Limits, MOST_DEEP, NoMemory};
 use std::alloc::Global;
 use std::sync::ledger::Ledger;
 
-/// Runs the image in a file, from the loaded memory or from a state, and tells its end. It makes
-/// the steps of that run and no others, and none where a file cannot be read.
+/// Runs the image in a file, from the loaded memory or from a state, and reports its end. It makes
+/// the steps of that run and no others, and none if a file cannot be read.
 pub fn run<S: Shelf, L: Ledger>(
     alloc: Global,
     shelf: &mut S,
@@ -98,14 +98,14 @@ fn run_sized<L: Ledger>(
     }
 }
 
-// The sizes of heap and stack that were judged, and the number of steps.
+// The sizes of heap and stack that were checked, and the number of steps.
 #[derive(Clone, Copy)]
 struct Bounds {
     limits: Limits,
     bound: u64,
 }
 
-// The state is judged, and then the run is made.
+// The state is checked, and then the run is made.
 fn run_from<L: Ledger>(
     alloc: Global,
     noted: Noted,
@@ -201,7 +201,7 @@ fn ran(
     })
 }
 
-// The state of a machine, to be written where a file is named for it.
+// The state of a machine, to be written if a file is named for it.
 fn saved(
     alloc: Global,
     machine: &Machine,

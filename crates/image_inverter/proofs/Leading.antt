@@ -1,4 +1,4 @@
--- Where a run of an image leads, the run of the flipped image leads back.
+-- If a run of an image leads somewhere, the run of the inverse image leads back.
 use Rattle.std.proofs.Common.{◌≡◌, ◌∙◌, ap, sym, subst, refl, arith, List, [], ◌∷◌, ◌++◌, map, reverse}
 use Rattle.std.proofs.lemmas.List.{map-append, reverse-append}
 use Rattle.pisa_isa.specs.declared.cell.Cell.{Cell}

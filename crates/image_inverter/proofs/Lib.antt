@@ -1,1 +1,2 @@
+pub use Rattle.pisa_isa.proofs as pisa_isa_laws
 pub mod Leading

@@ -8,15 +8,15 @@ use pisa_isa::{Cell, Image};
 use rpp_words::NoMemory;
 use std::alloc::{AllocError, Global};
 
-/// The flipped image: the code in reverse order, each cell replaced by its inverse, with the same
-/// static cells. So START and FINISH change places, each offset is negated, and DATA cells stay. This
-/// is program inversion on reversible machine code (Axelsen, Glück and Yokoyama).
+/// The inverse image: the code in reverse order, each cell replaced by its inverse, with the same
+/// static cells. So START and FINISH change places, each offset is negated, and DATA cells stay.
+/// This is program inversion on reversible machine code (Axelsen, Glück and Yokoyama).
 pub fn flip(alloc: Global, image: &Image) -> Result<Image, NoMemory>
     // What it is.
     ensures flipped { IfOk result (λ turned. turned ≡ flipped_image image.now) }
     // Flipping it again gives the image.
     ensures twice { IfOk result (λ turned. flipped_image turned ≡ image.now) }
-    // Where a run of the image finishes cleanly, that of the flipped one leads back.
+    // If a run of the image finishes cleanly, that of the flipped one leads back.
     ensures restores { IfOk result (λ turned. LeadsBack image.now.code turned.code) }
 {
     let code = flipped_code(alloc, image.code())?;

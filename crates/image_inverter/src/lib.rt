@@ -1,6 +1,6 @@
-//! The flipped image: the code of an image as it runs from its other end. A layer above may use that
-//! `flip` answers the image of the definition `flipped_image`, that flipping it again gives the image
-//! back, and that its runs lead back along the runs of the image.
+//! The inverse image: the code of an image as it runs from its other end. A layer above may use
+//! that `flip` returns the image of the definition `flipped_image`, that flipping it again gives
+//! the image back, and that its runs lead back along the runs of the image.
 #![tactic(auto)]
 
 mod inverter;

@@ -3,33 +3,33 @@ use Rattle.std.proofs.Common.{◌≡◌, ℕ, refl, sym, ap, subst, ◌∙◌, t
 use Rattle.std.proofs.Common.{Some, None, option_map, unwrap_or, Ok, Err, Result, nat_eq, nat_lt, if◌then◌else◌}
 use Rattle.std.proofs.Common.{eqb-true, length-set}
 use Rattle.std.specs.Str.{bytes_eq}
-use Rattle.rpp_tree.specs.declared.tree.Ident.{Ident}
-use Rattle.rpp_tree.specs.Tree.{Expression, Element, Lvalue, Whole, Item, Source}
-use Rattle.class_table.specs.declared.kind.Kind.{Kind}
-use Rattle.class_table.specs.declared.kind.Kind.TheVariants as kind
-use Rattle.class_table.specs.Table.{table_of}
-use Rattle.class_table.specs.Scope.{Typing, Locals, kind_in}
-use Rattle.class_table.specs.Refusal.{unknown_name, not_an_array}
-use Rattle.class_table.specs.Expressions.{is_int, element_kind, element_of as element_type, index_is_int, variable_type}
-use Rattle.class_table.specs.Expressions.{type_of, place_type, first_token}
-use Rattle.rpp_tree.specs.Places.{place_name}
-use Rattle.class_table.specs.Program.{setting_in}
-use Rattle.roopl_semantics.specs.Store.{Value, Word, Nil, Name, Head, OfClass, OfInts, OfObjects, Object, Store, State}
-use Rattle.roopl_semantics.specs.Store.{number_of, same_value, object_named, object_at, no_object, class_of_head}
-use Rattle.roopl_semantics.specs.Value.{Cell, Slot, Part, cell_named, own_class, variable_value, element_cell}
-use Rattle.roopl_semantics.specs.Value.{element_of, read, written, value as value_in, cell_of, index_fault}
-use Rattle.roopl_semantics.specs.Execution.{Setting, same_cell}
-use Rattle.meaning_sound.specs.Sound.{fits, named_fits, head_fits, head_of, head_named, cell_kind}
-use Rattle.meaning_sound.specs.Sound.{Typed}
-use Rattle.meaning_sound.proofs.Cells.{read_fits, heads_written}
-use Rattle.meaning_sound.proofs.Classes.{KnowsClasses}
-use Rattle.meaning_sound.proofs.Names.{is_object, IsMeant, variable, field, meant, cell_named_kind}
-use Rattle.class_table.proofs.FirstPlaces.{bytes_turned}
-use Rattle.class_table.proofs.PassedRules.{handed_on, some_of}
-use Rattle.roopl_semantics.specs.Execution.{exec}
-use Rattle.meaning_sound.proofs.Keeping.{exec_keeps}
-use Rattle.meaning_sound.proofs.Calls.{meant_apart}
-use Rattle.meaning_sound.proofs.AfterWrites.{read_other}
+use Rattle.meaning_reached.specs.rpp_tree.declared.tree.Ident.{Ident}
+use Rattle.meaning_reached.specs.rpp_tree.Tree.{Expression, Element, Lvalue, Whole, Item, Source}
+use Rattle.meaning_reached.specs.class_table.declared.kind.Kind.{Kind}
+use Rattle.meaning_reached.specs.class_table.declared.kind.Kind.TheVariants as kind
+use Rattle.meaning_reached.specs.class_table.Table.{table_of}
+use Rattle.meaning_reached.specs.class_table.Scope.{Typing, Locals, kind_in}
+use Rattle.meaning_reached.specs.class_table.Refusal.{unknown_name, not_an_array}
+use Rattle.meaning_reached.specs.class_table.Expressions.{element_kind, element_of as element_type, index_is_int, variable_type}
+use Rattle.meaning_reached.specs.class_table.Expressions.{type_of, place_type, first_token}
+use Rattle.meaning_reached.specs.rpp_tree.Places.{place_name}
+use Rattle.meaning_reached.specs.class_table.Program.{setting_in}
+use Rattle.meaning_reached.specs.roopl_semantics.Store.{Value, Word, Nil, Name, Head, OfClass, OfInts, OfObjects, Object, Store, State}
+use Rattle.meaning_reached.specs.roopl_semantics.Store.{number_of, same_value, object_named, object_at, no_object, class_of_head}
+use Rattle.meaning_reached.specs.roopl_semantics.Value.{Cell, Slot, Part, cell_named, own_class, variable_value, element_cell}
+use Rattle.meaning_reached.specs.roopl_semantics.Value.{element_of, read, written, value as value_in, cell_of, index_fault}
+use Rattle.meaning_reached.specs.roopl_semantics.Execution.{Setting, same_cell}
+use Rattle.meaning_reached.specs.meaning_sound.Sound.{fits, named_fits, head_fits, head_of, head_named, cell_kind}
+use Rattle.meaning_reached.specs.meaning_sound.Sound.{Typed}
+use Rattle.meaning_reached.proofs.meaning_sound_laws.Cells.{read_fits, heads_written}
+use Rattle.meaning_reached.proofs.meaning_sound_laws.Classes.{KnowsClasses}
+use Rattle.meaning_reached.proofs.meaning_sound_laws.Names.{is_object, IsMeant, variable, field, meant, cell_named_kind}
+use Rattle.meaning_reached.proofs.class_table_laws.FirstPlaces.{bytes_turned}
+use Rattle.meaning_reached.proofs.class_table_laws.PassedRules.{handed_on, some_of}
+use Rattle.meaning_reached.specs.roopl_semantics.Execution.{exec}
+use Rattle.meaning_reached.proofs.meaning_sound_laws.Keeping.{exec_keeps}
+use Rattle.meaning_reached.proofs.meaning_sound_laws.Calls.{meant_apart}
+use Rattle.meaning_reached.proofs.meaning_sound_laws.AfterWrites.{read_other}
 use Rattle.meaning_inverse.proofs.Later.{frame_names}
 use Rattle.meaning_inverse.proofs.Cells.{named_changed, with_cell, names_with, apart_sym}
 use Rattle.meaning_inverse.proofs.Calls.{cells_later}
@@ -128,7 +128,7 @@ module _ (setting : Setting) (typing : Typing) (same : typing.program ≡ settin
       named other = ap (λ p. cell_named p (written st c v) other) same ∙ named_written setting st c v other
           ∙ ap (λ p. cell_named p st other) (sym same)
 
-  -- such a cell stays apart where the variables stay
+  -- such a cell stays apart if the variables stay
   pub apart_stays : (st end : State) (c : Cell) → VariablesStay typing locals first second R st end
       → ((other : List ℕ) → cell_named typing.program end other ≡ cell_named typing.program st other)
       → VariablesApart typing locals first second R st c → VariablesApart typing locals first second R end c
@@ -184,13 +184,6 @@ array_named program store k element n e h = by (object_named store n) refl h
     by None is q = cc
     by (Some o) is q = record { object = o; named = is; is_array = array_is program k element o.head e q }
 
-no_int_array : (k element : Kind) → element_kind k ≡ Some element → is_int k ≡ false
-no_int_array kind.Int element e = cc
-no_int_array kind.Nil element e = refl
-no_int_array (kind.Class c) element e = refl
-no_int_array kind.IntArray element e = refl
-no_int_array (kind.ClassArray c) element e = refl
-
 -- the cell of an element
 pub record IsElement (program : Source) (st : State) (name : List ℕ) (c : Cell) : Type 0 where
   pub array : ℕ
@@ -238,7 +231,7 @@ module _ (setting : Setting) (classes : KnowsClasses setting.program) (C : Conte
       (read_fits setting C.extra C.shape C.class st (cell_named program st name) k t
       (cell_kind_of st name k t known)))
 
-  -- the present object is no array
+  -- the current object is no array
   not_self : (st : State) (n : ℕ) → Typed setting C.extra C.shape C.class st → ArrayNamed st.store n
       → nat_eq n st.self ≡ false
   not_self st n t a = by (nat_eq n st.self) refl

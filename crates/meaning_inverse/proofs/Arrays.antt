@@ -1,19 +1,19 @@
 -- `new` and `delete` of arrays undone, and all that a block does.
 use Rattle.std.proofs.Common.{◌≡◌, ℕ, ◌+◌, refl, sym, ap, subst, ◌∙◌, arith, true, false, not, ◌∷◌, length, replicate}
 use Rattle.std.proofs.Common.{Ok, unwrap_or, nat_eq, is_none, eqb-true}
-use Rattle.rpp_words.specs.Words.{is_less}
-use Rattle.rpp_tree.specs.declared.tree.Ident.{Ident}
-use Rattle.rpp_tree.specs.Tree.{Expression, Lvalue, Ints, Objects, New, Delete, End, Then, nodes, index_nodes}
-use Rattle.roopl_semantics.specs.Run.{Run, Done, ◌>>=◌, give as ends, spend, fault_if}
-use Rattle.roopl_semantics.specs.Store.{Value, Word, Nil, Head, OfInts, OfObjects, Object, State, is_nil, is_zero}
-use Rattle.roopl_semantics.specs.Store.{number_of, object_at, no_object}
-use Rattle.roopl_semantics.specs.Value.{Cell, read, value as value_in, cell_of, evaluated, found, nil_fault}
-use Rattle.roopl_semantics.specs.Execution.{Setting, statement, exec, allocated, freed, new_array, delete_array}
-use Rattle.roopl_semantics.specs.Execution.{new_object, order_of_cells, all_zero, not_nil_fault, length_fault}
-use Rattle.roopl_semantics.specs.Execution.{length_differs_fault, count_fault, not_empty_fault}
-use Rattle.roopl_semantics.specs.Agreement.{renamed}
+use Rattle.meaning_reached.specs.rpp_words.Words.{is_less}
+use Rattle.meaning_reached.specs.rpp_tree.declared.tree.Ident.{Ident}
+use Rattle.meaning_reached.specs.rpp_tree.Tree.{Expression, Lvalue, Ints, Objects, New, Delete, End, Then, nodes, index_nodes}
+use Rattle.meaning_reached.specs.roopl_semantics.Run.{Run, Done, ◌>>=◌, give as ends, spend, fault_if}
+use Rattle.meaning_reached.specs.roopl_semantics.Store.{Value, Word, Nil, Head, OfInts, OfObjects, Object, State, is_nil, is_zero}
+use Rattle.meaning_reached.specs.roopl_semantics.Store.{number_of, object_at, no_object}
+use Rattle.meaning_reached.specs.roopl_semantics.Value.{Cell, read, value as value_in, cell_of, evaluated, found, nil_fault}
+use Rattle.meaning_reached.specs.roopl_semantics.Execution.{Setting, statement, exec, allocated, freed, new_array, delete_array}
+use Rattle.meaning_reached.specs.roopl_semantics.Execution.{new_object, order_of_cells, all_zero, not_nil_fault, length_fault}
+use Rattle.meaning_reached.specs.roopl_semantics.Execution.{length_differs_fault, count_fault, not_empty_fault}
+use Rattle.meaning_reached.specs.roopl_semantics.Agreement.{renamed}
 use Rattle.meaning_inverse.proofs.Runs.{in_parts, done_result, done_cost, given_done, passed_check}
-use Rattle.buddy_book.specs.Place.{Taken, count_taken, place as place_of}
+use Rattle.meaning_reached.specs.buddy_book.Place.{Taken, count_taken, place as place_of}
 use Rattle.meaning_inverse.proofs.Later.{IsSound}
 use Rattle.meaning_inverse.proofs.Seen.{Names, Sees, Clean, CleanPlace, cell_for, found_seen, evaluated_seen}
 use Rattle.meaning_inverse.proofs.Ground.{Ground, AreLive, NewArrayFacts, DeleteArrayFacts, number_named}

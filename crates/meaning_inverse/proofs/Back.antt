@@ -4,31 +4,31 @@ use Rattle.std.proofs.Common.{◌∷◌, ◌++◌, length, map, Option, Some, No
 use Rattle.std.proofs.lemmas.Bool.{le-leb}
 use Rattle.std.specs.Prelude.{codes}
 use Rattle.std.specs.Fmt.{decimal}
-use Rattle.rpp_words.specs.Texts.{line_end}
-use Rattle.rpp_words.specs.Limits.{IsLimits}
-use Rattle.rpp_words.specs.declared.input.FieldWord.{FieldWord}
-use Rattle.rpp_words.specs.declared.input.Limits.{Limits}
-use Rattle.rpp_tree.specs.declared.tree.Var.{Var}
-use Rattle.rpp_tree.specs.declared.tree.VarType.{VarType}
-use Rattle.rpp_tree.specs.declared.tree.VarType.TheVariants as kind
-use Rattle.rpp_tree.specs.Tree.{Procedure, ClassText, Source}
-use Rattle.class_table.specs.Program.{IsAccepted}
-use Rattle.class_table.specs.declared.method.MethodId.{MethodId}
-use Rattle.class_table.specs.Classes.{class_fields, procedure_at, main_of}
-use Rattle.stmt_inverter.specs.Inverse.{inverse_as, inverse_program}
-use Rattle.roopl_semantics.specs.Run.{Done, More}
-use Rattle.roopl_semantics.specs.Store.{Value, Word, Nil, Name, Head, OfClass, OfInts, OfObjects, Object, Store}
-use Rattle.roopl_semantics.specs.Store.{Binding, State, main_name, zero_value, zero_values, object_named, object_at}
-use Rattle.roopl_semantics.specs.Execution.{Setting, exec}
-use Rattle.roopl_semantics.specs.Source.{IsValid, main_fields, main_body, with_input, main_object, starting, within}
-use Rattle.roopl_semantics.specs.Source.{source}
+use Rattle.meaning_reached.specs.rpp_words.Texts.{line_end}
+use Rattle.meaning_reached.specs.rpp_words.Limits.{IsLimits}
+use Rattle.meaning_reached.specs.rpp_words.declared.input.FieldWord.{FieldWord}
+use Rattle.meaning_reached.specs.rpp_words.declared.input.Limits.{Limits}
+use Rattle.meaning_reached.specs.rpp_tree.declared.tree.Var.{Var}
+use Rattle.meaning_reached.specs.rpp_tree.declared.tree.VarType.{VarType}
+use Rattle.meaning_reached.specs.rpp_tree.declared.tree.VarType.TheVariants as kind
+use Rattle.meaning_reached.specs.rpp_tree.Tree.{Procedure, ClassText, Source}
+use Rattle.meaning_reached.specs.class_table.Program.{IsAccepted}
+use Rattle.meaning_reached.specs.class_table.declared.method.MethodId.{MethodId}
+use Rattle.meaning_reached.specs.class_table.Classes.{class_fields, procedure_at, main_of}
+use Rattle.meaning_reached.specs.stmt_inverter.Inverse.{inverse_as, inverse_program}
+use Rattle.meaning_reached.specs.roopl_semantics.Run.{Done, More}
+use Rattle.meaning_reached.specs.roopl_semantics.Store.{Value, Word, Nil, Name, Head, OfClass, OfInts, OfObjects, Object, Store}
+use Rattle.meaning_reached.specs.roopl_semantics.Store.{Binding, State, main_name, zero_value, zero_values, object_named, object_at}
+use Rattle.meaning_reached.specs.roopl_semantics.Execution.{Setting, exec}
+use Rattle.meaning_reached.specs.roopl_semantics.Source.{IsValid, main_fields, main_body, with_input, main_object, starting, within}
+use Rattle.meaning_reached.specs.roopl_semantics.Source.{source}
 use Rattle.meaning_inverse.specs.StatesAgree.{renamed_binding}
-use Rattle.roopl_semantics.specs.Report.{newly_met, walked, numbered, field_lines, head_shown, cell_lines, object_lines}
-use Rattle.roopl_semantics.specs.Report.{number_shown, live_line, live_count, report}
-use Rattle.roopl_semantics.proofs.MoreFuel.{within_done}
-use Rattle.meaning_sound.proofs.Accepted.{knows_classes}
-use Rattle.meaning_sound.proofs.Plainness.{program_plain}
-use Rattle.meaning_sound.proofs.Stated.{counts_are_held}
+use Rattle.meaning_reached.specs.roopl_semantics.Report.{newly_met, walked, numbered, field_lines, head_shown, cell_lines, object_lines}
+use Rattle.meaning_reached.specs.roopl_semantics.Report.{number_shown, live_line, live_count, report}
+use Rattle.meaning_reached.proofs.roopl_semantics_laws.MoreFuel.{within_done}
+use Rattle.meaning_reached.proofs.meaning_sound_laws.Accepted.{knows_classes}
+use Rattle.meaning_reached.proofs.meaning_sound_laws.Plainness.{program_plain}
+use Rattle.meaning_reached.proofs.meaning_sound_laws.Stated.{counts_are_held}
 use Rattle.meaning_reached.specs.Ending.{IsReached}
 use Rattle.meaning_reached.proofs.Final.{ends_reached}
 use Rattle.meaning_reached.proofs.SameReports.{same_reports}
@@ -152,7 +152,7 @@ none_walked : (steps : ℕ) (store : Store) → walked steps store [] [] ≡ []
 none_walked zero store = refl
 none_walked (suc steps) store = refl
 
--- ---- where nothing is numbered, the main object is alone
+-- ---- if nothing has an object id, there is only the main object
 
 record IsAlone (store : Store) : Type 0 where
   pub object : Object

@@ -4,30 +4,29 @@ use Rattle.std.proofs.Common.{◌∷◌, ◌++◌, length, map, Option, Some, No
 use Rattle.std.proofs.Common.{slice_get}
 use Rattle.std.proofs.lemmas.List.{map-append}
 use Rattle.std.specs.Str.{bytes_eq}
-use Rattle.rpp_tree.specs.declared.tree.Ident.{Ident}
-use Rattle.rpp_tree.specs.Tree.{Whole, Statements, Call, End, Then, Procedure}
-use Rattle.class_table.specs.Classes.{class_fields, method_named}
-use Rattle.stmt_inverter.specs.Inverse.{inverse}
-use Rattle.stmt_inverter.proofs.Inverses.{inverse-twice}
-use Rattle.roopl_semantics.specs.Run.{Run, Done, ◌>>=◌, spend, fault_if}
-use Rattle.roopl_semantics.specs.Store.{Value, Word, Nil, Name, Object, Binding, State, is_nil, number_of, object_named}
-use Rattle.roopl_semantics.specs.Store.{object_at, class_of_head, no_object}
-use Rattle.class_table.specs.Members.{field_of}
-use Rattle.roopl_semantics.specs.Value.{Cell, Slot, Part, slot_of, slot_or_field, cell_named, own_class, value_at, read}
-use Rattle.roopl_semantics.specs.Value.{written, nil_fault}
-use Rattle.roopl_semantics.specs.Execution.{Setting, statement, exec, bound, moved_out, moved_back, in_direction}
-use Rattle.roopl_semantics.specs.Execution.{cells_named, class_of, is_too_deep, too_deep_fault, invoked}
-use Rattle.roopl_semantics.specs.Agreement.{renamed}
+use Rattle.meaning_reached.specs.rpp_tree.declared.tree.Ident.{Ident}
+use Rattle.meaning_reached.specs.rpp_tree.Tree.{Whole, Statements, Call, End, Then, Procedure}
+use Rattle.meaning_reached.specs.class_table.Classes.{class_fields, method_named}
+use Rattle.meaning_reached.specs.stmt_inverter.Inverse.{inverse}
+use Rattle.meaning_reached.proofs.stmt_inverter_laws.Inverses.{inverse-twice}
+use Rattle.meaning_reached.specs.roopl_semantics.Run.{Run, Done, ◌>>=◌, spend, fault_if}
+use Rattle.meaning_reached.specs.roopl_semantics.Store.{Value, Word, Nil, Name, Object, Binding, State, is_nil, number_of, object_named}
+use Rattle.meaning_reached.specs.roopl_semantics.Store.{object_at, class_of_head, no_object}
+use Rattle.meaning_reached.specs.class_table.Members.{field_of}
+use Rattle.meaning_reached.specs.roopl_semantics.Value.{Cell, Slot, Part, slot_of, slot_or_field, cell_named, own_class, value_at, read}
+use Rattle.meaning_reached.specs.roopl_semantics.Value.{nil_fault}
+use Rattle.meaning_reached.specs.roopl_semantics.Execution.{Setting, statement, exec, bound, moved_out, moved_back, in_direction}
+use Rattle.meaning_reached.specs.roopl_semantics.Execution.{cells_named, class_of, is_too_deep, too_deep_fault, invoked}
+use Rattle.meaning_reached.specs.roopl_semantics.Agreement.{renamed}
 use Rattle.meaning_inverse.specs.StatesAgree.{renamed_binding}
 use Rattle.meaning_inverse.proofs.Runs.{in_parts, done_then, done_cost, passed_check, passes, Runs}
-use Rattle.meaning_inverse.proofs.Cells.{IsCell}
 use Rattle.meaning_inverse.proofs.Later.{IsSound, Later, later_then, later_moved_out, later_returned, later_moved_back}
 use Rattle.meaning_inverse.proofs.Later.{exec_later, frame_names}
 use Rattle.meaning_inverse.proofs.Seen.{Names, Sees, cell_for, read_seen, named_seen, class_seen, own_class_seen}
 use Rattle.meaning_inverse.proofs.Ground.{Ground, CallFacts, Each, IsLive, AreLive, entered, returned}
-use Rattle.meaning_inverse.proofs.Undone.{SameOn, Undone, cell_stays}
+use Rattle.meaning_inverse.proofs.Undone.{SameOn, Undone}
 use Rattle.meaning_inverse.proofs.Nested.{Undoes}
-use Rattle.meaning_inverse.proofs.Moves.{each_with, moved_back_does, moved_there_and_back, moved_out_seen}
+use Rattle.meaning_inverse.proofs.Moves.{moved_back_does, moved_there_and_back, moved_out_seen}
 use Rattle.meaning_inverse.proofs.Moves.{moved_back_seen}
 use Rattle.meaning_inverse.proofs.Moves.{moved_out_frame, live_moved_out, bound_names, bound_values, bound_renamed}
 use Rattle.meaning_inverse.proofs.Moves.{rebound}
@@ -43,14 +42,6 @@ frame_alike f g (b ∷ frame) h = ap (λ v. record b { value = v } ∷ map (rena
     by (Word w) e = ap (renamed f) e ∙ ap (renamed g) (sym e)
     by Nil e = ap (renamed f) e ∙ ap (renamed g) (sym e)
     by (Name n) e = ap (renamed f) e ∙ ap (λ k. Name k) (h 0 n e) ∙ ap (renamed g) (sym e)
-
-map_map : {A B C : Type 0} (f : A → B) (g : B → C) (xs : List A) → map g (map f xs) ≡ map (λ x. g (f x)) xs
-map_map f g [] = refl
-map_map f g (x ∷ xs) = ap (λ l. g (f x) ∷ l) (map_map f g xs)
-
-map_alike : {A B : Type 0} (f g : A → B) (xs : List A) → ((x : A) → f x ≡ g x) → map f xs ≡ map g xs
-map_alike f g [] h = refl
-map_alike f g (x ∷ xs) h = ap (λ y. y ∷ map f xs) (h x) ∙ ap (λ l. g x ∷ l) (map_alike f g xs h)
 
 length_map : {A B : Type 0} (f : A → B) (xs : List A) → length (map f xs) ≡ length xs
 length_map f [] = refl
@@ -117,11 +108,6 @@ reads_seen h f first second s [] = refl
 reads_seen h f first second s (c ∷ cells) = ap (λ x. x ∷ map (read second) (map (cell_for f) cells))
     (read_seen h f first second s c) ∙ ap (λ l. renamed f.there (read first c) ∷ l)
     (reads_seen h f first second s cells)
-
-there_moved_out : (all cells : List Cell) (st : State) → Each (IsCell st) all → Each (IsCell (moved_out cells st)) all
-there_moved_out all [] st h = h
-there_moved_out all (c ∷ cells) st h = there_moved_out all cells _
-    (each_with (IsCell st) (IsCell (written st c _)) all (λ d k. cell_stays st c d _ k) h)
 
 -- a live name is of the class that it was of
 pub class_later : (a b : State) (n : ℕ) → IsSound a → Later a b → IsLive a.store n → IsLive b.store n

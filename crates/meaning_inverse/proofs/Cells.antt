@@ -3,9 +3,9 @@ use Rattle.std.proofs.Common.{◌≡◌, ℕ, zero, suc, ◌<◌, refl, sym, ap,
 use Rattle.std.proofs.Common.{[], ◌∷◌, length, map, Option, Some, None, option_map, unwrap_or, nat_eq, slice_get}
 use Rattle.std.proofs.Common.{slice_set, if◌then◌else◌, eqb-true, eq-eqb, ne_eqb}
 use Rattle.std.proofs.lemmas.Bool.{eqb-false}
-use Rattle.roopl_semantics.specs.Store.{Value, Nil, Object, Store, Binding, State, object_named, no_object, changed_at}
-use Rattle.roopl_semantics.specs.Value.{Cell, Slot, Part, value_at, with_value, read, written}
-use Rattle.roopl_semantics.specs.Execution.{same_cell}
+use Rattle.meaning_reached.specs.roopl_semantics.Store.{Value, Nil, Object, Store, Binding, State, object_named, no_object, changed_at}
+use Rattle.meaning_reached.specs.roopl_semantics.Value.{Cell, Slot, Part, value_at, with_value, read, written}
+use Rattle.meaning_reached.specs.roopl_semantics.Execution.{same_cell}
 
 -- numbers that differ, one less
 pub apart_less : (i j : ℕ) → nat_eq (suc i) (suc j) ≡ false → nat_eq i j ≡ false

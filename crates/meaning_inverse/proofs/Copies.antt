@@ -2,16 +2,16 @@
 use Rattle.std.proofs.Common.{◌≡◌, ℕ, suc, ◌+◌, ◌<◌, refl, sym, ap, subst, ◌∙◌, arith, true, false, Bool, not, ◌&&◌}
 use Rattle.std.proofs.Common.{◌||◌, ◌++◌, Ok, Some, None, Option, option_map, nat_eq, eqb-true, if◌then◌else◌}
 use Rattle.std.proofs.Common.{unwrap_or, slice_get}
-use Rattle.rpp_tree.specs.declared.tree.VarType.{VarType}
-use Rattle.rpp_tree.specs.Tree.{Lvalue, Copy, Uncopy, End, Then, index_nodes}
-use Rattle.roopl_semantics.specs.Run.{Run, Done, ◌>>=◌, give, fault_if}
-use Rattle.roopl_semantics.specs.Store.{Value, Word, Nil, Name, Object, State, is_nil, number_of, same_value}
-use Rattle.roopl_semantics.specs.Store.{object_named, no_object, changed_at}
-use Rattle.roopl_semantics.specs.Value.{Cell, Slot, Part, read, written, cell_of, found, nil_fault}
-use Rattle.roopl_semantics.specs.Elements.{index_elements, own_element, share_array, read_cost, kept_apart}
-use Rattle.roopl_semantics.specs.Execution.{Setting, statement, exec, same_cell, counted, one_less, not_nil_fault}
-use Rattle.roopl_semantics.specs.Execution.{not_same_fault}
-use Rattle.roopl_semantics.specs.Agreement.{renamed}
+use Rattle.meaning_reached.specs.rpp_tree.declared.tree.VarType.{VarType}
+use Rattle.meaning_reached.specs.rpp_tree.Tree.{Lvalue, Copy, Uncopy, End, Then, index_nodes}
+use Rattle.meaning_reached.specs.roopl_semantics.Run.{Run, Done, ◌>>=◌, give, fault_if}
+use Rattle.meaning_reached.specs.roopl_semantics.Store.{Value, Word, Nil, Name, Object, State, is_nil, number_of, same_value}
+use Rattle.meaning_reached.specs.roopl_semantics.Store.{object_named, no_object, changed_at}
+use Rattle.meaning_reached.specs.roopl_semantics.Value.{Cell, Slot, Part, read, written, cell_of, found, nil_fault}
+use Rattle.meaning_reached.specs.roopl_semantics.Elements.{index_elements, own_element, share_array, read_cost, kept_apart}
+use Rattle.meaning_reached.specs.roopl_semantics.Execution.{Setting, statement, exec, same_cell, counted, one_less, not_nil_fault}
+use Rattle.meaning_reached.specs.roopl_semantics.Execution.{not_same_fault}
+use Rattle.meaning_reached.specs.roopl_semantics.Agreement.{renamed}
 use Rattle.meaning_inverse.proofs.Runs.{in_parts, done_then, done_result, done_cost, given_done, apart_done, done_apart}
 use Rattle.meaning_inverse.proofs.Runs.{passed_check, passes}
 use Rattle.meaning_inverse.proofs.Cells.{with_cell, named_changed, changed_changed, changed_apart, changed_none}
@@ -70,7 +70,7 @@ is_nil_value (Word w) e = cc
 is_nil_value Nil e = refl
 is_nil_value (Name n) e = cc
 
--- cells of which one alone is nil differ
+-- cells of which only one is nil differ
 differ : (st : State) (a b : Cell) → is_nil (read st a) ≡ false → is_nil (read st b) ≡ true → same_cell a b ≡ false
 differ st a b e h = by (same_cell a b) refl
   where

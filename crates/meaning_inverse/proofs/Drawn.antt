@@ -2,14 +2,14 @@
 use Rattle.std.proofs.Common.{◌≡◌, ◌≢◌, ℕ, suc, ◌+◌, ◌<◌, ◌≤◌, refl, sym, ap, subst, ◌∙◌, arith, true, false, Bool}
 use Rattle.std.proofs.Common.{List, [], ◌∷◌, map, Some, None, Option, option_map, nat_eq, is_none, eqb-true, eq-eqb}
 use Rattle.std.proofs.Common.{ne_eqb, if◌then◌else◌, slice_get}
-use Rattle.buddy_book.specs.Book.{Book, take, give}
-use Rattle.buddy_book.specs.Place.{Log, Taken, Given, count_taken, Placing, block_of, with_block, after_request, place}
-use Rattle.roopl_semantics.specs.Store.{Value, Word, Nil, Name, Head, Object, State, main_name, object_named, without}
-use Rattle.roopl_semantics.specs.Value.{Cell, Slot, Part, read, written}
-use Rattle.roopl_semantics.specs.Execution.{order_of_cells, new_object}
-use Rattle.roopl_semantics.specs.Agreement.{renamed, renamed_object}
+use Rattle.meaning_reached.specs.buddy_book.Book.{Book, take, give}
+use Rattle.meaning_reached.specs.buddy_book.Place.{Log, Taken, Given, count_taken, Placing, block_of, with_block, after_request, place}
+use Rattle.meaning_reached.specs.roopl_semantics.Store.{Value, Word, Nil, Name, Head, Object, State, main_name, object_named, without}
+use Rattle.meaning_reached.specs.roopl_semantics.Value.{Cell, Slot, Part, read, written}
+use Rattle.meaning_reached.specs.roopl_semantics.Execution.{order_of_cells, new_object}
+use Rattle.meaning_reached.specs.roopl_semantics.Agreement.{renamed, renamed_object}
 use Rattle.meaning_inverse.specs.StatesAgree.{renamed_binding}
-use Rattle.roopl_semantics.specs.Laws.{book_of, block_in}
+use Rattle.meaning_reached.specs.roopl_semantics.Laws.{book_of, block_in}
 use Rattle.meaning_inverse.proofs.Cells.{IsCell, IsSlot, IsPart, with_cell, named_changed, written_twice, written_same}
 use Rattle.meaning_inverse.proofs.Cells.{apart_sym}
 use Rattle.meaning_inverse.proofs.Later.{IsSound, named_without, named_without_same, undrawn, later_made}

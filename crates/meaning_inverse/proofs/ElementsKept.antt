@@ -1,40 +1,39 @@
--- Every run keeps what is known of arrays: that each has a length that a word tells.
-use Rattle.std.proofs.Common.{◌≡◌, ℕ, zero, suc, ◌+◌, refl, sym, ap, subst, ◌∙◌, true, false, Bool, not, ◌||◌, List, []}
+-- Every run keeps what holds for arrays: each has a length that a word can hold.
+use Rattle.std.proofs.Common.{◌≡◌, ℕ, zero, suc, ◌+◌, sym, ap, subst, ◌∙◌, true, false, Bool, not, ◌||◌, List, []}
 use Rattle.std.proofs.Common.{◌∷◌, ◌++◌, length, map, replicate, Some, None, unwrap_or, Ok, nat_eq, nat_lt, is_none}
 use Rattle.std.proofs.Common.{cond, if◌then◌else◌, length-set}
-use Rattle.rpp_words.specs.Words.{is_less}
-use Rattle.rpp_tree.specs.declared.tree.Var.{Var}
-use Rattle.rpp_tree.specs.Tree.{Expression, Null, Lvalue, Whole, Item, Object as AnObject, Ints, Objects, Statement}
-use Rattle.rpp_tree.specs.Tree.{Statements, Update, Swap, If, From, Construct, Local, New, Delete, Copy, Uncopy, Call}
-use Rattle.rpp_tree.specs.Tree.{Skip, End, Then, Procedure, Source, nodes}
-use Rattle.class_table.specs.declared.kind.Kind.{Kind}
-use Rattle.class_table.specs.declared.kind.Kind.TheVariants as kind
-use Rattle.class_table.specs.Table.{table_of}
-use Rattle.class_table.specs.Classes.{class_number, class_fields, method_named}
-use Rattle.class_table.specs.Statements.{passed, in_turn, test_rules, check_statement, check_statements}
-use Rattle.class_table.specs.Program.{setting_in}
-use Rattle.buddy_book.specs.Place.{Taken, count_taken, place}
-use Rattle.roopl_semantics.specs.Operators.{updated}
-use Rattle.roopl_semantics.specs.Run.{Run, after_cost, Done, ◌>>=◌, spend, fault_if}
-use Rattle.roopl_semantics.specs.Store.{Value, Word, Nil, Name, Head, OfClass, OfInts, OfObjects, Object, Store, State}
-use Rattle.roopl_semantics.specs.Store.{number_of, is_nil, is_zero, same_value, zero_values, cleared, object_named}
-use Rattle.roopl_semantics.specs.Store.{object_at, without}
-use Rattle.roopl_semantics.specs.Value.{Cell, Slot, Part, read, written, value as value_in, evaluated, found}
-use Rattle.roopl_semantics.specs.Value.{cell_named, nil_fault}
-use Rattle.roopl_semantics.specs.Elements.{elements, index_elements, own_element, kept_apart}
-use Rattle.roopl_semantics.specs.Execution.{Setting, Runner, holds, opened, closed, moved_out, moved_back, in_direction}
-use Rattle.roopl_semantics.specs.Execution.{new_object, order_of_cells, counted, one_less, constructed, element_call}
-use Rattle.roopl_semantics.specs.Execution.{cells_named, class_of, is_too_deep, invoked, allocated, freed, new_array}
-use Rattle.roopl_semantics.specs.Execution.{delete_array, with_local, turn_end, turns, statement, exec, same_cell}
-use Rattle.roopl_semantics.specs.Execution.{is_of_class, all_zero, fi_fault, loop_fault, not_nil_fault, count_fault}
-use Rattle.roopl_semantics.specs.Execution.{not_empty_fault, heap_full_fault, not_same_fault, class_differs_fault}
-use Rattle.roopl_semantics.specs.Execution.{length_differs_fault, length_fault, too_deep_fault, touched_fault}
-use Rattle.meaning_sound.specs.Sound.{head_fits}
-use Rattle.meaning_sound.proofs.Cells.{changed_objects}
-use Rattle.meaning_sound.proofs.Classes.{KnowsClasses}
-use Rattle.class_table.proofs.PassedRules.{both_passed}
-use Rattle.meaning_sound.proofs.Runs.{ends_done as e2_done}
-use Rattle.meaning_sound.proofs.Keeping.{exec_keeps}
+use Rattle.meaning_reached.specs.rpp_words.Words.{is_less}
+use Rattle.meaning_reached.specs.rpp_tree.declared.tree.Var.{Var}
+use Rattle.meaning_reached.specs.rpp_tree.Tree.{Expression, Null, Lvalue, Whole, Item, Object as AnObject, Ints, Objects, Statement}
+use Rattle.meaning_reached.specs.rpp_tree.Tree.{Statements, Update, Swap, If, From, Construct, Local, New, Delete, Copy, Uncopy, Call}
+use Rattle.meaning_reached.specs.rpp_tree.Tree.{Skip, End, Then, Procedure, nodes}
+use Rattle.meaning_reached.specs.class_table.declared.kind.Kind.{Kind}
+use Rattle.meaning_reached.specs.class_table.declared.kind.Kind.TheVariants as kind
+use Rattle.meaning_reached.specs.class_table.Table.{table_of}
+use Rattle.meaning_reached.specs.class_table.Classes.{class_number, class_fields, method_named}
+use Rattle.meaning_reached.specs.class_table.Statements.{passed, in_turn, test_rules, check_statement, check_statements}
+use Rattle.meaning_reached.specs.class_table.Program.{setting_in}
+use Rattle.meaning_reached.specs.buddy_book.Place.{Taken, count_taken, place}
+use Rattle.meaning_reached.specs.roopl_semantics.Operators.{updated}
+use Rattle.meaning_reached.specs.roopl_semantics.Run.{Run, after_cost, Done, ◌>>=◌, spend, fault_if}
+use Rattle.meaning_reached.specs.roopl_semantics.Store.{Value, Word, Nil, Name, Head, OfClass, OfInts, OfObjects, Object, Store, State}
+use Rattle.meaning_reached.specs.roopl_semantics.Store.{number_of, is_nil, is_zero, same_value, zero_values, cleared, object_named}
+use Rattle.meaning_reached.specs.roopl_semantics.Store.{object_at, without}
+use Rattle.meaning_reached.specs.roopl_semantics.Value.{Cell, Slot, Part, read, written, value as value_in, evaluated, found}
+use Rattle.meaning_reached.specs.roopl_semantics.Value.{cell_named, nil_fault}
+use Rattle.meaning_reached.specs.roopl_semantics.Elements.{elements, index_elements, own_element, kept_apart}
+use Rattle.meaning_reached.specs.roopl_semantics.Execution.{Setting, Runner, holds, opened, closed, moved_out, moved_back, in_direction}
+use Rattle.meaning_reached.specs.roopl_semantics.Execution.{new_object, order_of_cells, counted, one_less, constructed, element_call}
+use Rattle.meaning_reached.specs.roopl_semantics.Execution.{cells_named, class_of, is_too_deep, invoked, allocated, freed, new_array}
+use Rattle.meaning_reached.specs.roopl_semantics.Execution.{delete_array, with_local, turn_end, turns, statement, exec, same_cell}
+use Rattle.meaning_reached.specs.roopl_semantics.Execution.{is_of_class, all_zero, fi_fault, loop_fault, not_nil_fault, count_fault}
+use Rattle.meaning_reached.specs.roopl_semantics.Execution.{not_empty_fault, heap_full_fault, not_same_fault, class_differs_fault}
+use Rattle.meaning_reached.specs.roopl_semantics.Execution.{length_differs_fault, length_fault, too_deep_fault, touched_fault}
+use Rattle.meaning_reached.proofs.meaning_sound_laws.Cells.{changed_objects}
+use Rattle.meaning_reached.proofs.meaning_sound_laws.Classes.{KnowsClasses}
+use Rattle.meaning_reached.proofs.class_table_laws.PassedRules.{both_passed}
+use Rattle.meaning_reached.proofs.meaning_sound_laws.Runs.{ends_done as e2_done}
+use Rattle.meaning_reached.proofs.meaning_sound_laws.Keeping.{exec_keeps}
 use Rattle.meaning_inverse.proofs.Runs.{given_done, passed_check}
 use Rattle.meaning_inverse.proofs.Cells.{with_cell}
 use Rattle.meaning_inverse.proofs.Later.{Ends, ends_then, ends_on, ends_done, ends_more, IsSound, keeps_exec}
@@ -110,12 +109,6 @@ checked_ends code t = record { by = λ u c e. (passed_check code t u c e).0 }
 evaluated_ends : (setting : Setting) (e : Expression) (st : State)
     → Ends (evaluated setting.program e st) (λ v. value_in setting.program st e ≡ Ok v)
 evaluated_ends setting e st = record { by = λ v c h. (given_done (nodes e) (value_in setting.program st e) v c h).0 }
-
-class_heads : (program : Source) (c : ℕ) (head : Head) → head_fits program (kind.Class c) head ≡ true
-    → is_class_head head ≡ true
-class_heads program c (OfClass d) h = refl
-class_heads program c (OfInts n) h = cc
-class_heads program c (OfObjects d n) h = cc
 
 -- runners that keep good states good
 pub record GoodAll (setting : Setting) (run : Runner) : Type 0 where

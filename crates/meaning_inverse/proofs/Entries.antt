@@ -1,49 +1,49 @@
--- Where the blocks inside statements stand, and that they begin in sound states.
+-- The positions of the blocks inside statements, and that they begin in sound states.
 use Rattle.std.proofs.Common.{◌≡◌, ℕ, ◌<◌, refl, sym, ap, subst, ◌∙◌, arith, true, false, Bool, not, ◌&&◌, ◌||◌, List}
 use Rattle.std.proofs.Common.{[], ◌∷◌, length, Some, None, Ok}
 use Rattle.std.specs.Str.{bytes_eq}
-use Rattle.rpp_tree.specs.declared.tree.Ident.{Ident}
-use Rattle.rpp_tree.specs.declared.tree.Var.{Var}
-use Rattle.rpp_tree.specs.Tree.{Expression, Null, Element, Whole, Item, Object as AnObject, Statements, Swap, New}
-use Rattle.rpp_tree.specs.Tree.{Delete, Construct, Local, Call, End, Then, joined, Procedure, Source}
-use Rattle.class_table.specs.declared.kind.Kind.{Kind}
-use Rattle.class_table.specs.declared.kind.Kind.TheVariants as kind
-use Rattle.class_table.specs.Table.{table_of, class_of as class_in, slot_in, dispatch_in}
-use Rattle.class_table.specs.Overrides.{same_type, parameters_of}
-use Rattle.class_table.specs.Classes.{method_named}
-use Rattle.class_table.specs.Refusal.{type_differs, redeclared, self_update, local_in_own_expression, unknown_name}
-use Rattle.class_table.specs.Scope.{Typing, Local as ALocal, Locals, kind_of, class_kind, kind_in}
-use Rattle.class_table.specs.Expressions.{and_then, type_of, place_type, occurs}
-use Rattle.class_table.specs.Statements.{passed, Verdict, required, in_turn, type_known, class_known, same_kind}
-use Rattle.class_table.specs.Statements.{in_either_index, swap_rules, call_rules, receiver_class, receiver_kind}
-use Rattle.class_table.specs.Statements.{place_class, slot_rules, local_rules, construct_rules, with_local, with_object}
-use Rattle.class_table.specs.Statements.{check_statement, check_statements}
-use Rattle.class_table.specs.Program.{setting_in}
-use Rattle.roopl_semantics.specs.Store.{Value, Nil, Name, State, is_nil}
-use Rattle.roopl_semantics.specs.Value.{Cell, cell_named, own_class, read, value as value_in}
-use Rattle.roopl_semantics.specs.Execution.{Setting, opened, constructed, element_call, element_name, cells_named}
-use Rattle.roopl_semantics.specs.Execution.{class_of, in_direction, exec}
-use Rattle.meaning_sound.specs.Sound.{Sound, fits}
-use Rattle.meaning_sound.specs.Plain.{IsPlain}
-use Rattle.meaning_sound.proofs.Cells.{typed_of, read_fits}
-use Rattle.meaning_sound.proofs.Classes.{KnowsClasses}
-use Rattle.meaning_sound.proofs.Names.{is_object, cell_named_kind, meant}
-use Rattle.class_table.proofs.FirstPlaces.{same_name, equal_name}
-use Rattle.class_table.proofs.PassedRules.{both_passed, in_turn_passes, held as was_held, required_passes, hands_on}
-use Rattle.class_table.proofs.PassedRules.{handed_on, some_of, neither_true, same_as_itself}
-use Rattle.meaning_sound.proofs.Locals.{means_under, type_of_under, IsLocalEnd, nil_end, no_int_class, begins}
-use Rattle.meaning_sound.proofs.Locals.{opened_sound, local_parts}
-use Rattle.meaning_sound.proofs.Undone.{check_joined, plain_joined}
-use Rattle.meaning_sound.proofs.Expansions.{innermost, made_in, not_in, slots_under}
-use Rattle.meaning_sound.proofs.Removal.{reference, one_name}
-use Rattle.class_table.specs.Program.{with_parameters}
+use Rattle.meaning_reached.specs.rpp_tree.declared.tree.Ident.{Ident}
+use Rattle.meaning_reached.specs.rpp_tree.declared.tree.Var.{Var}
+use Rattle.meaning_reached.specs.rpp_tree.Tree.{Expression, Null, Element, Whole, Item, Object as AnObject, Statements, Swap, New}
+use Rattle.meaning_reached.specs.rpp_tree.Tree.{Delete, Construct, Local, Call, End, Then, joined, Procedure, Source}
+use Rattle.meaning_reached.specs.class_table.declared.kind.Kind.{Kind}
+use Rattle.meaning_reached.specs.class_table.declared.kind.Kind.TheVariants as kind
+use Rattle.meaning_reached.specs.class_table.Table.{table_of, class_of as class_in, slot_in, dispatch_in}
+use Rattle.meaning_reached.specs.class_table.Overrides.{same_type, parameters_of}
+use Rattle.meaning_reached.specs.class_table.Classes.{method_named}
+use Rattle.meaning_reached.specs.class_table.Refusal.{type_differs, redeclared, self_update, local_in_own_expression, unknown_name}
+use Rattle.meaning_reached.specs.class_table.Scope.{Typing, Local as ALocal, Locals, kind_of, class_kind, kind_in}
+use Rattle.meaning_reached.specs.class_table.Expressions.{and_then, type_of, place_type, occurs}
+use Rattle.meaning_reached.specs.class_table.Statements.{passed, Verdict, required, in_turn, type_known, class_known, same_kind}
+use Rattle.meaning_reached.specs.class_table.Statements.{in_either_index, swap_rules, call_rules, receiver_class, receiver_kind}
+use Rattle.meaning_reached.specs.class_table.Statements.{place_class, slot_rules, local_rules, construct_rules, with_local, with_object}
+use Rattle.meaning_reached.specs.class_table.Statements.{check_statement, check_statements}
+use Rattle.meaning_reached.specs.class_table.Program.{setting_in}
+use Rattle.meaning_reached.specs.roopl_semantics.Store.{Value, Nil, Name, State, is_nil}
+use Rattle.meaning_reached.specs.roopl_semantics.Value.{Cell, cell_named, own_class, read, value as value_in}
+use Rattle.meaning_reached.specs.roopl_semantics.Execution.{Setting, opened, constructed, element_call, element_name, cells_named}
+use Rattle.meaning_reached.specs.roopl_semantics.Execution.{class_of, in_direction, exec}
+use Rattle.meaning_reached.specs.meaning_sound.Sound.{Sound, fits}
+use Rattle.meaning_reached.specs.meaning_sound.Plain.{IsPlain}
+use Rattle.meaning_reached.proofs.meaning_sound_laws.Cells.{typed_of, read_fits}
+use Rattle.meaning_reached.proofs.meaning_sound_laws.Classes.{KnowsClasses}
+use Rattle.meaning_reached.proofs.meaning_sound_laws.Names.{is_object, cell_named_kind, meant}
+use Rattle.meaning_reached.proofs.class_table_laws.FirstPlaces.{same_name, equal_name}
+use Rattle.meaning_reached.proofs.class_table_laws.PassedRules.{both_passed, in_turn_passes, held as was_held, required_passes, hands_on}
+use Rattle.meaning_reached.proofs.class_table_laws.PassedRules.{handed_on, some_of, neither_true, same_as_itself}
+use Rattle.meaning_reached.proofs.meaning_sound_laws.Locals.{means_under, type_of_under, IsLocalEnd, nil_end, no_int_class, begins}
+use Rattle.meaning_reached.proofs.meaning_sound_laws.Locals.{opened_sound, local_parts}
+use Rattle.meaning_reached.proofs.meaning_sound_laws.Undone.{check_joined, plain_joined}
+use Rattle.meaning_reached.proofs.meaning_sound_laws.Expansions.{innermost, made_in, not_in, slots_under}
+use Rattle.meaning_reached.proofs.meaning_sound_laws.Removal.{reference, one_name}
+use Rattle.meaning_reached.specs.class_table.Program.{with_parameters}
 use Rattle.meaning_inverse.proofs.Ground.{entered}
-use Rattle.meaning_sound.proofs.Invocations.{IsCall, begun_sound, body_checks, body_plain, means_callee, more, callee}
+use Rattle.meaning_reached.proofs.meaning_sound_laws.Invocations.{IsCall, begun_sound, body_checks, body_plain, means_callee, more, callee}
 use Rattle.std.proofs.lemmas.Bool.{or_left}
-use Rattle.meaning_sound.proofs.Calls.{receiver_parts, call_parts, all_mean, args_have, apart_cells, all_apart_cells}
-use Rattle.meaning_sound.proofs.Calls.{all_own_cells, meant_own, apart_after, all_apart_after}
-use Rattle.meaning_sound.proofs.Keeping.{exec_keeps}
-use Rattle.roopl_semantics.specs.Laws.{one_if_name}
+use Rattle.meaning_reached.proofs.meaning_sound_laws.Calls.{receiver_parts, call_parts, all_mean, args_have, apart_cells, all_apart_cells}
+use Rattle.meaning_reached.proofs.meaning_sound_laws.Calls.{all_own_cells, meant_own, apart_after, all_apart_after}
+use Rattle.meaning_reached.proofs.meaning_sound_laws.Keeping.{exec_keeps}
+use Rattle.meaning_reached.specs.roopl_semantics.Laws.{one_if_name}
 use Rattle.meaning_inverse.proofs.Known.{Context, Checked}
 use Rattle.meaning_inverse.proofs.Facts.{first_rule}
 
@@ -75,9 +75,6 @@ module _ (setting : Setting) (classes : KnowsClasses setting.program) (C : Conte
 
   abbrev typing : Typing
   typing = setting_in program (table_of program) C.class
-
-  abbrev SoundIn : State → Type 0
-  SoundIn st = Sound setting C.extra C.shape C.class st
 
   local_in : (st : State) (name : List ℕ) (k : Kind) (value : Expression) (body : Statements) (v : Value)
       → IsLocalEnd typing C.locals name k value → check_statements typing (record { name = name; kind = k } ∷ C.locals)

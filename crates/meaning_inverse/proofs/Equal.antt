@@ -1,12 +1,12 @@
 -- What a statement that makes and deletes nothing did, its inverse undoes exactly, names and all.
 use Rattle.std.proofs.Common.{◌≡◌, ℕ, refl, subst}
-use Rattle.rpp_tree.specs.declared.tree.UpdateOp.{UpdateOp}
-use Rattle.rpp_tree.specs.declared.tree.VarType.{VarType}
-use Rattle.rpp_tree.specs.Tree.{Expression, Lvalue, Statement, Update, Swap, Copy, Uncopy, End, Then}
-use Rattle.stmt_inverter.specs.Inverse.{inverse_statement}
-use Rattle.roopl_semantics.specs.Run.{Done}
-use Rattle.roopl_semantics.specs.Store.{State}
-use Rattle.roopl_semantics.specs.Execution.{Setting, statement, exec}
+use Rattle.meaning_reached.specs.rpp_tree.declared.tree.UpdateOp.{UpdateOp}
+use Rattle.meaning_reached.specs.rpp_tree.declared.tree.VarType.{VarType}
+use Rattle.meaning_reached.specs.rpp_tree.Tree.{Expression, Lvalue, Statement, Update, Swap, Copy, Uncopy, End, Then}
+use Rattle.meaning_reached.specs.stmt_inverter.Inverse.{inverse_statement}
+use Rattle.meaning_reached.specs.roopl_semantics.Run.{Done}
+use Rattle.meaning_reached.specs.roopl_semantics.Store.{State}
+use Rattle.meaning_reached.specs.roopl_semantics.Execution.{Setting, statement, exec}
 use Rattle.meaning_inverse.proofs.Runs.{Does}
 use Rattle.meaning_inverse.proofs.Ground.{Ground}
 use Rattle.meaning_inverse.proofs.Undone.{UndoneExactly, update_exactly, swap_exactly}

@@ -2,37 +2,37 @@
 use Rattle.std.proofs.Common.{◌≡◌, ℕ, suc, refl, sym, ap, subst, ◌∙◌, true, false, Bool, not, ◌&&◌, ◌++◌, List, length}
 use Rattle.std.proofs.Common.{Option, Some, None, option_map, unwrap_or, Ok, nat_eq, if◌then◌else◌}
 use Rattle.std.specs.Str.{bytes_eq}
-use Rattle.rpp_tree.specs.declared.tree.Ident.{Ident}
-use Rattle.rpp_tree.specs.declared.tree.VarType.{VarType}
-use Rattle.rpp_tree.specs.declared.tree.UpdateOp.{UpdateOp}
-use Rattle.rpp_tree.specs.Tree.{Expression, Lvalue, Whole, Item, Statement, Update, Swap, Copy, Uncopy, End, Then}
-use Rattle.rpp_tree.specs.Tree.{Source}
-use Rattle.class_table.specs.declared.kind.Kind.{Kind}
-use Rattle.class_table.specs.declared.kind.Kind.TheVariants as kind
-use Rattle.class_table.specs.Table.{table_of}
-use Rattle.class_table.specs.Refusal.{type_differs, self_update, unknown_name, same_argument}
-use Rattle.class_table.specs.Scope.{Typing, Locals, kind_in}
-use Rattle.class_table.specs.Expressions.{is_int, element_kind, type_of, place_type, occurs, occurs_in_index}
-use Rattle.rpp_tree.specs.Places.{place_name}
-use Rattle.class_table.specs.Statements.{passed, required, same_kind, same_plain, occurs_in_own_index, in_either_index}
-use Rattle.class_table.specs.Statements.{copy_rules, written_kind, type_known, takes_copy, check_statement}
-use Rattle.class_table.specs.Program.{setting_in}
-use Rattle.roopl_semantics.specs.Store.{Value, Word, Nil, Name, Object, State, number_of, is_nil, object_named}
-use Rattle.roopl_semantics.specs.Store.{no_object}
-use Rattle.roopl_semantics.specs.Value.{Cell, cell_named, variable_value, read, written, value as value_in, cell_of}
-use Rattle.roopl_semantics.specs.Elements.{elements, index_elements, own_element, share_array}
-use Rattle.roopl_semantics.specs.Execution.{Setting, same_cell, counted, one_less}
-use Rattle.meaning_sound.specs.Sound.{cell_kind, Typed}
-use Rattle.meaning_sound.proofs.Cells.{read_fits, changed_told}
-use Rattle.meaning_sound.proofs.Classes.{KnowsClasses}
-use Rattle.class_table.proofs.FirstPlaces.{same_name}
-use Rattle.class_table.proofs.PassedRules.{both_passed, held as was_held, handed_on, some_of, both_true, neither_true}
-use Rattle.class_table.proofs.PassedRules.{int_kind, kinds_same}
-use Rattle.meaning_sound.proofs.Values.{int_value, value_found, cell_found, value_fits, place_fits}
-use Rattle.meaning_sound.proofs.Removal.{reference}
-use Rattle.meaning_sound.proofs.AfterWrites.{read_other}
-use Rattle.meaning_sound.proofs.Makes.{CopyParts, copy_parts}
-use Rattle.roopl_semantics.specs.Execution.{exec}
+use Rattle.meaning_reached.specs.rpp_tree.declared.tree.Ident.{Ident}
+use Rattle.meaning_reached.specs.rpp_tree.declared.tree.VarType.{VarType}
+use Rattle.meaning_reached.specs.rpp_tree.declared.tree.UpdateOp.{UpdateOp}
+use Rattle.meaning_reached.specs.rpp_tree.Tree.{Expression, Lvalue, Whole, Item, Statement, Update, Swap, Copy, Uncopy, End, Then}
+use Rattle.meaning_reached.specs.rpp_tree.Tree.{Source}
+use Rattle.meaning_reached.specs.class_table.declared.kind.Kind.{Kind}
+use Rattle.meaning_reached.specs.class_table.declared.kind.Kind.TheVariants as kind
+use Rattle.meaning_reached.specs.class_table.Table.{table_of}
+use Rattle.meaning_reached.specs.class_table.Refusal.{type_differs, self_update, unknown_name, same_argument}
+use Rattle.meaning_reached.specs.class_table.Scope.{Typing, Locals, kind_in}
+use Rattle.meaning_reached.specs.class_table.Expressions.{is_int, element_kind, type_of, place_type, occurs, occurs_in_index}
+use Rattle.meaning_reached.specs.rpp_tree.Places.{place_name}
+use Rattle.meaning_reached.specs.class_table.Statements.{passed, required, same_kind, same_plain, occurs_in_own_index, in_either_index}
+use Rattle.meaning_reached.specs.class_table.Statements.{copy_rules, written_kind, type_known, takes_copy, check_statement}
+use Rattle.meaning_reached.specs.class_table.Program.{setting_in}
+use Rattle.meaning_reached.specs.roopl_semantics.Store.{Value, Word, Nil, Name, Object, State, number_of, is_nil, object_named}
+use Rattle.meaning_reached.specs.roopl_semantics.Store.{no_object}
+use Rattle.meaning_reached.specs.roopl_semantics.Value.{Cell, cell_named, variable_value, read, written, value as value_in, cell_of}
+use Rattle.meaning_reached.specs.roopl_semantics.Elements.{elements, index_elements, own_element, share_array}
+use Rattle.meaning_reached.specs.roopl_semantics.Execution.{Setting, same_cell, counted, one_less}
+use Rattle.meaning_reached.specs.meaning_sound.Sound.{cell_kind, Typed}
+use Rattle.meaning_reached.proofs.meaning_sound_laws.Cells.{read_fits, changed_told}
+use Rattle.meaning_reached.proofs.meaning_sound_laws.Classes.{KnowsClasses}
+use Rattle.meaning_reached.proofs.class_table_laws.FirstPlaces.{same_name}
+use Rattle.meaning_reached.proofs.class_table_laws.PassedRules.{both_passed, held as was_held, handed_on, some_of, both_true, neither_true}
+use Rattle.meaning_reached.proofs.class_table_laws.PassedRules.{int_kind, kinds_same}
+use Rattle.meaning_reached.proofs.meaning_sound_laws.Values.{int_value, value_found, cell_found, value_fits, place_fits}
+use Rattle.meaning_reached.proofs.meaning_sound_laws.Removal.{reference}
+use Rattle.meaning_reached.proofs.meaning_sound_laws.AfterWrites.{read_other}
+use Rattle.meaning_reached.proofs.meaning_sound_laws.Makes.{CopyParts, copy_parts}
+use Rattle.meaning_reached.specs.roopl_semantics.Execution.{exec}
 use Rattle.meaning_inverse.proofs.Cells.{named_changed}
 use Rattle.meaning_inverse.proofs.Ground.{UpdateFacts, SwapFacts, CopyFacts, copied, uncopied}
 use Rattle.meaning_inverse.proofs.Scopes.{either_false}

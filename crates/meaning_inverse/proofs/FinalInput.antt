@@ -1,4 +1,4 @@
--- Where no final field names an object, the final fields are an input.
+-- If no final field names an object, the final fields are an input.
 use Rattle.std.proofs.Common.{◌≡◌, ℕ, suc, ◌<◌, ◌^◌, refl, sym, ap, subst, ◌∙◌, arith, true, false, not, List, [], ◌∷◌}
 use Rattle.std.proofs.Common.{◌++◌, length, map, Option, Some, None, slice_get, slice_set, ne_eqb}
 use Rattle.std.proofs.lemmas.Bool.{ltb-true}
@@ -6,27 +6,27 @@ use Rattle.std.proofs.lemmas.List.{append_assoc, length-append}
 use Rattle.std.proofs.lemmas.List.Elements.{All-nil, All-cons}
 use Rattle.std.specs.List.{All}
 use Rattle.std.specs.Prelude.{IsTrue, ◌&&◌, ◌||◌}
-use Rattle.rpp_words.specs.Words.{IsWord}
-use Rattle.rpp_words.specs.Limits.{IsLimits}
-use Rattle.rpp_words.specs.declared.input.FieldWord.{FieldWord}
-use Rattle.rpp_words.specs.declared.input.Limits.{Limits}
-use Rattle.rpp_tree.specs.declared.tree.Var.{Var}
-use Rattle.rpp_tree.specs.declared.tree.VarType.{VarType}
-use Rattle.rpp_tree.specs.declared.tree.VarType.TheVariants as type
-use Rattle.rpp_tree.specs.Tree.{Source}
-use Rattle.class_table.specs.Inheritance.{kind_of_var}
-use Rattle.class_table.specs.Scope.{kind_of, array_kind}
-use Rattle.class_table.specs.Table.{Table, table_of, class_of}
-use Rattle.class_table.specs.Expressions.{is_int}
-use Rattle.class_table.specs.Program.{IsAccepted}
-use Rattle.class_table.proofs.PassedRules.{both_true}
-use Rattle.roopl_semantics.specs.Run.{Done}
-use Rattle.roopl_semantics.specs.Store.{Value, Word, Nil, Name, Store, State, main_name, zero_value, zero_values}
-use Rattle.roopl_semantics.specs.Store.{object_at}
-use Rattle.roopl_semantics.specs.Source.{IsValid, is_int_type, is_int_field, names_field, names_none_twice, with_input}
-use Rattle.roopl_semantics.specs.Source.{main_fields, source}
-use Rattle.meaning_sound.specs.Sound.{cell_kinds, AllFit}
-use Rattle.meaning_sound.proofs.Locals.{no_int_class}
+use Rattle.meaning_reached.specs.rpp_words.Words.{IsWord}
+use Rattle.meaning_reached.specs.rpp_words.Limits.{IsLimits}
+use Rattle.meaning_reached.specs.rpp_words.declared.input.FieldWord.{FieldWord}
+use Rattle.meaning_reached.specs.rpp_words.declared.input.Limits.{Limits}
+use Rattle.meaning_reached.specs.rpp_tree.declared.tree.Var.{Var}
+use Rattle.meaning_reached.specs.rpp_tree.declared.tree.VarType.{VarType}
+use Rattle.meaning_reached.specs.rpp_tree.declared.tree.VarType.TheVariants as type
+use Rattle.meaning_reached.specs.rpp_tree.Tree.{Source}
+use Rattle.meaning_reached.specs.class_table.Inheritance.{kind_of_var}
+use Rattle.meaning_reached.specs.class_table.Scope.{kind_of, array_kind}
+use Rattle.meaning_reached.specs.class_table.Table.{Table, table_of, class_of}
+use Rattle.meaning_reached.specs.class_table.Expressions.{is_int}
+use Rattle.meaning_reached.specs.class_table.Program.{IsAccepted}
+use Rattle.meaning_reached.proofs.class_table_laws.PassedRules.{both_true}
+use Rattle.meaning_reached.specs.roopl_semantics.Run.{Done}
+use Rattle.meaning_reached.specs.roopl_semantics.Store.{Value, Word, Nil, Name, Store, State, main_name, zero_value, zero_values}
+use Rattle.meaning_reached.specs.roopl_semantics.Store.{object_at}
+use Rattle.meaning_reached.specs.roopl_semantics.Source.{IsValid, is_int_type, is_int_field, names_field, names_none_twice, with_input}
+use Rattle.meaning_reached.specs.roopl_semantics.Source.{main_fields, source}
+use Rattle.meaning_reached.specs.meaning_sound.Sound.{cell_kinds, AllFit}
+use Rattle.meaning_reached.proofs.meaning_sound_laws.Locals.{no_int_class}
 use Rattle.meaning_inverse.proofs.Law.{end_of_run}
 use Rattle.meaning_inverse.specs.InversePrograms.{field_words, names_nothing, AreInput}
 

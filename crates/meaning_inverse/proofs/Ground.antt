@@ -1,31 +1,31 @@
--- What the law of inverses stands on: what is known of good states and of typed statements.
+-- The assumptions of the inverse law: what holds for good states and for typed statements.
 use Rattle.std.proofs.Common.{◌≡◌, ◌≢◌, ℕ, suc, ◌+◌, ◌<◌, ◌≤◌, true, false, Bool, List, [], ◌∷◌, ◌++◌, length, map}
 use Rattle.std.proofs.Common.{Some, None, Ok, slice_get, replicate}
 use Rattle.std.specs.Prelude.{◌%◌, ◌^◌}
 use Rattle.std.specs.Option.{unwrap_or}
-use Rattle.rpp_words.specs.Words.{IsWord, is_less}
-use Rattle.buddy_book.specs.Shown.{is_sound}
-use Rattle.buddy_book.specs.Place.{Taken, count_taken, Placing, block_of, place}
-use Rattle.rpp_tree.specs.declared.tree.Var.{Var}
-use Rattle.rpp_tree.specs.declared.tree.VarType.{VarType}
-use Rattle.rpp_tree.specs.declared.tree.Ident.{Ident}
-use Rattle.rpp_tree.specs.declared.tree.UpdateOp.{UpdateOp}
-use Rattle.rpp_tree.specs.Tree.{Expression, Lvalue, Whole, Item, Creation, Object as AnObject, Ints, Objects, Statement}
-use Rattle.rpp_tree.specs.Tree.{Statements, Update, Swap, If, From, Construct, Local, New, Delete, Copy, Uncopy, Call}
-use Rattle.rpp_tree.specs.Tree.{End, Then, Procedure, Source, Part, Operand, Target, Typed as TypedTarget}
-use Rattle.rpp_tree.specs.Tree.{Creates, Invokes, each_part, own_parts}
-use Rattle.class_table.specs.Expressions.{occurs}
-use Rattle.roopl_semantics.specs.Run.{Done}
-use Rattle.class_table.specs.Classes.{class_number, class_fields, method_named}
-use Rattle.roopl_semantics.specs.Store.{Value, Word, Nil, Name, Head, OfClass, OfInts, OfObjects, Object, Store, State}
-use Rattle.roopl_semantics.specs.Store.{main_name, is_nil, number_of, zero_values, object_named}
-use Rattle.roopl_semantics.specs.Value.{Cell, value_at, read, written, value as value_in, cell_of, cell_named}
-use Rattle.roopl_semantics.specs.Value.{own_class}
-use Rattle.roopl_semantics.specs.Elements.{elements, index_elements, own_element, share_array}
-use Rattle.roopl_semantics.specs.Execution.{Setting, order_of_cells, new_object as new_thing, freed, all_zero, counted}
-use Rattle.roopl_semantics.specs.Execution.{one_less, same_cell, bound, opened, moved_out, moved_back, in_direction}
-use Rattle.roopl_semantics.specs.Execution.{constructed, element_call, element_name, cells_named, class_of, is_too_deep}
-use Rattle.roopl_semantics.specs.Execution.{exec}
+use Rattle.meaning_reached.specs.rpp_words.Words.{IsWord, is_less}
+use Rattle.meaning_reached.specs.buddy_book.Shown.{is_sound}
+use Rattle.meaning_reached.specs.buddy_book.Place.{Taken, count_taken, Placing, block_of, place}
+use Rattle.meaning_reached.specs.rpp_tree.declared.tree.Var.{Var}
+use Rattle.meaning_reached.specs.rpp_tree.declared.tree.VarType.{VarType}
+use Rattle.meaning_reached.specs.rpp_tree.declared.tree.Ident.{Ident}
+use Rattle.meaning_reached.specs.rpp_tree.declared.tree.UpdateOp.{UpdateOp}
+use Rattle.meaning_reached.specs.rpp_tree.Tree.{Expression, Lvalue, Whole, Item, Creation, Object as AnObject, Ints, Objects, Statement}
+use Rattle.meaning_reached.specs.rpp_tree.Tree.{Statements, Update, Swap, If, From, Construct, Local, New, Delete, Copy, Uncopy, Call}
+use Rattle.meaning_reached.specs.rpp_tree.Tree.{End, Then, Procedure, Source, Part, Operand, Target, Typed as TypedTarget}
+use Rattle.meaning_reached.specs.rpp_tree.Tree.{Creates, Invokes, each_part, own_parts}
+use Rattle.meaning_reached.specs.class_table.Expressions.{occurs}
+use Rattle.meaning_reached.specs.roopl_semantics.Run.{Done}
+use Rattle.meaning_reached.specs.class_table.Classes.{class_number, class_fields, method_named}
+use Rattle.meaning_reached.specs.roopl_semantics.Store.{Value, Word, Nil, Name, Head, OfClass, OfInts, OfObjects, Object, Store, State}
+use Rattle.meaning_reached.specs.roopl_semantics.Store.{main_name, is_nil, number_of, zero_values, object_named}
+use Rattle.meaning_reached.specs.roopl_semantics.Value.{Cell, value_at, read, written, value as value_in, cell_of, cell_named}
+use Rattle.meaning_reached.specs.roopl_semantics.Value.{own_class}
+use Rattle.meaning_reached.specs.roopl_semantics.Elements.{elements, index_elements, own_element, share_array}
+use Rattle.meaning_reached.specs.roopl_semantics.Execution.{Setting, order_of_cells, new_object as new_thing, freed, all_zero, counted}
+use Rattle.meaning_reached.specs.roopl_semantics.Execution.{one_less, same_cell, bound, opened, moved_out, moved_back, in_direction}
+use Rattle.meaning_reached.specs.roopl_semantics.Execution.{constructed, element_call, element_name, cells_named, class_of, is_too_deep}
+use Rattle.meaning_reached.specs.roopl_semantics.Execution.{exec}
 use Rattle.meaning_inverse.proofs.Later.{IsSound, Later}
 use Rattle.meaning_inverse.proofs.Cells.{IsCell}
 use Rattle.meaning_inverse.proofs.Seen.{Clean, CleanPlace}
@@ -149,13 +149,13 @@ pub record DeleteArrayFacts (setting : Setting) (st : State) (target : Lvalue) (
   pub stays : cell_of setting.program (freed setting cell name st) target ≡ Ok cell
   pub size_stays : value_in setting.program (freed setting cell name st) size ≡ Ok v
 
--- where a block of an order stands in the heap
+-- where a block of an order is in the heap
 pub record Stands (h block order : ℕ) : Type 0 where
   pub to : order ≤ h
   pub aligned : block % 2 ^ order ≡ 0
   pub fits : block + 2 ^ order ≤ 2 ^ h
 
--- the blocks of the live objects stand in the heap, and the book is in order
+-- the blocks of the live objects are in the heap, and the free lists are in order
 pub record Placed (h : ℕ) (st : State) : Type 0 where
   pub at : Placing
   pub is : place h st.log ≡ Some at
@@ -186,7 +186,7 @@ abbrev pub Each : (Cell → Type 0) → List Cell → Type 0
 Each P [] = Unit {0}
 Each P (c ∷ cells) = P c × Each P cells
 
--- no cell stands twice
+-- no cell occurs twice
 abbrev pub AreDistinct : List Cell → Type 0
 AreDistinct [] = Unit {0}
 AreDistinct (c ∷ cells) = Each (λ d. same_cell c d ≡ false) cells × AreDistinct cells
@@ -212,8 +212,8 @@ entered method self receiver args st =
 abbrev pub returned : List Cell → State → State → State
 returned cells st end = record (moved_out cells st) { store = end.store; log = end.log }
 
--- a call: its cells are there and differ, its values are as many as the parameters, its method
--- begins in a good state, and what it returns to a cell is a word exactly where the cell holds a word
+-- a call: its cells exist and differ, and it has as many values as parameters. Its method begins in
+-- a good state, and it returns a word to a cell exactly if the cell holds a word.
 pub record CallFacts (setting : Setting) (Context : Type 0) (Good : Context → State → Type 0)
     (Typed : Context → Statements → Type 0) (C : Context) (st : State) (back : Bool) (method : Procedure) (self : ℕ)
     (receiver args : List Cell) : Type 0 where
@@ -236,7 +236,8 @@ pub record CallFacts (setting : Setting) (Context : Type 0) (Good : Context → 
       (receiver ++ args)
 
 pub record Ground (setting : Setting) : Type 1 where
-  -- where a block stands: its class, the visible names and their types, and who else holds names
+  -- the position of a block: its class, the visible names and their types, and who else has object
+  -- ids
   pub Context : Type 0
   pub Good : Context → State → Type 0
   pub Typed : Context → Statements → Type 0

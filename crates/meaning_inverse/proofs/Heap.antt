@@ -2,27 +2,27 @@
 use Rattle.std.proofs.Common.{◌≡◌, ◌≢◌, ℕ, zero, suc, ◌+◌, ◌≤◌, refl, sym, ap, subst, ◌∙◌, arith, true, false, Bool}
 use Rattle.std.proofs.Common.{not, ◌&&◌, ◌||◌, List, [], ◌∷◌, length, map, replicate, Ok, Some, unwrap_or, slice_get}
 use Rattle.std.proofs.Common.{nat_eq, nat_lt, is_none, eqb-true, eq-eqb, le-ltb}
-use Rattle.rpp_words.specs.Words.{is_less}
-use Rattle.rpp_tree.specs.declared.tree.Ident.{Ident}
-use Rattle.rpp_tree.specs.declared.tree.Var.{Var}
-use Rattle.rpp_tree.specs.declared.tree.VarType.{VarType}
-use Rattle.rpp_tree.specs.declared.tree.VarType.TheVariants as kind
-use Rattle.rpp_tree.specs.Tree.{Expression, Lvalue, Object as AnObject, New, Delete, End, Then, nodes, index_nodes}
-use Rattle.class_table.specs.Classes.{class_number, class_fields}
-use Rattle.buddy_book.specs.Place.{Log, Taken, Given, count_taken, block_of, after_request, place}
-use Rattle.buddy_book.proofs.Orders.{give_gave}
-use Rattle.roopl_semantics.specs.Run.{Run, Done, ◌>>=◌, give as ends, spend, fault_if}
-use Rattle.roopl_semantics.specs.Store.{Value, Word, Nil, Name, Head, OfClass, OfInts, OfObjects, Object, State}
-use Rattle.roopl_semantics.specs.Store.{main_name, is_nil, is_zero, number_of, zero_value, zero_values, object_named}
-use Rattle.roopl_semantics.specs.Store.{object_at, no_object}
-use Rattle.roopl_semantics.specs.Value.{Cell, Slot, Part, read, cell_of, evaluated, found, nil_fault}
-use Rattle.roopl_semantics.specs.Elements.{index_elements, own_element, share_array, read_cost, kept_apart}
-use Rattle.roopl_semantics.specs.Execution.{Setting, Runner, statement, exec, allocated, freed, new_array, delete_array}
-use Rattle.roopl_semantics.specs.Execution.{new_object, order_of_cells, is_of_class, all_zero, not_nil_fault}
-use Rattle.roopl_semantics.specs.Execution.{length_fault, length_differs_fault, count_fault, not_empty_fault}
-use Rattle.roopl_semantics.specs.Execution.{heap_full_fault, class_differs_fault}
-use Rattle.roopl_semantics.specs.Agreement.{renamed, renamed_object}
-use Rattle.roopl_semantics.specs.Laws.{book_of, block_in}
+use Rattle.meaning_reached.specs.rpp_words.Words.{is_less}
+use Rattle.meaning_reached.specs.rpp_tree.declared.tree.Ident.{Ident}
+use Rattle.meaning_reached.specs.rpp_tree.declared.tree.Var.{Var}
+use Rattle.meaning_reached.specs.rpp_tree.declared.tree.VarType.{VarType}
+use Rattle.meaning_reached.specs.rpp_tree.declared.tree.VarType.TheVariants as kind
+use Rattle.meaning_reached.specs.rpp_tree.Tree.{Expression, Lvalue, Object as AnObject, New, Delete, End, Then, nodes, index_nodes}
+use Rattle.meaning_reached.specs.class_table.Classes.{class_number, class_fields}
+use Rattle.meaning_reached.specs.buddy_book.Place.{Log, Taken, Given, count_taken, block_of, after_request, place}
+use Rattle.meaning_reached.proofs.buddy_book_laws.Orders.{give_gave}
+use Rattle.meaning_reached.specs.roopl_semantics.Run.{Run, Done, ◌>>=◌, give as ends, spend, fault_if}
+use Rattle.meaning_reached.specs.roopl_semantics.Store.{Value, Word, Nil, Name, Head, OfClass, OfInts, OfObjects, Object, State}
+use Rattle.meaning_reached.specs.roopl_semantics.Store.{main_name, is_nil, is_zero, number_of, zero_value, zero_values, object_named}
+use Rattle.meaning_reached.specs.roopl_semantics.Store.{object_at, no_object}
+use Rattle.meaning_reached.specs.roopl_semantics.Value.{Cell, Slot, Part, read, cell_of, evaluated, found, nil_fault}
+use Rattle.meaning_reached.specs.roopl_semantics.Elements.{index_elements, own_element, share_array, read_cost, kept_apart}
+use Rattle.meaning_reached.specs.roopl_semantics.Execution.{Setting, Runner, statement, exec, allocated, freed, new_array, delete_array}
+use Rattle.meaning_reached.specs.roopl_semantics.Execution.{new_object, order_of_cells, is_of_class, all_zero, not_nil_fault}
+use Rattle.meaning_reached.specs.roopl_semantics.Execution.{length_fault, length_differs_fault, count_fault, not_empty_fault}
+use Rattle.meaning_reached.specs.roopl_semantics.Execution.{heap_full_fault, class_differs_fault}
+use Rattle.meaning_reached.specs.roopl_semantics.Agreement.{renamed, renamed_object}
+use Rattle.meaning_reached.specs.roopl_semantics.Laws.{book_of, block_in}
 use Rattle.meaning_inverse.proofs.Runs.{in_parts, done_then, done_result, done_cost, given_done, apart_done, done_apart}
 use Rattle.meaning_inverse.proofs.Runs.{passed_check, passes}
 use Rattle.meaning_inverse.proofs.Cells.{IsCell, IsSlot, IsPart, read_written}
@@ -120,7 +120,7 @@ of_class_is (OfInts l) number e = cc
 of_class_is (OfObjects class l) number e = cc
 
 module _ (setting : Setting) where
-  -- what the statements do, where their checks pass
+  -- what the statements do, if their checks pass
   new_goes : (m at : ℕ) (run : Runner) (class : Ident) (target : Lvalue) (st end : State) (cell : Cell)
       → found setting.program target st ≡ Done cell (index_nodes target)
       → share_array setting.program st (own_element target) (index_elements target) ≡ false → read st cell ≡ Nil

@@ -3,14 +3,14 @@
 use Rattle.std.specs.Prelude.{◌≡◌, false, [], ◌∷◌, None, codes}
 use Rattle.std.specs.Fmt.{digits}
 use Rattle.std.proofs.Common.{refl}
-use Rattle.rpp_tree.specs.declared.tree.VarType.TheVariants as kind
-use Rattle.rpp_tree.specs.declared.tree.UpdateOp.TheVariants as update
-use Rattle.rpp_tree.specs.Tree.{Number, Variable, Whole, Ints, Update, New, Delete, Call, Source}
-use Rattle.stmt_inverter.specs.Inverse.{inverse_program}
-use Rattle.roopl_semantics.proofs.Testing.{named, var, procedure, class_text, block, program, Finished, Faulted, lines}
-use Rattle.roopl_semantics.proofs.Testing.{ending, word_for}
+use Rattle.meaning_reached.specs.rpp_tree.declared.tree.VarType.TheVariants as kind
+use Rattle.meaning_reached.specs.rpp_tree.declared.tree.UpdateOp.TheVariants as update
+use Rattle.meaning_reached.specs.rpp_tree.Tree.{Number, Variable, Whole, Ints, Update, New, Delete, Call, Source}
+use Rattle.meaning_reached.specs.stmt_inverter.Inverse.{inverse_program}
+use Rattle.meaning_reached.proofs.roopl_semantics_laws.Testing.{named, var, procedure, class_text, block, program, Finished, Faulted, lines}
+use Rattle.meaning_reached.proofs.roopl_semantics_laws.Testing.{ending, word_for}
 
--- class P int x int y method main() call add() y += x method add() x += 3
+-- `class P int x int y method main() call add() y += x method add() x += 3`
 abbrev called-text : Source
 called-text =
     program (class_text (named 6 (codes "P")) None (var kind.Int (named 12 (codes "x"))
@@ -30,8 +30,8 @@ called-inverse : ending (inverse_program called-text) 1 2 (word_for 0 3 ∷ word
 unfolding digits
 called-inverse = refl
 
--- class P int[] w int[] a int[] b method main() new int[14] w delete int[14] w new int[6] a new
--- int[6] b delete int[6] a delete int[6] b
+-- `class P int[] w int[] a int[] b method main() new int[14] w delete int[14] w new int[6] a new
+-- int[6] b delete int[6] a delete int[6] b`
 abbrev fragmented-text : Source
 fragmented-text =
     program (class_text (named 6 (codes "P")) None (var kind.IntArray (named 14 (codes "w"))

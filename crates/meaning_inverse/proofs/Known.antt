@@ -1,48 +1,49 @@
--- What is known of a sound state of an accepted program, as the law of inverses wants it.
+-- What holds for a sound state of an accepted program, as the inverse law needs it.
 use Rattle.std.proofs.Common.{◌≡◌, ℕ, suc, ◌+◌, ◌<◌, ◌≤◌, refl, sym, ap, subst, ◌∙◌, arith, true, false, Bool, not}
 use Rattle.std.proofs.Common.{◌&&◌, List, [], ◌∷◌, ◌++◌, length, map, Option, Some, None, option_map, unwrap_or, Ok}
 use Rattle.std.proofs.Common.{Err, Result, nat_eq, is_some, slice_get, if◌then◌else◌, eqb-true}
-use Rattle.rpp_tree.specs.Tree.{Expression, Number, Null, Variable, Element, Binary, Lvalue, Whole, Item, Statements}
-use Rattle.rpp_tree.specs.Tree.{Source}
-use Rattle.class_table.specs.declared.kind.Kind.{Kind}
-use Rattle.class_table.specs.declared.kind.Kind.TheVariants as kind
-use Rattle.class_table.specs.Table.{Table, table_of}
-use Rattle.class_table.specs.Scope.{Typing, Locals}
-use Rattle.class_table.specs.Refusal.{type_differs, refused_operator}
-use Rattle.class_table.specs.Expressions.{is_int, element_of as element_type, index_is_int, variable_type, type_of}
-use Rattle.class_table.specs.Expressions.{place_type, is_comparison, is_refused, compares, operands_fit, operator_type}
-use Rattle.class_table.specs.Expressions.{first_token}
-use Rattle.class_table.specs.Statements.{passed, check_statements}
-use Rattle.class_table.specs.Program.{setting_in}
-use Rattle.buddy_book.specs.Place.{block_of, count_taken}
-use Rattle.buddy_book.proofs.Kept.{given_back}
-use Rattle.roopl_semantics.specs.Store.{Value, Word, Nil, Name, Head, Object, Store, Binding, State, main_name}
-use Rattle.roopl_semantics.specs.Store.{object_named, object_at, no_object}
-use Rattle.roopl_semantics.specs.Value.{Cell, Slot, Part, read, value as value_in}
-use Rattle.roopl_semantics.specs.Execution.{Setting, order_of_cells}
-use Rattle.roopl_semantics.specs.Laws.{one_if_name}
-use Rattle.meaning_sound.specs.Sound.{Sound, Descending, entry_name, fits, named_fits, head_of, head_named, count_of}
-use Rattle.meaning_sound.specs.Sound.{is_live, cell_kinds, local_type, value_of, held, cell_kind}
-use Rattle.meaning_sound.specs.Plain.{HasWords, PlaceHasWords, IsPlain}
-use Rattle.meaning_sound.proofs.Lists.{all_inside, all_length, holders_get}
-use Rattle.meaning_sound.proofs.Stores.{live_object, live_named, holders_inside, none_above, below_bound}
-use Rattle.meaning_sound.specs.Sound.{Typed}
-use Rattle.meaning_sound.proofs.Cells.{typed_of, part_of, value_at_is}
-use Rattle.meaning_sound.proofs.Classes.{KnowsClasses}
-use Rattle.meaning_sound.specs.Kept.{MeansSame}
-use Rattle.meaning_sound.proofs.Names.{is_object}
-use Rattle.class_table.proofs.PassedRules.{handed_on, both_true}
-use Rattle.meaning_sound.proofs.Values.{ValueFits, value_fits}
-use Rattle.meaning_sound.proofs.Objects.{all_live}
-use Rattle.meaning_sound.proofs.Removal.{one_name}
+use Rattle.meaning_reached.specs.rpp_tree.Tree.{Expression, Number, Null, Variable, Element, Binary, Lvalue, Whole, Item, Statements}
+use Rattle.meaning_reached.specs.rpp_tree.Tree.{Source}
+use Rattle.meaning_reached.specs.class_table.declared.kind.Kind.{Kind}
+use Rattle.meaning_reached.specs.class_table.declared.kind.Kind.TheVariants as kind
+use Rattle.meaning_reached.specs.class_table.Table.{Table, table_of}
+use Rattle.meaning_reached.specs.class_table.Scope.{Typing, Locals}
+use Rattle.meaning_reached.specs.class_table.Refusal.{type_differs, refused_operator}
+use Rattle.meaning_reached.specs.class_table.Expressions.{is_int, element_of as element_type, index_is_int, variable_type, type_of}
+use Rattle.meaning_reached.specs.class_table.Expressions.{place_type, is_comparison, is_refused, compares, operands_fit, operator_type}
+use Rattle.meaning_reached.specs.class_table.Expressions.{first_token}
+use Rattle.meaning_reached.specs.class_table.Statements.{passed, check_statements}
+use Rattle.meaning_reached.specs.class_table.Program.{setting_in}
+use Rattle.meaning_reached.specs.buddy_book.Place.{block_of, count_taken}
+use Rattle.meaning_reached.proofs.buddy_book_laws.Kept.{given_back}
+use Rattle.meaning_reached.specs.roopl_semantics.Store.{Value, Word, Nil, Name, Head, Object, Store, Binding, State, main_name}
+use Rattle.meaning_reached.specs.roopl_semantics.Store.{object_named, object_at, no_object}
+use Rattle.meaning_reached.specs.roopl_semantics.Value.{Cell, Slot, Part, read, value as value_in}
+use Rattle.meaning_reached.specs.roopl_semantics.Execution.{Setting, order_of_cells}
+use Rattle.meaning_reached.specs.roopl_semantics.Laws.{one_if_name}
+use Rattle.meaning_reached.specs.meaning_sound.Sound.{Sound, Descending, entry_name, fits, named_fits, head_of, head_named, count_of}
+use Rattle.meaning_reached.specs.meaning_sound.Sound.{is_live, cell_kinds, local_type, value_of, held, cell_kind}
+use Rattle.meaning_reached.specs.meaning_sound.Plain.{HasWords, PlaceHasWords, IsPlain}
+use Rattle.meaning_reached.proofs.meaning_sound_laws.Lists.{all_inside, all_length, holders_get}
+use Rattle.meaning_reached.proofs.meaning_sound_laws.Stores.{live_object, live_named, holders_inside, none_above, below_bound}
+use Rattle.meaning_reached.specs.meaning_sound.Sound.{Typed}
+use Rattle.meaning_reached.proofs.meaning_sound_laws.Cells.{typed_of, part_of, value_at_is}
+use Rattle.meaning_reached.proofs.meaning_sound_laws.Classes.{KnowsClasses}
+use Rattle.meaning_reached.specs.meaning_sound.Kept.{MeansSame}
+use Rattle.meaning_reached.proofs.meaning_sound_laws.Names.{is_object}
+use Rattle.meaning_reached.proofs.class_table_laws.PassedRules.{handed_on, both_true}
+use Rattle.meaning_reached.proofs.meaning_sound_laws.Values.{ValueFits, value_fits}
+use Rattle.meaning_reached.proofs.meaning_sound_laws.Objects.{all_live}
+use Rattle.meaning_reached.proofs.meaning_sound_laws.Removal.{one_name}
 use Rattle.meaning_inverse.specs.ArrayLengths.{ArraysHaveElements}
-use Rattle.roopl_semantics.specs.Laws.{HasNamesOnce as IsUnique}
+use Rattle.meaning_reached.specs.roopl_semantics.Laws.{HasNamesOnce as IsUnique}
 use Rattle.meaning_inverse.proofs.Later.{IsSound}
 use Rattle.meaning_inverse.proofs.Cells.{IsCell, IsSlot, IsPart}
 use Rattle.meaning_inverse.proofs.Seen.{Clean, CleanPlace, IsNumber, AreFit, FitResults}
 use Rattle.meaning_inverse.proofs.Ground.{IsLive, AreLive, Placed, is_word}
 
--- where a block stands: who else holds names, the visible names and the frame with their types, the class
+-- the position of a block: who else has object ids, the visible names and the frame with their
+-- types, the class
 pub record Context (setting : Setting) : Type 0 where
   pub extra : ℕ → ℕ
   pub locals : Locals
@@ -197,9 +198,6 @@ module _ (setting : Setting) (classes : KnowsClasses setting.program) (C : Conte
 
   abbrev pub typing : Typing
   typing = setting_in program (table_of program) C.class
-
-  abbrev TypedIn : State → Type 0
-  TypedIn st = Typed setting C.extra C.shape C.class st
 
   pub typed_in : (st : State) → Good setting C st → Typed setting C.extra C.shape C.class st
   typed_in st g = typed_of setting C.extra C.shape C.class st g.sound

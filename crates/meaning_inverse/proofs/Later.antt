@@ -1,35 +1,35 @@
--- What every run keeps, of any program: the names of the frame, the object, the depth; that names
--- are drawn anew.
+-- What every run of any program keeps: the names of the frame, the object, the depth; and each
+-- object id it draws is a new one.
 use Rattle.std.proofs.Common.{◌≡◌, ℕ, zero, suc, ◌+◌, ◌<◌, ◌≤◌, refl, sym, ap, subst, ◌∙◌, arith, true, false, Bool}
 use Rattle.std.proofs.Common.{not, List, [], ◌∷◌, ◌++◌, length, map, Option, Some, None, option_map, unwrap_or, nat_eq}
 use Rattle.std.proofs.Common.{if◌then◌else◌, eqb-true, replicate, cond, ◌||◌}
-use Rattle.rpp_tree.specs.Tree.{Expression, Null, Lvalue, Whole, Item, Object as AnObject, Ints, Objects, Statement}
-use Rattle.rpp_tree.specs.Tree.{Statements, Update, Swap, If, From, Construct, Local, New, Delete, Copy, Uncopy, Call}
-use Rattle.rpp_tree.specs.Tree.{Skip, End, Then, Procedure}
-use Rattle.class_table.specs.Classes.{class_number, class_fields, method_named}
-use Rattle.buddy_book.specs.Place.{Taken, Given, count_taken}
-use Rattle.roopl_semantics.specs.Operators.{updated}
-use Rattle.roopl_semantics.specs.Run.{Run, Done, More, ◌>>=◌, spend, fault_if}
-use Rattle.roopl_semantics.specs.Store.{Value, Word, Nil, Name, Head, OfClass, OfInts, OfObjects, Object, Store}
-use Rattle.roopl_semantics.specs.Store.{Binding, State, number_of, is_nil, same_value, zero_values, cleared}
-use Rattle.roopl_semantics.specs.Store.{object_named, object_at, changed_at, without}
-use Rattle.roopl_semantics.specs.Value.{Cell, Slot, Part, read, written, evaluated, found, cell_named, own_class}
-use Rattle.roopl_semantics.specs.Value.{nil_fault}
-use Rattle.roopl_semantics.specs.Elements.{elements, index_elements, own_element, kept_apart}
-use Rattle.rpp_words.specs.Words.{is_less}
-use Rattle.roopl_semantics.specs.Execution.{is_of_class, same_cell, fi_fault, loop_fault, class_differs_fault}
-use Rattle.roopl_semantics.specs.Execution.{not_same_fault, too_deep_fault, not_nil_fault, length_fault}
-use Rattle.roopl_semantics.specs.Execution.{length_differs_fault, count_fault, not_empty_fault, all_zero, Setting}
-use Rattle.roopl_semantics.specs.Execution.{Runner, bound, opened, closed, rest_of, moved_out, moved_back, new_object}
-use Rattle.roopl_semantics.specs.Execution.{order_of_cells, counted, one_less, element_name, constructed, element_call}
-use Rattle.roopl_semantics.specs.Execution.{cells_named, class_of, is_too_deep, invoked, allocated, freed, new_array}
-use Rattle.roopl_semantics.specs.Execution.{delete_array, with_local, turn_end, turns, statement, exec, holds}
-use Rattle.roopl_semantics.specs.Laws.{HasNamesOnce as IsUnique}
+use Rattle.meaning_reached.specs.rpp_tree.Tree.{Expression, Null, Lvalue, Whole, Item, Object as AnObject, Ints, Objects, Statement}
+use Rattle.meaning_reached.specs.rpp_tree.Tree.{Statements, Update, Swap, If, From, Construct, Local, New, Delete, Copy, Uncopy, Call}
+use Rattle.meaning_reached.specs.rpp_tree.Tree.{Skip, End, Then, Procedure}
+use Rattle.meaning_reached.specs.class_table.Classes.{class_number, class_fields, method_named}
+use Rattle.meaning_reached.specs.buddy_book.Place.{Taken, Given, count_taken}
+use Rattle.meaning_reached.specs.roopl_semantics.Operators.{updated}
+use Rattle.meaning_reached.specs.roopl_semantics.Run.{Run, Done, More, ◌>>=◌, spend, fault_if}
+use Rattle.meaning_reached.specs.roopl_semantics.Store.{Value, Word, Nil, Name, Head, OfClass, OfInts, OfObjects, Object, Store}
+use Rattle.meaning_reached.specs.roopl_semantics.Store.{Binding, State, number_of, is_nil, same_value, zero_values, cleared}
+use Rattle.meaning_reached.specs.roopl_semantics.Store.{object_named, object_at, changed_at, without}
+use Rattle.meaning_reached.specs.roopl_semantics.Value.{Cell, Slot, Part, read, written, evaluated, found, cell_named, own_class}
+use Rattle.meaning_reached.specs.roopl_semantics.Value.{nil_fault}
+use Rattle.meaning_reached.specs.roopl_semantics.Elements.{elements, index_elements, own_element, kept_apart}
+use Rattle.meaning_reached.specs.rpp_words.Words.{is_less}
+use Rattle.meaning_reached.specs.roopl_semantics.Execution.{is_of_class, same_cell, fi_fault, loop_fault, class_differs_fault}
+use Rattle.meaning_reached.specs.roopl_semantics.Execution.{not_same_fault, too_deep_fault, not_nil_fault, length_fault}
+use Rattle.meaning_reached.specs.roopl_semantics.Execution.{length_differs_fault, count_fault, not_empty_fault, all_zero, Setting}
+use Rattle.meaning_reached.specs.roopl_semantics.Execution.{Runner, bound, opened, closed, rest_of, moved_out, moved_back, new_object}
+use Rattle.meaning_reached.specs.roopl_semantics.Execution.{order_of_cells, counted, one_less, element_name, constructed, element_call}
+use Rattle.meaning_reached.specs.roopl_semantics.Execution.{cells_named, class_of, is_too_deep, invoked, allocated, freed, new_array}
+use Rattle.meaning_reached.specs.roopl_semantics.Execution.{delete_array, with_local, turn_end, turns, statement, exec, holds}
+use Rattle.meaning_reached.specs.roopl_semantics.Laws.{HasNamesOnce as IsUnique}
 pub use Rattle.meaning_reached.proofs.SameReports.{named_without_same, unique_without}
 use Rattle.meaning_inverse.proofs.Runs.{in_parts, done_result}
 use Rattle.meaning_inverse.proofs.Cells.{names_with, named_changed}
 
--- what holds of the result of a run that is done
+-- what holds for the result of a run that is done
 pub record Ends {A : Type 0} (r : Run A) (P : A → Type 0) : Type 0 where
   pub by : (end : A) (cost : ℕ) → r ≡ Done end cost → P end
 

@@ -1,44 +1,44 @@
 -- The law of inverses for accepted programs whose literals are words.
 use Rattle.std.proofs.Common.{◌≡◌, ℕ, ◌+◌, ◌<◌, ◌≤◌, arith, refl, sym, ap, ◌∙◌, true, false, Bool, List, [], length}
 use Rattle.std.proofs.Common.{Some, None, nat_eq, eqb-true, if◌then◌else◌}
-use Rattle.rpp_words.specs.declared.input.Limits.{Limits}
-use Rattle.rpp_words.specs.declared.input.FieldWord.{FieldWord}
-use Rattle.rpp_tree.specs.Tree.{Statements, Source}
-use Rattle.class_table.specs.Program.{IsAccepted}
-use Rattle.roopl_semantics.specs.Run.{Done}
-use Rattle.roopl_semantics.specs.Store.{OfClass, Object, State, main_name, object_named, object_at}
-use Rattle.roopl_semantics.specs.Execution.{Setting, exec}
-use Rattle.rpp_words.specs.Limits.{IsLimits}
-use Rattle.class_table.specs.Classes.{main_of}
-use Rattle.roopl_semantics.specs.Source.{IsValid, main_body, main_object, source, starting}
+use Rattle.meaning_reached.specs.rpp_words.declared.input.Limits.{Limits}
+use Rattle.meaning_reached.specs.rpp_words.declared.input.FieldWord.{FieldWord}
+use Rattle.meaning_reached.specs.rpp_tree.Tree.{Statements, Source}
+use Rattle.meaning_reached.specs.class_table.Program.{IsAccepted}
+use Rattle.meaning_reached.specs.roopl_semantics.Run.{Done}
+use Rattle.meaning_reached.specs.roopl_semantics.Store.{OfClass, Object, State, main_name, object_named, object_at}
+use Rattle.meaning_reached.specs.roopl_semantics.Execution.{Setting, exec}
+use Rattle.meaning_reached.specs.rpp_words.Limits.{IsLimits}
+use Rattle.meaning_reached.specs.class_table.Classes.{main_of}
+use Rattle.meaning_reached.specs.roopl_semantics.Source.{IsValid, main_body, main_object, source, starting}
 use Rattle.meaning_inverse.specs.InverseLaws.{LeadsBack}
-use Rattle.roopl_semantics.proofs.MainPlace.{class_inside}
-use Rattle.meaning_sound.specs.Plain.{ProgramIsPlain}
-use Rattle.meaning_sound.proofs.Accepted.{knows_classes}
-use Rattle.meaning_sound.proofs.Plainness.{program_plain}
-use Rattle.meaning_sound.proofs.Starting.{starting_sound, main_text}
-use Rattle.class_table.specs.Scope.{Locals}
-use Rattle.class_table.specs.Table.{table_of}
-use Rattle.class_table.specs.Statements.{passed, check_statements}
-use Rattle.class_table.specs.Program.{setting_in}
-use Rattle.meaning_sound.specs.Sound.{Sound, main_alone}
-use Rattle.meaning_sound.specs.Plain.{IsPlain}
-use Rattle.meaning_sound.specs.Kept.{MeansSame}
-use Rattle.meaning_sound.proofs.Classes.{KnowsClasses}
+use Rattle.meaning_reached.proofs.roopl_semantics_laws.MainPlace.{class_inside}
+use Rattle.meaning_reached.specs.meaning_sound.Plain.{ProgramIsPlain}
+use Rattle.meaning_reached.proofs.meaning_sound_laws.Accepted.{knows_classes}
+use Rattle.meaning_reached.proofs.meaning_sound_laws.Plainness.{program_plain}
+use Rattle.meaning_reached.proofs.meaning_sound_laws.Starting.{starting_sound, main_text}
+use Rattle.meaning_reached.specs.class_table.Scope.{Locals}
+use Rattle.meaning_reached.specs.class_table.Table.{table_of}
+use Rattle.meaning_reached.specs.class_table.Statements.{passed, check_statements}
+use Rattle.meaning_reached.specs.class_table.Program.{setting_in}
+use Rattle.meaning_reached.specs.meaning_sound.Sound.{Sound, main_alone}
+use Rattle.meaning_reached.specs.meaning_sound.Plain.{IsPlain}
+use Rattle.meaning_reached.specs.meaning_sound.Kept.{MeansSame}
+use Rattle.meaning_reached.proofs.meaning_sound_laws.Classes.{KnowsClasses}
 use Rattle.meaning_inverse.proofs.ElementsKept.{good_after}
 use Rattle.meaning_inverse.proofs.Whole.{same_map, sees_itself, sees_agree}
 use Rattle.meaning_reached.proofs.SameReports.{same_reports}
 use Rattle.meaning_inverse.specs.InverseLaws.{ShowsBack}
 use Rattle.meaning_inverse.specs.ArrayLengths.{ArraysHaveElements, is_class_head}
 use Rattle.meaning_inverse.proofs.Known.{Context, Checked, Good, drawn_of}
-use Rattle.roopl_semantics.proofs.MoreFuel.{within_done}
-use Rattle.buddy_book.specs.Place.{count_taken}
-use Rattle.meaning_sound.proofs.Stores.{live_object}
-use Rattle.meaning_sound.proofs.Stated.{end_is_sound}
+use Rattle.meaning_reached.proofs.roopl_semantics_laws.MoreFuel.{within_done}
+use Rattle.meaning_reached.specs.buddy_book.Place.{count_taken}
+use Rattle.meaning_reached.proofs.meaning_sound_laws.Stores.{live_object}
+use Rattle.meaning_reached.proofs.meaning_sound_laws.Stated.{end_is_sound}
 use Rattle.meaning_inverse.proofs.Later.{Later, exec_later}
 use Rattle.meaning_inverse.proofs.Grounded.{leads_back_from, undone_from}
 
--- at the start of a run the main object is alone
+-- at the start of a run there is only the main object
 pub only_main : (program : Source) (input : List FieldWord) (name : ℕ) (object : Object)
     → object_named (starting program input).store name ≡ Some object
     → (name ≡ main_name) × (object ≡ main_object program input)
@@ -55,7 +55,7 @@ elements_at_start program input = record {
       (let z : true ≡ false = sym (ap (λ o. is_class_head o.head) (only_main program input name object e).1) ∙ h in cc);
 }
 
--- what is known of a run's end
+-- what holds for the end of a run
 pub record EndOfRun (program : Source) (limits : Limits) (input : List FieldWord) (end : State) : Type 0 where
   pub live : object_named end.store main_name ≡ Some (object_at end.store main_name)
   pub head : (object_at end.store main_name).head ≡ OfClass (main_of program).class
@@ -70,7 +70,7 @@ module _ (program : Source) (limits : Limits) (input : List FieldWord) (accepted
   plain : ProgramIsPlain program
   plain = program_plain program accepted
 
-  -- where main's body stands
+  -- the position of main's body
   abbrev pub main_context : Context setting
   main_context = record {
     extra = main_alone;

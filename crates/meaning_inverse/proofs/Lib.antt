@@ -1,3 +1,5 @@
+pub use Rattle.meaning_reached.proofs.meaning_sound_laws
+pub use Rattle.meaning_reached.proofs as meaning_reached_laws
 pub mod Runs
 pub mod Cells
 pub mod Later

@@ -1,32 +1,32 @@
 -- The records of facts of `new` and `delete`.
 use Rattle.std.proofs.Common.{◌≡◌, ◌≢◌, ℕ, refl, sym, ap, subst, ◌∙◌, true, false, List, length, replicate, Option}
 use Rattle.std.proofs.Common.{Some, None, option_map, unwrap_or, Ok, if◌then◌else◌, eqb-true}
-use Rattle.rpp_tree.specs.declared.tree.Ident.{Ident}
-use Rattle.rpp_tree.specs.Tree.{Expression, Lvalue, Creation, Object as AnObject, Ints, Objects, New, Delete, End, Then}
-use Rattle.rpp_tree.specs.Tree.{Source}
-use Rattle.class_table.specs.declared.kind.Kind.{Kind}
-use Rattle.class_table.specs.declared.kind.Kind.TheVariants as kind
-use Rattle.class_table.specs.Table.{table_of, class_of}
-use Rattle.class_table.specs.Classes.{class_fields}
-use Rattle.class_table.specs.Scope.{Typing}
-use Rattle.class_table.specs.Expressions.{and_then, is_int, element_kind as elements_of, type_of, occurs}
-use Rattle.rpp_tree.specs.Places.{place_name}
-use Rattle.class_table.specs.Statements.{is_int_array, takes_objects_of}
-use Rattle.class_table.specs.Program.{setting_in}
-use Rattle.roopl_semantics.specs.Store.{Value, Word, Nil, Name, Head, OfClass, OfInts, OfObjects, Object, State}
-use Rattle.roopl_semantics.specs.Store.{main_name, number_of, is_nil, object_named, object_at}
-use Rattle.roopl_semantics.specs.Value.{Cell, read, value as value_in, cell_of}
-use Rattle.roopl_semantics.specs.Elements.{elements, index_elements, own_element, share_array}
-use Rattle.roopl_semantics.specs.Execution.{Setting, order_of_cells, freed}
-use Rattle.meaning_sound.specs.Sound.{fits, named_fits, head_fits, head_of, head_named, cell_kinds, AllFit, cell_kind}
-use Rattle.meaning_sound.specs.Plain.{HasWords}
-use Rattle.meaning_sound.proofs.Lists.{all_length}
-use Rattle.meaning_sound.proofs.Cells.{read_fits}
-use Rattle.meaning_sound.proofs.Classes.{KnowsClasses}
-use Rattle.class_table.proofs.PassedRules.{handed_on, int_kind}
-use Rattle.meaning_sound.proofs.Values.{int_value, value_found, value_fits}
-use Rattle.meaning_sound.proofs.Removal.{reference, named_of}
-use Rattle.meaning_sound.proofs.Makes.{no_int_takes, new_class}
+use Rattle.meaning_reached.specs.rpp_tree.declared.tree.Ident.{Ident}
+use Rattle.meaning_reached.specs.rpp_tree.Tree.{Expression, Lvalue, Creation, Object as AnObject, Ints, Objects, New, Delete, End, Then}
+use Rattle.meaning_reached.specs.rpp_tree.Tree.{Source}
+use Rattle.meaning_reached.specs.class_table.declared.kind.Kind.{Kind}
+use Rattle.meaning_reached.specs.class_table.declared.kind.Kind.TheVariants as kind
+use Rattle.meaning_reached.specs.class_table.Table.{table_of, class_of}
+use Rattle.meaning_reached.specs.class_table.Classes.{class_fields}
+use Rattle.meaning_reached.specs.class_table.Scope.{Typing}
+use Rattle.meaning_reached.specs.class_table.Expressions.{and_then, is_int, element_kind as elements_of, type_of, occurs}
+use Rattle.meaning_reached.specs.rpp_tree.Places.{place_name}
+use Rattle.meaning_reached.specs.class_table.Statements.{is_int_array, takes_objects_of}
+use Rattle.meaning_reached.specs.class_table.Program.{setting_in}
+use Rattle.meaning_reached.specs.roopl_semantics.Store.{Value, Word, Nil, Name, Head, OfClass, OfInts, OfObjects, Object, State}
+use Rattle.meaning_reached.specs.roopl_semantics.Store.{main_name, number_of, is_nil, object_named, object_at}
+use Rattle.meaning_reached.specs.roopl_semantics.Value.{Cell, read, value as value_in, cell_of}
+use Rattle.meaning_reached.specs.roopl_semantics.Elements.{elements, index_elements, own_element, share_array}
+use Rattle.meaning_reached.specs.roopl_semantics.Execution.{Setting, order_of_cells, freed}
+use Rattle.meaning_reached.specs.meaning_sound.Sound.{fits, named_fits, head_fits, head_of, head_named, cell_kinds, AllFit, cell_kind}
+use Rattle.meaning_reached.specs.meaning_sound.Plain.{HasWords}
+use Rattle.meaning_reached.proofs.meaning_sound_laws.Lists.{all_length}
+use Rattle.meaning_reached.proofs.meaning_sound_laws.Cells.{read_fits}
+use Rattle.meaning_reached.proofs.meaning_sound_laws.Classes.{KnowsClasses}
+use Rattle.meaning_reached.proofs.class_table_laws.PassedRules.{handed_on, int_kind}
+use Rattle.meaning_reached.proofs.meaning_sound_laws.Values.{int_value, value_found, value_fits}
+use Rattle.meaning_reached.proofs.meaning_sound_laws.Removal.{reference, named_of}
+use Rattle.meaning_reached.proofs.meaning_sound_laws.Makes.{no_int_takes, new_class}
 use Rattle.meaning_inverse.proofs.Ground.{NewFacts, NewArrayFacts, DeleteFacts, DeleteArrayFacts, number_named}
 use Rattle.meaning_inverse.proofs.Ground.{new_cells}
 use Rattle.meaning_inverse.specs.ArrayLengths.{is_class_head}

@@ -2,33 +2,33 @@
 use Rattle.std.proofs.Common.{◌≡◌, ℕ, zero, suc, ◌+◌, refl, sym, ap, subst, ◌∙◌, true, false, Bool, ◌&&◌, List, [], ◌∷◌}
 use Rattle.std.proofs.Common.{length, map, replicate, Option, Some, None, unwrap_or, Ok, nat_eq, slice_get}
 use Rattle.std.proofs.Common.{if◌then◌else◌, eqb-true}
-use Rattle.rpp_tree.specs.declared.tree.Ident.{Ident}
-use Rattle.rpp_tree.specs.declared.tree.Var.{Var}
-use Rattle.rpp_tree.specs.declared.tree.VarType.{VarType}
-use Rattle.rpp_tree.specs.declared.tree.VarType.TheVariants as type
-use Rattle.rpp_tree.specs.Tree.{Expression, Lvalue, Whole, Item, Creation, Source}
-use Rattle.class_table.specs.declared.kind.Kind.{Kind}
-use Rattle.class_table.specs.Table.{table_of, class_of}
-use Rattle.class_table.specs.Refusal.{type_differs, self_update}
-use Rattle.class_table.specs.Scope.{Typing, Locals, kind_in, kind_of, array_kind}
-use Rattle.class_table.specs.Expressions.{is_int, element_kind, type_of, place_type, occurs}
-use Rattle.rpp_tree.specs.Places.{place_name}
-use Rattle.class_table.specs.Statements.{passed, required, occurs_in_own_index, occurs_in_length, make_rules}
-use Rattle.class_table.specs.Statements.{made_known, length_is_int, takes}
-use Rattle.class_table.specs.Program.{setting_in}
-use Rattle.buddy_book.specs.Place.{count_taken}
-use Rattle.roopl_semantics.specs.Store.{Value, Word, Nil, Name, Head, Store, State, is_zero, zero_value, zero_values}
-use Rattle.roopl_semantics.specs.Store.{object_named, object_at, no_object, class_of_head}
-use Rattle.roopl_semantics.specs.Value.{Cell, Slot, Part, slot_of, slot_or_field, cell_named, variable_value, value_at}
-use Rattle.roopl_semantics.specs.Value.{read, written, value as value_in, cell_of}
-use Rattle.roopl_semantics.specs.Elements.{elements, index_elements, own_element, share_array}
-use Rattle.roopl_semantics.specs.Execution.{Setting, new_object, all_zero}
-use Rattle.class_table.specs.Inheritance.{kind_of_var}
-use Rattle.meaning_sound.specs.Sound.{AllFit}
-use Rattle.meaning_sound.proofs.Classes.{KnowsClasses}
-use Rattle.class_table.proofs.PassedRules.{both_passed, held as was_held, handed_on, both_true, neither_true}
-use Rattle.meaning_sound.proofs.Locals.{no_int_class}
-use Rattle.meaning_sound.proofs.AfterWrites.{read_other}
+use Rattle.meaning_reached.specs.rpp_tree.declared.tree.Ident.{Ident}
+use Rattle.meaning_reached.specs.rpp_tree.declared.tree.Var.{Var}
+use Rattle.meaning_reached.specs.rpp_tree.declared.tree.VarType.{VarType}
+use Rattle.meaning_reached.specs.rpp_tree.declared.tree.VarType.TheVariants as type
+use Rattle.meaning_reached.specs.rpp_tree.Tree.{Expression, Lvalue, Whole, Item, Creation, Source}
+use Rattle.meaning_reached.specs.class_table.declared.kind.Kind.{Kind}
+use Rattle.meaning_reached.specs.class_table.Table.{table_of, class_of}
+use Rattle.meaning_reached.specs.class_table.Refusal.{type_differs, self_update}
+use Rattle.meaning_reached.specs.class_table.Scope.{Typing, Locals, kind_in, kind_of, array_kind}
+use Rattle.meaning_reached.specs.class_table.Expressions.{is_int, element_kind, type_of, place_type, occurs}
+use Rattle.meaning_reached.specs.rpp_tree.Places.{place_name}
+use Rattle.meaning_reached.specs.class_table.Statements.{passed, required, occurs_in_own_index, occurs_in_length, make_rules}
+use Rattle.meaning_reached.specs.class_table.Statements.{made_known, length_is_int, takes}
+use Rattle.meaning_reached.specs.class_table.Program.{setting_in}
+use Rattle.meaning_reached.specs.buddy_book.Place.{count_taken}
+use Rattle.meaning_reached.specs.roopl_semantics.Store.{Value, Word, Nil, Name, Head, Store, State, is_zero, zero_value, zero_values}
+use Rattle.meaning_reached.specs.roopl_semantics.Store.{object_named, object_at, no_object, class_of_head}
+use Rattle.meaning_reached.specs.roopl_semantics.Value.{Cell, Slot, Part, slot_of, slot_or_field, cell_named, variable_value, value_at}
+use Rattle.meaning_reached.specs.roopl_semantics.Value.{read, written, value as value_in, cell_of}
+use Rattle.meaning_reached.specs.roopl_semantics.Elements.{elements, index_elements, own_element, share_array}
+use Rattle.meaning_reached.specs.roopl_semantics.Execution.{Setting, new_object, all_zero}
+use Rattle.meaning_reached.specs.class_table.Inheritance.{kind_of_var}
+use Rattle.meaning_reached.specs.meaning_sound.Sound.{AllFit}
+use Rattle.meaning_reached.proofs.meaning_sound_laws.Classes.{KnowsClasses}
+use Rattle.meaning_reached.proofs.class_table_laws.PassedRules.{both_passed, held as was_held, handed_on, both_true, neither_true}
+use Rattle.meaning_reached.proofs.meaning_sound_laws.Locals.{no_int_class}
+use Rattle.meaning_reached.proofs.meaning_sound_laws.AfterWrites.{read_other}
 use Rattle.meaning_inverse.proofs.Cells.{IsCell, IsSlot, IsPart}
 use Rattle.meaning_inverse.proofs.Later.{frame_names}
 use Rattle.meaning_inverse.proofs.Ground.{IsLive, AreLive, made_state, is_word}

@@ -1,12 +1,12 @@
 -- Values that move out of cells and back.
 use Rattle.std.proofs.Common.{◌≡◌, ℕ, zero, suc, refl, sym, ap, subst, ◌∙◌, arith, true, false, Bool, not, List, []}
 use Rattle.std.proofs.Common.{◌∷◌, length, map, option_map, if◌then◌else◌, nat_eq, eqb-true}
-use Rattle.rpp_tree.specs.declared.tree.Var.{Var}
-use Rattle.roopl_semantics.specs.Run.{Done, fault_if}
-use Rattle.roopl_semantics.specs.Store.{Value, Word, Nil, Name, Binding, State, is_zero, cleared, object_named}
-use Rattle.roopl_semantics.specs.Value.{Cell, Slot, Part, value_at, with_value, read, written}
-use Rattle.roopl_semantics.specs.Execution.{same_cell, bound, moved_out, moved_back, touched_fault}
-use Rattle.roopl_semantics.specs.Agreement.{renamed}
+use Rattle.meaning_reached.specs.rpp_tree.declared.tree.Var.{Var}
+use Rattle.meaning_reached.specs.roopl_semantics.Run.{Done, fault_if}
+use Rattle.meaning_reached.specs.roopl_semantics.Store.{Value, Word, Nil, Name, Binding, State, is_zero, cleared, object_named}
+use Rattle.meaning_reached.specs.roopl_semantics.Value.{Cell, Slot, Part, value_at, with_value, read, written}
+use Rattle.meaning_reached.specs.roopl_semantics.Execution.{same_cell, bound, moved_out, moved_back, touched_fault}
+use Rattle.meaning_reached.specs.roopl_semantics.Agreement.{renamed}
 use Rattle.meaning_inverse.specs.StatesAgree.{renamed_binding}
 use Rattle.meaning_inverse.proofs.Runs.{in_parts, done_then, done_result, done_cost, passed_check, passes}
 use Rattle.meaning_inverse.proofs.Cells.{IsCell, written_twice, written_same, written_apart, read_written, read_apart}

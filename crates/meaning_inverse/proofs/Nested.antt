@@ -1,14 +1,14 @@
 -- Conditionals and loops undone.
 use Rattle.std.proofs.Common.{◌≡◌, ℕ, zero, suc, ◌+◌, ◌<◌, ◌≤◌, refl, sym, ap, subst, ◌∙◌, arith, true, false, Bool}
 use Rattle.std.proofs.Common.{not, if◌then◌else◌, Ok}
-use Rattle.rpp_tree.specs.Tree.{Expression, Number, Null, Variable, Element, Binary, Statements, If, From, End, Then}
-use Rattle.rpp_tree.specs.Tree.{nodes}
-use Rattle.stmt_inverter.specs.Inverse.{inverse}
-use Rattle.roopl_semantics.specs.Run.{Run, Done, ◌>>=◌, give, fault_if}
-use Rattle.roopl_semantics.specs.Store.{Value, State}
-use Rattle.roopl_semantics.specs.Value.{value as value_in, evaluated}
-use Rattle.roopl_semantics.specs.Execution.{Setting, statement, exec, holds, turns, turn_end, fi_fault, loop_fault}
-use Rattle.roopl_semantics.specs.Agreement.{renamed}
+use Rattle.meaning_reached.specs.rpp_tree.Tree.{Expression, Number, Null, Variable, Element, Binary, Statements, If, From, End, Then}
+use Rattle.meaning_reached.specs.rpp_tree.Tree.{nodes}
+use Rattle.meaning_reached.specs.stmt_inverter.Inverse.{inverse}
+use Rattle.meaning_reached.specs.roopl_semantics.Run.{Run, Done, ◌>>=◌, give, fault_if}
+use Rattle.meaning_reached.specs.roopl_semantics.Store.{Value, State}
+use Rattle.meaning_reached.specs.roopl_semantics.Value.{value as value_in, evaluated}
+use Rattle.meaning_reached.specs.roopl_semantics.Execution.{Setting, statement, exec, holds, turns, turn_end, fi_fault, loop_fault}
+use Rattle.meaning_reached.specs.roopl_semantics.Agreement.{renamed}
 use Rattle.meaning_inverse.proofs.Runs.{in_parts, done_then, done_result, done_cost, given_done, passed_check, passes}
 use Rattle.meaning_inverse.proofs.Runs.{Runs}
 use Rattle.meaning_inverse.proofs.Later.{IsSound, Later, later_itself, later_then, exec_later}
@@ -124,7 +124,7 @@ module _ (setting : Setting) (G : Ground setting) where
         same = inner.same;
       }
 
-  -- the rest of a loop's inverse, at the state before a turn of the loop
+  -- the rest of a loop's inverse, at the state before an iteration of the loop
   pub record TurnsBack (entry : Expression) (first again : Statements) (exit : Expression) (f : Names)
       (start y y' : State) (cost : ℕ) : Type 0 where
     pub back : State
@@ -152,7 +152,7 @@ module _ (setting : Setting) (G : Ground setting) where
 
   module _ (C : G.Context) (n : ℕ) (ih : Undoes n) (at : ℕ) (entry : Expression) (first again : Statements)
       (exit : Expression) (typed : G.Typed C (Then (From at entry first again exit) End)) where
-    -- one more part of the inverse's turns
+    -- one more part of the inverse's iterations
     turn_back : (f : Names) (start y y' x x' : State) (c1 d cost : ℕ) (k m : ℕ)
         → (back : TurnsBack entry first again exit f start y y' d) → Runs setting (inverse first) x' y' c1
         → c1 + d ≡ cost → cost ≤ m → cost ≤ k → turns setting (suc k) (exec setting m) exit (inverse first)
@@ -163,7 +163,7 @@ module _ (setting : Setting) (G : Ground setting) where
         (turns setting k (exec setting m) exit (inverse first) (inverse again) entry) (holds v) end)) y'
         back.back c1 d cost (runs.by m (omega arith)) (back.goes m k (omega arith) (omega arith)) sum
 
-    -- the inverse's way from after a turn to before it
+    -- the inverse's way from after an iteration to before it
     turns_path : (start y : State) (i : Names) (y' z' x' : State) (w' v' : Value) (c3 c1 d : ℕ)
         (rest : TurnsBack entry first again exit i start y y' d) → Runs setting (inverse again) z' x' c3
         → Runs setting (inverse first) x' y' c1

@@ -2,21 +2,21 @@
 use Rattle.std.proofs.Common.{◌≡◌, ◌≢◌, ℕ, zero, suc, ◌+◌, ◌^◌, ◌≤◌, refl, sym, ap, subst, ◌∙◌, arith, true, false}
 use Rattle.std.proofs.Common.{Bool, List, [], ◌∷◌, Some, None, Option, option_map, nat_eq, nat_le, is_none, eqb-true}
 use Rattle.std.proofs.Common.{eq-eqb, ne_eqb, if◌then◌else◌}
-use Rattle.code_conventions.specs.declared.memory.TheConstants.{HEADER_WORDS}
-use Rattle.buddy_book.specs.Book.{Book, take, give, order_from}
-use Rattle.buddy_book.specs.Shown.{is_sound}
-use Rattle.buddy_book.specs.Place.{Log, Taken, Given, count_taken, Placing, block_of, without_name, with_block}
-use Rattle.buddy_book.specs.Place.{after_request, place}
-use Rattle.buddy_book.proofs.Orders.{take_took}
-use Rattle.roopl_semantics.specs.Store.{Value, Nil, Name, Head, Object, Store, State, main_name, object_named}
-use Rattle.roopl_semantics.specs.Store.{changed_at, without}
-use Rattle.roopl_semantics.specs.Value.{Cell, Part, with_value, read, written}
-use Rattle.roopl_semantics.specs.Execution.{order_of_cells, new_object}
-use Rattle.roopl_semantics.specs.Agreement.{renamed_object}
-use Rattle.roopl_semantics.specs.Laws.{book_of, block_in}
+use Rattle.meaning_reached.specs.code_conventions.declared.memory.TheConstants.{HEADER_WORDS}
+use Rattle.meaning_reached.specs.buddy_book.Book.{Book, take, give, order_from}
+use Rattle.meaning_reached.specs.buddy_book.Shown.{is_sound}
+use Rattle.meaning_reached.specs.buddy_book.Place.{Log, Taken, Given, count_taken, Placing, block_of, without_name, with_block}
+use Rattle.meaning_reached.specs.buddy_book.Place.{after_request, place}
+use Rattle.meaning_reached.proofs.buddy_book_laws.Orders.{take_took}
+use Rattle.meaning_reached.specs.roopl_semantics.Store.{Value, Nil, Name, Head, Object, Store, State, main_name, object_named}
+use Rattle.meaning_reached.specs.roopl_semantics.Store.{changed_at, without}
+use Rattle.meaning_reached.specs.roopl_semantics.Value.{Cell, Part, with_value, read, written}
+use Rattle.meaning_reached.specs.roopl_semantics.Execution.{order_of_cells, new_object}
+use Rattle.meaning_reached.specs.roopl_semantics.Agreement.{renamed_object}
+use Rattle.meaning_reached.specs.roopl_semantics.Laws.{book_of, block_in}
 use Rattle.meaning_inverse.proofs.Cells.{IsCell, IsSlot, IsPart, with_cell, with_with, with_same, written_twice}
 use Rattle.meaning_inverse.proofs.Cells.{written_same}
-use Rattle.roopl_semantics.specs.Laws.{HasNamesOnce as IsUnique}
+use Rattle.meaning_reached.specs.roopl_semantics.Laws.{HasNamesOnce as IsUnique}
 use Rattle.meaning_inverse.proofs.Later.{IsSound, named_without, named_without_same, later_dropped}
 use Rattle.meaning_inverse.proofs.Seen.{Names, Sees, same_names}
 
@@ -156,7 +156,7 @@ pub not_drawn : (st : State) → IsSound st → (k : ℕ) (object : Object) → 
 not_drawn st s k object e = ne_eqb (2 + count_taken st.log) k
     (λ h. (let d = s.drawn k object e in absurd (omega arith)))
 
--- what is made and dropped leaves the state, but for the log
+-- what is made and dropped leaves the state as it was, except for the log
 pub made_dropped : (st : State) (cell : Cell) (size : ℕ) (head : Head) (cells : List Value) (order : ℕ) → IsSound st
     → IsCell st cell → read st cell ≡ Nil
     → written (dropped (made st cell size head cells) (2 + count_taken st.log) order) cell Nil

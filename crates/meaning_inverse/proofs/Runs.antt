@@ -1,13 +1,13 @@
 -- Runs in parts, and runs with fuel enough.
 use Rattle.std.proofs.Common.{◌≡◌, ℕ, zero, suc, ◌+◌, ◌≤◌, refl, sym, ap, subst, ◌∙◌, arith, Ok, Err, Result, true}
 use Rattle.std.proofs.Common.{false, Bool, List}
-use Rattle.rpp_tree.specs.declared.tree.Ident.{Ident}
-use Rattle.rpp_tree.specs.Tree.{Statement, Statements, Source, End, Then, joined}
-use Rattle.roopl_semantics.specs.Run.{Run, Done, Fault, More, after_cost, ◌>>=◌, fault_if, given}
-use Rattle.roopl_semantics.specs.Store.{State}
-use Rattle.roopl_semantics.specs.Elements.{shared_array_fault, share_array, read_cost, kept_apart}
-use Rattle.roopl_semantics.specs.Execution.{Setting, statement, exec}
-use Rattle.roopl_semantics.proofs.CostBound.{exec_done_within}
+use Rattle.meaning_reached.specs.rpp_tree.declared.tree.Ident.{Ident}
+use Rattle.meaning_reached.specs.rpp_tree.Tree.{Statement, Statements, Source, End, Then, joined}
+use Rattle.meaning_reached.specs.roopl_semantics.Run.{Run, Done, Fault, More, after_cost, ◌>>=◌, fault_if, given}
+use Rattle.meaning_reached.specs.roopl_semantics.Store.{State}
+use Rattle.meaning_reached.specs.roopl_semantics.Elements.{shared_array_fault, share_array, read_cost, kept_apart}
+use Rattle.meaning_reached.specs.roopl_semantics.Execution.{Setting, statement, exec}
+use Rattle.meaning_reached.proofs.roopl_semantics_laws.CostBound.{exec_done_within}
 
 abbrev result_or : {A : Type 0} → A → Run A → A
 result_or x (Done result cost) = result

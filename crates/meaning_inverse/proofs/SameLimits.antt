@@ -10,28 +10,28 @@ use Rattle.std.proofs.lemmas.List.Sorted.{All-permutation, sum_by-IsPermutation}
 use Rattle.std.specs.List.{All, flat_map}
 use Rattle.std.specs.List.Sorted.{IsPermutation}
 use Rattle.std.proofs.lemmas.List.Elements.{All-map, All-weaker}
-use Rattle.rpp_tree.specs.declared.tree.Ident.{Ident}
-use Rattle.rpp_tree.specs.declared.limits.TheConstants.{MOST_BYTES, MOST_TOKENS, MOST_NODES, MOST_NUMBER}
-use Rattle.rpp_tree.specs.declared.limits.TheConstants.{MOST_INDEX_DEPTH, MOST_CLASSES, MOST_LOCALS, MOST_NESTING}
-use Rattle.rpp_tree.specs.Tree.{Statement, Statements, End, Then, joined, Procedure, ClassText, Source, part_nodes}
-use Rattle.rpp_tree.specs.Names.{IsName}
-use Rattle.rpp_tree.specs.Numbers.{expression_numbers, numbers, statement_numbers, block_numbers, procedure_numbers}
-use Rattle.rpp_tree.specs.Numbers.{class_numbers, source_numbers}
-use Rattle.rpp_tree.specs.Parts.{expression_names, var_names, names, statement_names, block_names, procedure_names}
-use Rattle.rpp_tree.specs.Parts.{parent_names, class_names, source_names, name_places, expression_places, var_places}
-use Rattle.rpp_tree.specs.Parts.{places, statement_places, block_places, procedure_places, class_places, source_places}
-use Rattle.rpp_tree.specs.Parts.{var_tokens, list_tokens, tokens, statement_tokens, block_tokens, procedure_tokens}
-use Rattle.rpp_tree.specs.Parts.{parent_tokens, class_tokens}
-use Rattle.rpp_tree.specs.Limits.{part_index_depth, small, IsSmallStatement, AreSmall, IsSmallMethod, IsWithinLimits}
-use Rattle.rpp_tree.proofs.Walks.{walk_joined}
-use Rattle.stmt_inverter.specs.Inverse.{inverse_statement_as, inverse_as, inverse_procedure, inverse_class}
-use Rattle.stmt_inverter.specs.Inverse.{inverse_program}
-use Rattle.stmt_inverter.proofs.InverseWalks.{IsTurned, block_turned as walk_block_turned, own_parts_turned}
-use Rattle.stmt_inverter.proofs.InverseWalks.{depth_undone, locals_undone}
+use Rattle.meaning_reached.specs.rpp_tree.declared.tree.Ident.{Ident}
+use Rattle.meaning_reached.specs.rpp_tree.declared.limits.TheConstants.{MOST_BYTES, MOST_TOKENS, MOST_NODES, MOST_NUMBER}
+use Rattle.meaning_reached.specs.rpp_tree.declared.limits.TheConstants.{MOST_INDEX_DEPTH, MOST_CLASSES, MOST_LOCALS, MOST_NESTING}
+use Rattle.meaning_reached.specs.rpp_tree.Tree.{Statement, Statements, End, Then, joined, Procedure, ClassText, Source, part_nodes}
+use Rattle.meaning_reached.specs.rpp_tree.Names.{IsName}
+use Rattle.meaning_reached.specs.rpp_tree.Numbers.{expression_numbers, numbers, statement_numbers, block_numbers, procedure_numbers}
+use Rattle.meaning_reached.specs.rpp_tree.Numbers.{class_numbers, source_numbers}
+use Rattle.meaning_reached.specs.rpp_tree.Parts.{expression_names, var_names, names, statement_names, block_names, procedure_names}
+use Rattle.meaning_reached.specs.rpp_tree.Parts.{parent_names, class_names, source_names, name_places, expression_places, var_places}
+use Rattle.meaning_reached.specs.rpp_tree.Parts.{places, statement_places, block_places, procedure_places, class_places, source_places}
+use Rattle.meaning_reached.specs.rpp_tree.Parts.{var_tokens, list_tokens, tokens, statement_tokens, block_tokens, procedure_tokens}
+use Rattle.meaning_reached.specs.rpp_tree.Parts.{parent_tokens, class_tokens}
+use Rattle.meaning_reached.specs.rpp_tree.Limits.{part_index_depth, small, IsSmallStatement, AreSmall, IsSmallMethod, IsWithinLimits}
+use Rattle.meaning_reached.proofs.rpp_tree_laws.Walks.{walk_joined}
+use Rattle.meaning_reached.specs.stmt_inverter.Inverse.{inverse_statement_as, inverse_as, inverse_procedure, inverse_class}
+use Rattle.meaning_reached.specs.stmt_inverter.Inverse.{inverse_program}
+use Rattle.meaning_reached.proofs.stmt_inverter_laws.InverseWalks.{IsTurned, block_turned as walk_block_turned, own_parts_turned}
+use Rattle.meaning_reached.proofs.stmt_inverter_laws.InverseWalks.{depth_undone, locals_undone}
 
 -- ---- lists with the same elements
 
--- what stands in the middle stays there, and the ends change places
+-- what is in the middle stays there, and the ends are exchanged
 ends : {A : Type 0} (first middle inner last : List A) → IsPermutation middle inner
     → IsPermutation (last ++ middle ++ first) (first ++ inner ++ last)
 ends first middle inner last h =
@@ -60,7 +60,7 @@ two_ends var first middle inner end last h =
     (sym (append_assoc (var ++ first ++ inner) end last))
     (ends (var ++ first) middle inner (end ++ last) h))
 
--- a block turned round
+-- a reversed block
 block_turned : {A : Type 0} (first rest was_first was_rest : List A) → IsPermutation first was_first
     → IsPermutation rest was_rest → IsPermutation (rest ++ (first ++ [])) (was_first ++ was_rest)
 block_turned first rest was_first was_rest h k =

@@ -2,28 +2,28 @@
 use Rattle.std.proofs.Common.{◌≡◌, ℕ, zero, suc, ◌+◌, refl, ap, ◌∙◌, true, false, Bool, not, ◌||◌, List, [], ◌∷◌, ◌++◌}
 use Rattle.std.proofs.Common.{length, Option, Some, None, unwrap_or, Result, Ok, Err, if◌then◌else◌}
 use Rattle.std.proofs.Math.Path.{fun_ext}
-use Rattle.rpp_words.specs.declared.input.Limits.{Limits}
-use Rattle.rpp_tree.specs.declared.tree.Ident.{Ident}
-use Rattle.rpp_tree.specs.declared.tree.Var.{Var}
-use Rattle.rpp_tree.specs.Tree.{Expression, Number, Null, Variable, Element, Binary, Lvalue, Whole, Item}
-use Rattle.rpp_tree.specs.Tree.{Object as AnObject, Ints, Objects, Statement, Statements, Update, Swap, If, From}
-use Rattle.rpp_tree.specs.Tree.{Construct, Local, New, Delete, Copy, Uncopy, Call, Skip, End, Then, Procedure, Source}
-use Rattle.rpp_tree.specs.Tree.{nodes, index_nodes}
-use Rattle.class_table.specs.Members.{field_of}
-use Rattle.class_table.specs.Classes.{class_number, class_fields, method_named}
-use Rattle.stmt_inverter.specs.Inverse.{inverse_as, inverse, inverse_procedure, inverse_program}
-use Rattle.roopl_semantics.specs.Run.{Run, after_cost, ◌>>=◌, given, spend, fault_if}
-use Rattle.roopl_semantics.specs.Store.{object_at, is_nil, Value, Head, OfClass, OfInts, OfObjects, State, Word, Nil}
-use Rattle.roopl_semantics.specs.Store.{zero_values, number_of, same_value}
-use Rattle.roopl_semantics.specs.Value.{nil_fault, Cell, Part, own_class, slot_or_field, slot_of, cell_named, read}
-use Rattle.roopl_semantics.specs.Value.{variable_value, element_cell, element_of, read_cell, combined}
-use Rattle.roopl_semantics.specs.Value.{value as value_in, cell_of, evaluated, found}
-use Rattle.roopl_semantics.specs.Elements.{elements, index_elements, own_element, same_array, is_among, share_array}
-use Rattle.roopl_semantics.specs.Elements.{read_cost, kept_apart, shared_array_fault}
-use Rattle.roopl_semantics.specs.Execution.{not_nil_fault, class_differs_fault, too_deep_fault, is_of_class}
-use Rattle.roopl_semantics.specs.Execution.{is_too_deep, Setting, Runner, holds, opened, in_direction, constructed}
-use Rattle.roopl_semantics.specs.Execution.{element_call, element_name, cells_named, class_of, invoked, allocated}
-use Rattle.roopl_semantics.specs.Execution.{new_array, delete_array, with_local, turn_end, turns, statement, exec}
+use Rattle.meaning_reached.specs.rpp_words.declared.input.Limits.{Limits}
+use Rattle.meaning_reached.specs.rpp_tree.declared.tree.Ident.{Ident}
+use Rattle.meaning_reached.specs.rpp_tree.declared.tree.Var.{Var}
+use Rattle.meaning_reached.specs.rpp_tree.Tree.{Expression, Number, Null, Variable, Element, Binary, Lvalue, Whole, Item}
+use Rattle.meaning_reached.specs.rpp_tree.Tree.{Object as AnObject, Ints, Objects, Statement, Statements, Update, Swap, If, From}
+use Rattle.meaning_reached.specs.rpp_tree.Tree.{Construct, Local, New, Delete, Copy, Uncopy, Call, Skip, End, Then, Procedure, Source}
+use Rattle.meaning_reached.specs.rpp_tree.Tree.{nodes, index_nodes}
+use Rattle.meaning_reached.specs.class_table.Members.{field_of}
+use Rattle.meaning_reached.specs.class_table.Classes.{class_number, class_fields, method_named}
+use Rattle.meaning_reached.specs.stmt_inverter.Inverse.{inverse_as, inverse, inverse_procedure, inverse_program}
+use Rattle.meaning_reached.specs.roopl_semantics.Run.{Run, after_cost, ◌>>=◌, given, spend, fault_if}
+use Rattle.meaning_reached.specs.roopl_semantics.Store.{object_at, is_nil, Value, Head, OfClass, OfInts, OfObjects, State, Word, Nil}
+use Rattle.meaning_reached.specs.roopl_semantics.Store.{zero_values, number_of, same_value}
+use Rattle.meaning_reached.specs.roopl_semantics.Value.{nil_fault, Cell, Part, own_class, slot_or_field, slot_of, cell_named, read}
+use Rattle.meaning_reached.specs.roopl_semantics.Value.{variable_value, element_cell, element_of, read_cell, combined}
+use Rattle.meaning_reached.specs.roopl_semantics.Value.{value as value_in, cell_of, evaluated, found}
+use Rattle.meaning_reached.specs.roopl_semantics.Elements.{elements, index_elements, own_element, same_array, is_among, share_array}
+use Rattle.meaning_reached.specs.roopl_semantics.Elements.{read_cost, kept_apart, shared_array_fault}
+use Rattle.meaning_reached.specs.roopl_semantics.Execution.{not_nil_fault, class_differs_fault, too_deep_fault, is_of_class}
+use Rattle.meaning_reached.specs.roopl_semantics.Execution.{is_too_deep, Setting, Runner, holds, opened, in_direction, constructed}
+use Rattle.meaning_reached.specs.roopl_semantics.Execution.{element_call, element_name, cells_named, class_of, invoked, allocated}
+use Rattle.meaning_reached.specs.roopl_semantics.Execution.{new_array, delete_array, with_local, turn_end, turns, statement, exec}
 use Rattle.meaning_inverse.proofs.SameTable.{fields_kept, number_kept, method_kept}
 use Rattle.meaning_inverse.proofs.Turned.{turned, turned_statement, turned_joined, turned_inverse, inverse_of_inverse}
 use Rattle.meaning_inverse.proofs.Turned.{turned_twice}

@@ -4,21 +4,21 @@ use Rattle.std.proofs.Common.{List, [], ◌∷◌, length, cond, if◌then◌els
 use Rattle.std.proofs.Common.{option_map, nat_lt, position, ltb-true, ltb-false, lt-ltb, le-ltb}
 use Rattle.std.specs.List.{position_or_len}
 use Rattle.std.specs.Str.{bytes_eq}
-use Rattle.rpp_tree.specs.declared.tree.Ident.{Ident}
-use Rattle.rpp_tree.specs.declared.tree.Var.{Var}
-use Rattle.rpp_tree.specs.Tree.{Expression, Number, Null, Variable, Element, Binary, Whole, Item, Object as AnObject}
-use Rattle.rpp_tree.specs.Tree.{Statements, Construct, Local, Delete, Call, End, Then, joined, nodes, Source}
-use Rattle.class_table.specs.Expressions.{occurs}
-use Rattle.stmt_inverter.specs.Inverse.{inverse}
-use Rattle.stmt_inverter.proofs.Inverses.{inverse-joined}
-use Rattle.roopl_semantics.specs.Run.{Done, ◌>>=◌, give, fault_if}
-use Rattle.roopl_semantics.specs.Store.{Value, Word, Nil, Name, Binding, State, object_at, number_of, same_value}
-use Rattle.roopl_semantics.specs.Value.{Slot, Part, slot_of, slot_or_field, variable_value, element_of, read_cell}
-use Rattle.roopl_semantics.specs.Value.{element_cell, index_fault, combined, value_at, read, value as value_in}
-use Rattle.roopl_semantics.specs.Value.{evaluated}
-use Rattle.roopl_semantics.specs.Execution.{Setting, statement, exec, opened, closed, rest_of, constructed}
-use Rattle.roopl_semantics.specs.Execution.{element_call, with_local, delocal_fault}
-use Rattle.roopl_semantics.specs.Agreement.{renamed}
+use Rattle.meaning_reached.specs.rpp_tree.declared.tree.Ident.{Ident}
+use Rattle.meaning_reached.specs.rpp_tree.declared.tree.Var.{Var}
+use Rattle.meaning_reached.specs.rpp_tree.Tree.{Expression, Number, Null, Variable, Element, Binary, Whole, Item, Object as AnObject}
+use Rattle.meaning_reached.specs.rpp_tree.Tree.{Statements, Construct, Local, Delete, Call, End, Then, joined, nodes, Source}
+use Rattle.meaning_reached.specs.class_table.Expressions.{occurs}
+use Rattle.meaning_reached.specs.stmt_inverter.Inverse.{inverse}
+use Rattle.meaning_reached.proofs.stmt_inverter_laws.Inverses.{inverse-joined}
+use Rattle.meaning_reached.specs.roopl_semantics.Run.{Done, ◌>>=◌, give, fault_if}
+use Rattle.meaning_reached.specs.roopl_semantics.Store.{Value, Word, Nil, Name, Binding, State, object_at, number_of, same_value}
+use Rattle.meaning_reached.specs.roopl_semantics.Value.{Slot, Part, slot_of, slot_or_field, variable_value, element_of, read_cell}
+use Rattle.meaning_reached.specs.roopl_semantics.Value.{element_cell, index_fault, combined, value_at, read, value as value_in}
+use Rattle.meaning_reached.specs.roopl_semantics.Value.{evaluated}
+use Rattle.meaning_reached.specs.roopl_semantics.Execution.{Setting, statement, exec, opened, closed, rest_of, constructed}
+use Rattle.meaning_reached.specs.roopl_semantics.Execution.{element_call, with_local, delocal_fault}
+use Rattle.meaning_reached.specs.roopl_semantics.Agreement.{renamed}
 use Rattle.meaning_inverse.proofs.Runs.{in_parts, done_then, done_result, done_cost, given_done, passed_check, passes}
 use Rattle.meaning_inverse.proofs.Later.{IsSound, Later, exec_later, frame_names}
 use Rattle.meaning_inverse.proofs.Seen.{Names, Sees, Clean, IsNumber, FitResults, evaluated_seen, read_seen}

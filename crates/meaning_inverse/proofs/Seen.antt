@@ -1,31 +1,31 @@
--- States that differ in names alone, as runs see them.
+-- States that differ only in object ids, as runs see them.
 use Rattle.std.proofs.Common.{◌≡◌, ◌≢◌, ℕ, zero, suc, refl, sym, ap, ◌∙◌, true, false, Bool, not, ◌||◌, List, [], ◌∷◌}
 use Rattle.std.proofs.Common.{length, map, Option, Some, None, option_map, unwrap_or, nat_eq, nat_lt, slice_get}
 use Rattle.std.proofs.Common.{slice_set, if◌then◌else◌, eqb-true, eq-eqb, ne_eqb, Ok, Err, Result, position}
 use Rattle.std.proofs.lemmas.Bool.{eqb-false}
 use Rattle.std.specs.Str.{bytes_eq}
-use Rattle.rpp_tree.specs.declared.tree.Ident.{Ident}
-use Rattle.rpp_tree.specs.declared.tree.BinOp.{BinOp}
-use Rattle.rpp_tree.specs.declared.tree.BinOp.TheVariants as op
-use Rattle.rpp_tree.specs.Tree.{Expression, Number, Null, Variable, Element, Binary, Lvalue, Whole, Item, Source, nodes}
-use Rattle.rpp_tree.specs.Tree.{index_nodes}
-use Rattle.class_table.specs.Classes.{class_fields}
-use Rattle.class_table.specs.Expressions.{is_comparison}
-use Rattle.buddy_book.specs.Place.{place}
-use Rattle.roopl_semantics.specs.Operators.{truth_word, operated}
-use Rattle.roopl_semantics.specs.Run.{Done}
-use Rattle.roopl_semantics.specs.Store.{Value, Word, Nil, Name, Object, Binding, State, main_name, number_of, is_nil}
-use Rattle.roopl_semantics.specs.Store.{is_zero, same_value, cleared, object_named, no_object, object_at, changed_at}
-use Rattle.roopl_semantics.specs.Store.{class_of_head}
-use Rattle.class_table.specs.Members.{field_of}
-use Rattle.roopl_semantics.specs.Value.{Cell, Slot, Part, slot_of, own_class, slot_or_field, cell_named, value_at}
-use Rattle.roopl_semantics.specs.Value.{with_value, read, written, variable_value, element_cell, element_of, read_cell}
-use Rattle.roopl_semantics.specs.Value.{combined, value as value_in, cell_of, index_fault, evaluated, found}
-use Rattle.roopl_semantics.specs.Elements.{same_array, is_among, share_array}
-use Rattle.roopl_semantics.specs.Execution.{holds, opened, closed, rest_of, counted}
-use Rattle.roopl_semantics.specs.Agreement.{renamed, renamed_object}
+use Rattle.meaning_reached.specs.rpp_tree.declared.tree.Ident.{Ident}
+use Rattle.meaning_reached.specs.rpp_tree.declared.tree.BinOp.{BinOp}
+use Rattle.meaning_reached.specs.rpp_tree.declared.tree.BinOp.TheVariants as op
+use Rattle.meaning_reached.specs.rpp_tree.Tree.{Expression, Number, Null, Variable, Element, Binary, Lvalue, Whole, Item, Source, nodes}
+use Rattle.meaning_reached.specs.rpp_tree.Tree.{index_nodes}
+use Rattle.meaning_reached.specs.class_table.Classes.{class_fields}
+use Rattle.meaning_reached.specs.class_table.Expressions.{is_comparison}
+use Rattle.meaning_reached.specs.buddy_book.Place.{place}
+use Rattle.meaning_reached.specs.roopl_semantics.Operators.{truth_word, operated}
+use Rattle.meaning_reached.specs.roopl_semantics.Run.{Done}
+use Rattle.meaning_reached.specs.roopl_semantics.Store.{Value, Word, Nil, Name, Object, Binding, State, main_name, number_of}
+use Rattle.meaning_reached.specs.roopl_semantics.Store.{is_zero, same_value, cleared, object_named, no_object, object_at, changed_at}
+use Rattle.meaning_reached.specs.roopl_semantics.Store.{class_of_head}
+use Rattle.meaning_reached.specs.class_table.Members.{field_of}
+use Rattle.meaning_reached.specs.roopl_semantics.Value.{Cell, Slot, Part, slot_of, own_class, slot_or_field, cell_named, value_at}
+use Rattle.meaning_reached.specs.roopl_semantics.Value.{with_value, read, written, variable_value, element_cell, element_of, read_cell}
+use Rattle.meaning_reached.specs.roopl_semantics.Value.{combined, value as value_in, cell_of, index_fault, evaluated, found}
+use Rattle.meaning_reached.specs.roopl_semantics.Elements.{same_array, is_among, share_array}
+use Rattle.meaning_reached.specs.roopl_semantics.Execution.{holds, opened, closed, rest_of, counted}
+use Rattle.meaning_reached.specs.roopl_semantics.Agreement.{renamed, renamed_object}
 use Rattle.meaning_inverse.specs.StatesAgree.{renamed_binding}
-use Rattle.roopl_semantics.specs.Laws.{book_of, block_in}
+use Rattle.meaning_reached.specs.roopl_semantics.Laws.{book_of, block_in}
 use Rattle.meaning_inverse.proofs.Cells.{named_changed, with_cell}
 use Rattle.meaning_inverse.proofs.Later.{IsSound, was_there, later_changed}
 use Rattle.meaning_inverse.proofs.Runs.{done_given}
@@ -72,11 +72,6 @@ pub record Sees (h : ℕ) (f : Names) (first second : State) : Type 0 where
   pub sound : IsSound second
 
 -- ---- values
-
-pub same_nil : (f : ℕ → ℕ) (v : Value) → is_nil (renamed f v) ≡ is_nil v
-same_nil f (Word w) = refl
-same_nil f Nil = refl
-same_nil f (Name n) = refl
 
 pub same_truth : (f : Names) (v : Value) → holds (renamed f.there v) ≡ holds v
 same_truth f (Word w) = refl
@@ -177,7 +172,7 @@ FitResults op (Ok a) (Ok b) = AreFit (is_comparison op) a b
 FitResults op (Ok a) (Err f) = Unit {0}
 FitResults op (Err e) b = Unit {0}
 
--- a number, where it is a value
+-- a number, if it is a value
 abbrev pub IsNumber : Result Value ℕ → Type 0
 IsNumber (Ok (Word w)) = Unit {0}
 IsNumber (Ok Nil) = ⊥

@@ -2,20 +2,20 @@
 use Rattle.std.proofs.Common.{◌≡◌, ℕ, refl, ap, ◌∙◌, true, false, Bool, ◌||◌, List, [], ◌∷◌, ◌++◌, length, Some}
 use Rattle.std.proofs.Common.{unwrap_or, Ok, Err, Result, nat_lt, slice_get, if◌then◌else◌}
 use Rattle.std.specs.Str.{bytes_eq}
-use Rattle.rpp_tree.specs.Tree.{Expression, Number, Null, Variable, Element, Binary, Lvalue, Whole, Item, Source}
-use Rattle.class_table.specs.declared.kind.Kind.{Kind}
-use Rattle.class_table.specs.Scope.{Typing, Locals, kind_in}
-use Rattle.class_table.specs.Refusal.{unknown_name, not_an_array}
-use Rattle.class_table.specs.Expressions.{element_kind, element_of as element_type, variable_type, type_of, occurs}
-use Rattle.rpp_tree.specs.declared.tree.Ident.{Ident}
-use Rattle.roopl_semantics.specs.Store.{Value, Word, Nil, Name, State, number_of, same_value, object_at}
-use Rattle.roopl_semantics.specs.Elements.{elements, index_elements, own_element, same_array, is_among, share_array}
-use Rattle.roopl_semantics.specs.Value.{Part, cell_named, variable_value, element_cell, element_of, read_cell, combined}
-use Rattle.roopl_semantics.specs.Value.{value as value_in, cell_of, index_fault}
-use Rattle.class_table.proofs.PassedRules.{handed_on, some_of}
+use Rattle.meaning_reached.specs.rpp_tree.Tree.{Expression, Number, Null, Variable, Element, Binary, Lvalue, Whole, Item, Source}
+use Rattle.meaning_reached.specs.class_table.declared.kind.Kind.{Kind}
+use Rattle.meaning_reached.specs.class_table.Scope.{Typing, Locals, kind_in}
+use Rattle.meaning_reached.specs.class_table.Refusal.{unknown_name, not_an_array}
+use Rattle.meaning_reached.specs.class_table.Expressions.{element_kind, element_of as element_type, variable_type, type_of, occurs}
+use Rattle.meaning_reached.specs.rpp_tree.declared.tree.Ident.{Ident}
+use Rattle.meaning_reached.specs.roopl_semantics.Store.{Value, Word, Nil, Name, State, number_of, same_value, object_at}
+use Rattle.meaning_reached.specs.roopl_semantics.Elements.{elements, index_elements, own_element, same_array, is_among, share_array}
+use Rattle.meaning_reached.specs.roopl_semantics.Value.{Part, cell_named, variable_value, element_cell, element_of, read_cell, combined}
+use Rattle.meaning_reached.specs.roopl_semantics.Value.{value as value_in, cell_of, index_fault}
+use Rattle.meaning_reached.proofs.class_table_laws.PassedRules.{handed_on, some_of}
 use Rattle.meaning_inverse.proofs.Scopes.{either_false}
 
--- what holds of the names of all elements
+-- what holds for the names of all elements
 abbrev pub AllRead : (List ℕ → Type 0) → List Ident → Type 0
 AllRead R [] = Unit {0}
 AllRead R (name ∷ names) = R name.text × AllRead R names
@@ -37,7 +37,7 @@ pub read_as : (P Q R : List ℕ → Type 0) (xs : List Ident) → ((name : List 
 read_as P Q R [] f h k = tt
 read_as P Q R (x ∷ xs) f h k = (f x.text h.0 k.0, read_as P Q R xs f h.1 k.1)
 
--- a name is of another array than a place, where that is an element
+-- a name is of another array than a place, if that is an element
 abbrev pub Avoids : Source → State → Lvalue → List ℕ → Type 0
 Avoids program st (Whole name) other = Unit {0}
 Avoids program st (Item name index) other = same_value (variable_value program st name.text)
@@ -70,7 +70,7 @@ share_parts program st (Item name index) right reads h =
     let both = either_false (is_among program st name reads) (share_array program st (own_element right) reads) h in
     (ap (λ t. t || false) both.0, both.1)
 
--- ---- the check, where names mean the same
+-- ---- the check, if names mean the same
 
 abbrev pub SameVariable : Source → State → State → List ℕ → Type 0
 SameVariable program st end name = variable_value program end name ≡ variable_value program st name

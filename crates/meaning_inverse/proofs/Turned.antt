@@ -1,13 +1,13 @@
 -- A block with its calls turned: what inverts with calls turned is the turned inverse of what
 -- inverts with calls as they are.
 use Rattle.std.proofs.Common.{◌≡◌, refl, sym, ap, ◌∙◌, true, false, Bool, not}
-use Rattle.rpp_tree.specs.Tree.{Statement, Statements, Update, Swap, If, From, Construct, Local, New, Delete, Copy}
-use Rattle.rpp_tree.specs.Tree.{Uncopy, Call, Skip, End, Then, joined}
-use Rattle.class_table.specs.Scope.{Typing, Locals}
-use Rattle.class_table.specs.Statements.{in_turn, test_rules, local_rules, construct_rules, with_local, with_object}
-use Rattle.class_table.specs.Statements.{check_statement, check_statements}
-use Rattle.stmt_inverter.specs.Inverse.{inverse_statement_as, inverse_as, inverse}
-use Rattle.stmt_inverter.proofs.Inverses.{inverse-twice}
+use Rattle.meaning_reached.specs.rpp_tree.Tree.{Statement, Statements, Update, Swap, If, From, Construct, Local, New, Delete, Copy}
+use Rattle.meaning_reached.specs.rpp_tree.Tree.{Uncopy, Call, Skip, End, Then, joined}
+use Rattle.meaning_reached.specs.class_table.Scope.{Typing, Locals}
+use Rattle.meaning_reached.specs.class_table.Statements.{in_turn, test_rules, local_rules, construct_rules, with_local, with_object}
+use Rattle.meaning_reached.specs.class_table.Statements.{check_statement, check_statements}
+use Rattle.meaning_reached.specs.stmt_inverter.Inverse.{inverse_statement_as, inverse_as, inverse}
+use Rattle.meaning_reached.proofs.stmt_inverter_laws.Inverses.{inverse-twice}
 
 abbrev mutual
   -- a statement whose calls go the other way

@@ -2,20 +2,20 @@
 use Rattle.std.proofs.Common.{◌≡◌, ℕ, ◌+◌, refl, sym, ap, subst, ◌∙◌, arith, true, false, Bool, ◌&&◌, ◌++◌, Some, Ok}
 use Rattle.std.proofs.Common.{nat_eq, option_map, length-set, if◌then◌else◌, eqb-true}
 use Rattle.std.proofs.lemmas.Bool.{eqb-false}
-use Rattle.rpp_words.specs.Words.{IsWord}
-use Rattle.rpp_words.proofs.Laws.{difference_of-sum_of, sum_of-difference_of, xor-twice}
-use Rattle.rpp_tree.specs.declared.tree.UpdateOp.{UpdateOp}
-use Rattle.rpp_tree.specs.declared.tree.UpdateOp.TheVariants as update
-use Rattle.rpp_tree.specs.Tree.{Expression, Lvalue, Statement, Statements, Update, Swap, Skip, End, Then, nodes}
-use Rattle.rpp_tree.specs.Tree.{index_nodes}
-use Rattle.stmt_inverter.specs.Inverse.{inverse_operator, inverse_statement, inverse}
-use Rattle.roopl_semantics.specs.Operators.{updated}
-use Rattle.roopl_semantics.specs.Run.{Run, Done, ◌>>=◌, give}
-use Rattle.roopl_semantics.specs.Store.{Value, Word, Nil, Name, Object, State, object_named, number_of}
-use Rattle.roopl_semantics.specs.Value.{Cell, Slot, Part, read, written, value as value_in, cell_of, evaluated, found}
-use Rattle.roopl_semantics.specs.Elements.{elements, index_elements, own_element, share_array, read_cost, kept_apart}
-use Rattle.roopl_semantics.specs.Execution.{Setting, statement, exec, same_cell}
-use Rattle.roopl_semantics.specs.Agreement.{renamed}
+use Rattle.meaning_reached.specs.rpp_words.Words.{IsWord}
+use Rattle.meaning_reached.proofs.rpp_words_laws.Laws.{difference_of-sum_of, sum_of-difference_of, xor-twice}
+use Rattle.meaning_reached.specs.rpp_tree.declared.tree.UpdateOp.{UpdateOp}
+use Rattle.meaning_reached.specs.rpp_tree.declared.tree.UpdateOp.TheVariants as update
+use Rattle.meaning_reached.specs.rpp_tree.Tree.{Expression, Lvalue, Statement, Statements, Update, Swap, Skip, End, Then, nodes}
+use Rattle.meaning_reached.specs.rpp_tree.Tree.{index_nodes}
+use Rattle.meaning_reached.specs.stmt_inverter.Inverse.{inverse_operator, inverse_statement, inverse}
+use Rattle.meaning_reached.specs.roopl_semantics.Operators.{updated}
+use Rattle.meaning_reached.specs.roopl_semantics.Run.{Run, Done, ◌>>=◌, give}
+use Rattle.meaning_reached.specs.roopl_semantics.Store.{Value, Word, Nil, Name, Object, State, object_named, number_of}
+use Rattle.meaning_reached.specs.roopl_semantics.Value.{Cell, Slot, Part, read, written, value as value_in, cell_of, evaluated, found}
+use Rattle.meaning_reached.specs.roopl_semantics.Elements.{elements, index_elements, own_element, share_array, read_cost, kept_apart}
+use Rattle.meaning_reached.specs.roopl_semantics.Execution.{Setting, statement, exec, same_cell}
+use Rattle.meaning_reached.specs.roopl_semantics.Agreement.{renamed}
 use Rattle.meaning_inverse.proofs.Runs.{in_parts, done_then, done_result, done_cost, given_done, apart_done, done_apart}
 use Rattle.meaning_inverse.proofs.Runs.{Runs, Does}
 use Rattle.meaning_inverse.proofs.Cells.{IsCell, IsSlot, IsPart, with_cell, written_twice, written_same, written_apart}
@@ -45,7 +45,7 @@ pub record Undone (setting : Setting) (s : Statement) (f : Names) (a b b' : Stat
   pub sees : Sees setting.limits.heap names a back
   pub same : SameOn f names a b
 
--- where that state is b itself, and no name is another, it leads back to a itself
+-- if that state is b itself, and no name is another, it leads back to a itself
 pub record UndoneExactly (setting : Setting) (s : Statement) (f : Names) (a b b' : State) (cost : ℕ) : Type 0 where
   pub undone : Undone setting s f a b b' cost
   pub exact : b' ≡ b → ((name : ℕ) → f.there name ≡ name) → undone.back ≡ a
@@ -95,7 +95,7 @@ turned (Part name i) (Part other j) e = by (nat_eq name other) refl (nat_eq othe
     by false f true g e = absurd (eqb-false name other f (sym (eqb-true other name g)))
     by false f false g e = refl
 
--- a cell stays where another is written
+-- a cell stays if another is written
 pub cell_stays : (st : State) (c d : Cell) (v : Value) → IsCell st d → IsCell (written st c v) d
 cell_stays st (Slot i) d v (IsSlot j h) = IsSlot j (let l = length_with st.frame i v in omega arith)
 cell_stays st (Part name i) d v (IsSlot j h) = IsSlot j h

@@ -1,14 +1,14 @@
 -- Every block is undone, and the inverse of `main` leads back.
 use Rattle.std.proofs.Common.{◌≡◌, ℕ, zero, suc, ◌+◌, ◌≤◌, refl, sym, ap, subst, ◌∙◌, arith, List, [], ◌∷◌, map, Some}
 use Rattle.std.proofs.Common.{None, Option, option_map}
-use Rattle.rpp_tree.specs.Tree.{Whole, Item, Object as AnObject, Ints, Objects, Statement, Statements, Update, Swap, If}
-use Rattle.rpp_tree.specs.Tree.{From, Construct, Local, New, Delete, Copy, Uncopy, Call, Skip, End, Then}
-use Rattle.stmt_inverter.specs.Inverse.{inverse_statement, inverse}
-use Rattle.roopl_semantics.specs.Run.{Run, Done, after_cost, ◌>>=◌}
-use Rattle.roopl_semantics.specs.Store.{Value, Word, Nil, Name, Object, Binding, State, object_named}
-use Rattle.roopl_semantics.specs.Execution.{Setting, statement, exec}
-use Rattle.roopl_semantics.specs.Source.{source}
-use Rattle.roopl_semantics.specs.Agreement.{renamed, renamed_object}
+use Rattle.meaning_reached.specs.rpp_tree.Tree.{Whole, Item, Object as AnObject, Ints, Objects, Statement, Statements, Update, Swap, If}
+use Rattle.meaning_reached.specs.rpp_tree.Tree.{From, Construct, Local, New, Delete, Copy, Uncopy, Call, Skip, End, Then}
+use Rattle.meaning_reached.specs.stmt_inverter.Inverse.{inverse_statement, inverse}
+use Rattle.meaning_reached.specs.roopl_semantics.Run.{Run, Done, after_cost, ◌>>=◌}
+use Rattle.meaning_reached.specs.roopl_semantics.Store.{Value, Word, Nil, Name, Object, Binding, State, object_named}
+use Rattle.meaning_reached.specs.roopl_semantics.Execution.{Setting, statement, exec}
+use Rattle.meaning_reached.specs.roopl_semantics.Source.{source}
+use Rattle.meaning_reached.specs.roopl_semantics.Agreement.{renamed, renamed_object}
 use Rattle.meaning_inverse.specs.StatesAgree.{renamed_binding, AgreeStates}
 use Rattle.meaning_inverse.specs.InverseLaws.{LeadsBack}
 use Rattle.meaning_inverse.proofs.Runs.{Runs, split, done_result, done_cost, runs_end, runs_then, runs_joined}

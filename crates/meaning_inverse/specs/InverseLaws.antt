@@ -1,22 +1,22 @@
 -- The law of inverses.
 use Rattle.std.specs.Prelude.{◌≡◌, ◌<◌, ℕ, List, length}
-use Rattle.rpp_words.specs.Limits.{IsLimits}
-use Rattle.rpp_words.specs.declared.input.FieldWord.{FieldWord}
-use Rattle.rpp_words.specs.declared.input.Limits.{Limits}
-use Rattle.rpp_tree.specs.Tree.{Statements, Source}
-use Rattle.class_table.specs.Scope.{Locals}
-use Rattle.class_table.specs.Table.{table_of}
-use Rattle.class_table.specs.Statements.{passed, check_statements}
-use Rattle.class_table.specs.Program.{IsAccepted, setting_in}
-use Rattle.stmt_inverter.specs.Inverse.{inverse}
-use Rattle.roopl_semantics.specs.Run.{Done}
-use Rattle.roopl_semantics.specs.Store.{State}
-use Rattle.roopl_semantics.specs.Execution.{Setting, exec}
-use Rattle.roopl_semantics.specs.Source.{IsValid, source, starting, main_body}
-use Rattle.roopl_semantics.specs.Report.{report}
-use Rattle.meaning_sound.specs.Sound.{Sound}
-use Rattle.meaning_sound.specs.Plain.{IsPlain}
-use Rattle.meaning_sound.specs.Kept.{MeansSame}
+use Rattle.meaning_reached.specs.rpp_words.Limits.{IsLimits}
+use Rattle.meaning_reached.specs.rpp_words.declared.input.FieldWord.{FieldWord}
+use Rattle.meaning_reached.specs.rpp_words.declared.input.Limits.{Limits}
+use Rattle.meaning_reached.specs.rpp_tree.Tree.{Statements, Source}
+use Rattle.meaning_reached.specs.class_table.Scope.{Locals}
+use Rattle.meaning_reached.specs.class_table.Table.{table_of}
+use Rattle.meaning_reached.specs.class_table.Statements.{passed, check_statements}
+use Rattle.meaning_reached.specs.class_table.Program.{IsAccepted, setting_in}
+use Rattle.meaning_reached.specs.stmt_inverter.Inverse.{inverse}
+use Rattle.meaning_reached.specs.roopl_semantics.Run.{Done}
+use Rattle.meaning_reached.specs.roopl_semantics.Store.{State}
+use Rattle.meaning_reached.specs.roopl_semantics.Execution.{Setting, exec}
+use Rattle.meaning_reached.specs.roopl_semantics.Source.{IsValid, source, starting, main_body}
+use Rattle.meaning_reached.specs.roopl_semantics.Report.{report}
+use Rattle.meaning_reached.specs.meaning_sound.Sound.{Sound}
+use Rattle.meaning_reached.specs.meaning_sound.Plain.{IsPlain}
+use Rattle.meaning_reached.specs.meaning_sound.Kept.{MeansSame}
 use Rattle.meaning_inverse.specs.StatesAgree.{AgreeStates}
 use Rattle.meaning_inverse.specs.ArrayLengths.{ArraysHaveElements}
 

@@ -1,20 +1,20 @@
 -- The laws of the inverse program.
 use Rattle.std.specs.Prelude.{◌≡◌, ℕ, suc, Bool, true, false, List, [], ◌∷◌, Some}
-use Rattle.rpp_words.specs.Limits.{IsLimits}
-use Rattle.rpp_words.specs.declared.input.FieldWord.{FieldWord}
-use Rattle.rpp_words.specs.declared.input.Limits.{Limits}
-use Rattle.rpp_tree.specs.Tree.{Source}
-use Rattle.class_table.specs.Program.{IsAccepted}
-use Rattle.stmt_inverter.specs.Inverse.{inverse_program}
-use Rattle.buddy_book.specs.Book.{start}
-use Rattle.buddy_book.specs.Place.{place}
-use Rattle.roopl_semantics.specs.Run.{Done}
-use Rattle.roopl_semantics.specs.Store.{Value, Word, Nil, Name, State, main_name, object_at}
-use Rattle.roopl_semantics.specs.Execution.{exec}
-use Rattle.roopl_semantics.specs.Source.{IsValid, main_body, main_object, source, starting}
-use Rattle.roopl_semantics.specs.Report.{report}
+use Rattle.meaning_reached.specs.rpp_words.Limits.{IsLimits}
+use Rattle.meaning_reached.specs.rpp_words.declared.input.FieldWord.{FieldWord}
+use Rattle.meaning_reached.specs.rpp_words.declared.input.Limits.{Limits}
+use Rattle.meaning_reached.specs.rpp_tree.Tree.{Source}
+use Rattle.meaning_reached.specs.class_table.Program.{IsAccepted}
+use Rattle.meaning_reached.specs.stmt_inverter.Inverse.{inverse_program}
+use Rattle.meaning_reached.specs.buddy_book.Book.{start}
+use Rattle.meaning_reached.specs.buddy_book.Place.{place}
+use Rattle.meaning_reached.specs.roopl_semantics.Run.{Done}
+use Rattle.meaning_reached.specs.roopl_semantics.Store.{Value, Word, Nil, Name, State, main_name, object_at}
+use Rattle.meaning_reached.specs.roopl_semantics.Execution.{exec}
+use Rattle.meaning_reached.specs.roopl_semantics.Source.{IsValid, main_body, main_object, source, starting}
+use Rattle.meaning_reached.specs.roopl_semantics.Report.{report}
 use Rattle.meaning_inverse.specs.StatesAgree.{AgreeStates}
-use Rattle.roopl_semantics.specs.Laws.{book_of}
+use Rattle.meaning_reached.specs.roopl_semantics.Laws.{book_of}
 
 -- the inverse program of an accepted program is accepted
 abbrev pub InverseIsAccepted : Type 0
@@ -66,7 +66,7 @@ pub record AreInput (program : Source) (cells : List Value) : Type 0 where
   pub valid : IsValid program (field_words 0 cells)
   pub fields : cells ≡ (main_object program (field_words 0 cells)).cells
 
--- where no final field names an object or array, the words among them are such an input
+-- if no final field names an object or array, the words among them are such an input
 abbrev pub FinalFieldsAreInput : Type 0
 FinalFieldsAreInput =
     (program : Source) (limits : Limits) (input : List FieldWord) (fuel : ℕ) (end : State)
@@ -85,7 +85,7 @@ pub record RunsBack (program : Source) (limits : Limits) (begin : State) (input 
   pub agrees : AgreeStates limits.heap begin back
   pub shown : report (inverse_program program) back.store ≡ report program begin.store
 
--- what an accepted program did, its inverse program undoes at the same cost, where the end can be
+-- what an accepted program did, its inverse program undoes at the same cost, if the end can be
 -- begun with
 abbrev pub InverseProgramUndoes : Type 0
 InverseProgramUndoes =

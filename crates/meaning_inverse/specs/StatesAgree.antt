@@ -1,16 +1,17 @@
--- When two states differ in names alone.
+-- When two states differ only in object ids.
 use Rattle.std.specs.Prelude.{◌≡◌, ◌≢◌, ℕ, map, Some}
-use Rattle.buddy_book.specs.Place.{place}
-use Rattle.roopl_semantics.specs.Store.{Object, Binding, State, main_name, object_named}
-use Rattle.roopl_semantics.specs.Agreement.{Agree, renamed}
-use Rattle.roopl_semantics.specs.Laws.{book_of, block_in}
+use Rattle.meaning_reached.specs.buddy_book.Place.{place}
+use Rattle.meaning_reached.specs.roopl_semantics.Store.{Object, Binding, State, main_name, object_named}
+use Rattle.meaning_reached.specs.roopl_semantics.Agreement.{Agree, renamed}
+use Rattle.meaning_reached.specs.roopl_semantics.Laws.{book_of, block_in}
 
 -- a binding with other names
 abbrev pub renamed_binding : (ℕ → ℕ) → Binding → Binding
 renamed_binding names binding = record binding { value = renamed names binding.value }
 
--- one map of names carries store, frame and object of the one state onto those of the other; the
--- depth is the same, and over a heap of order h the free lists and the block of each object are
+-- one map of object ids carries store, frame and object of the one state onto those of the other.
+-- The depth is the same, and so are, over a heap of order h, the free lists and each object's
+-- block.
 pub record AgreeStates (h : ℕ) (first second : State) : Type 0 where
   pub stores : Agree first.store second.store
   pub frame : second.frame ≡ map (renamed_binding stores.there) first.frame

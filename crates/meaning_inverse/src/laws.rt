@@ -38,15 +38,15 @@ pub fn inverse_main_undoes()
     ensures { InverseMainUndoes }
 {}
 
-/// Where no final field of the main object names an object or array, the words among the final
+/// If no final field of the main object names an object or array, the words among the final
 /// fields are an input.
 pub fn final_fields_are_input()
     ensures { FinalFieldsAreInput }
 {}
 
-/// What an accepted program did, its inverse program undoes at the same cost, run with the final
-/// fields as its input, where these are an input and the free lists are again those of an empty
-/// heap; and it prints the report of the start.
+/// What an accepted program did, its inverse program undoes at the same cost, if it is run with the
+/// final fields as its input. These must be an input, and the free lists must again be those of an
+/// empty heap. It prints the report of the start.
 pub fn inverse_program_undoes()
     ensures { InverseProgramUndoes }
 {}

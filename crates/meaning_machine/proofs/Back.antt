@@ -1,15 +1,14 @@
--- A step of the machine that is turned round takes back a step.
+-- A step of the reversed machine undoes a step.
 use Rattle.std.proofs.Common.{◌≡◌, ℕ, ◌+◌, refl, sym, ap, ◌∙◌, Bool, true, false, not, List, ◌∷◌, ◌++◌, map}
 use Rattle.std.proofs.Common.{if◌then◌else◌}
-use Rattle.rpp_tree.specs.declared.tree.Var.{Var}
-use Rattle.rpp_tree.specs.Tree.{Expression, Statement, Statements, If, From, Local, End, Then, joined, Procedure}
-use Rattle.stmt_inverter.specs.Inverse.{inverse_statement, inverse}
-use Rattle.roopl_semantics.specs.Run.{Done, More, after_cost, ◌>>=◌, give, fault_if}
-use Rattle.roopl_semantics.specs.Store.{Value, State, same_value}
-use Rattle.roopl_semantics.specs.Value.{Cell, read, evaluated}
-use Rattle.roopl_semantics.specs.Execution.{Setting, holds, bound, moved_out, moved_back, opened, closed, fi_fault}
-use Rattle.roopl_semantics.specs.Execution.{loop_fault, delocal_fault, statement}
-use Rattle.meaning_machine.specs.Machine.{Config, Open, Chosen, First, Again, Holding, past_it, inside, turned_to}
+use Rattle.meaning_points.specs.rpp_tree.Tree.{Expression, Statement, Statements, If, From, End, Then, joined, Procedure}
+use Rattle.meaning_points.specs.stmt_inverter.Inverse.{inverse_statement, inverse}
+use Rattle.meaning_points.specs.roopl_semantics.Run.{Done, More, after_cost, ◌>>=◌, give, fault_if}
+use Rattle.meaning_points.specs.roopl_semantics.Store.{Value, State}
+use Rattle.meaning_points.specs.roopl_semantics.Value.{Cell, read, evaluated}
+use Rattle.meaning_points.specs.roopl_semantics.Execution.{Setting, holds, bound, moved_out, moved_back, fi_fault}
+use Rattle.meaning_points.specs.roopl_semantics.Execution.{loop_fault, statement}
+use Rattle.meaning_machine.specs.Machine.{Config, Open, Chosen, First, Again, past_it, inside, turned_to}
 use Rattle.meaning_machine.specs.Machine.{turned_first, left, simply, entered, begun}
 use Rattle.meaning_machine.specs.MachineLaws.{before}
 use Rattle.meaning_machine.specs.Turned.{each_undone, turned_open, turn, unwound, StepsBack}
@@ -41,7 +40,7 @@ kept_side true false e = sym e
 kept_side false c e = e
 
 module _ (setting : Setting) where
-  -- a choice is entered: its last test finds the side
+  -- a choice is entered: its last condition finds the side
   pub if_entered : (past rest : Statements) (params : ℕ) (around : List Open) (st : State) (at : ℕ) (test : Expression)
       (taken other : Statements) (after : Expression) (v : Value) (c : ℕ)
       → evaluated setting.program test st ≡ Done v c
@@ -59,7 +58,7 @@ module _ (setting : Setting) where
             ∙ ap (λ b. after_cost c (fault_if fi_fault b >>= (λ u. give (turn x)))) (same_side (holds v));
       }
 
-  -- a choice is left: the test behind it finds the side
+  -- a choice is left: the assertion after it finds the side
   pub if_left : (p past rest : Statements) (params : ℕ) (around : List Open) (st : State) (at : ℕ) (test : Expression)
       (taken other : Statements) (after : Expression) (side : Bool) (w : Value) (c : ℕ)
       → unwound p End ≡ (if side then taken else other)
@@ -139,7 +138,7 @@ module _ (setting : Setting) where
               ∙ ap (λ block. Done (into block) (1 + (c + (0 + 0)))) (undone_block p first placed);
         }
 
-    -- from the first part of a turn to the second
+    -- from the first part of an iteration to the second
     pub loop_again : (p : Statements) (v : Value) (c : ℕ) → unwound p End ≡ first
         → evaluated setting.program exit st ≡ Done v c → holds v ≡ false
         → let x : Config = before p End params (one ∷ around) st in
@@ -160,7 +159,7 @@ module _ (setting : Setting) where
               ∙ ap (λ block. Done (into block) (c + (0 + 0))) (undone_block p first placed);
         }
 
-    -- from the second part of a turn to the next turn
+    -- from the second part of an iteration to the next iteration
     pub loop_turned : (p : Statements) (v : Value) (c : ℕ) → unwound p End ≡ again
         → evaluated setting.program entry st ≡ Done v c → holds v ≡ false
         → let x : Config = before p End params (two ∷ around) st in
@@ -185,7 +184,7 @@ module _ (setting : Setting) where
               ∙ ap (λ block. Done (into block) (c + 0)) (undone_block p again placed);
         }
 
-  -- a statement that holds no block, where its inverse undoes it
+  -- a statement that holds no block, if its inverse undoes it
   pub simple_done : (s : Statement) (past rest : Statements) (params : ℕ) (around : List Open) (st end : State) (c : ℕ)
       → ((x : Config) (rest : Statements) → begun setting x (inverse_statement s) rest
       ≡ simply setting x (inverse_statement s) rest)
@@ -202,57 +201,7 @@ module _ (setting : Setting) where
             e;
       }
 
-  -- a local variable appears, where its value means the same behind it
-  pub local_entered : (past rest : Statements) (params : ℕ) (around : List Open) (st : State) (at : ℕ) (var : Var)
-      (value : Expression) (body : Statements) (end_var : Var) (end_value : Expression) (v : Value) (c : ℕ)
-      → same_value v v ≡ true
-      → evaluated setting.program value (opened var.name.text v st) ≡ Done v c
-      → let s : Statement = Local at var value body end_var end_value in
-      let x : Config = before past (Then s rest) params around st in
-      StepsBack setting x (inside x s rest (Holding var.name.text value end_value) body (opened var.name.text v st))
-  local_entered past rest params around st at var value body end_var end_value v c same e =
-      let s : Statement = Local at var value body end_var end_value in
-      let x : Config = before past (Then s rest) params around st in
-      record {
-        cost = c + (0 + 0);
-        steps =
-            ap (λ q. q >>= (λ w. fault_if delocal_fault (not (same_value v w)) >>= (λ u. give (turn x)))) e
-            ∙ ap (λ b. after_cost c (fault_if delocal_fault (not b) >>= (λ u. give (turn x)))) same;
-      }
-
-  -- and goes, where its last value means the same before it
-  pub local_left : (p past rest : Statements) (params : ℕ) (around : List Open) (st : State) (at : ℕ) (var : Var)
-      (value : Expression) (body : Statements) (end_var : Var) (end_value : Expression) (w : Value) (c : ℕ)
-      → unwound p End ≡ body
-      → evaluated setting.program end_value (closed st) ≡ Done w c
-      → opened end_var.name.text w (closed st) ≡ st
-      → let o : Open = record {
-        past = past;
-        here = Local at var value body end_var end_value;
-        rest = rest;
-        part = Holding end_var.name.text value end_value;
-      } in
-      StepsBack setting (before p End params (o ∷ around) st) (left o around params (closed st))
-  local_left p past rest params around st at var value body end_var end_value w c placed e same =
-      let o : Open = record {
-        past = past;
-        here = Local at var value body end_var end_value;
-        rest = rest;
-        part = Holding end_var.name.text value end_value;
-      } in
-      let y : Config = left o around params (closed st) in
-      let into : Statements → State → Config = λ block st. inside (turn y)
-      (Local at end_var end_value (inverse body) var value) (each_undone past)
-      (Holding end_var.name.text end_value value) block st in
-      record {
-        cost = 1 + (c + 0);
-        steps =
-            ap (λ q. after_cost 1 (q >>= (λ v. give (into (inverse body) (opened end_var.name.text v (closed st)))))) e
-            ∙ ap (λ st. Done (into (inverse body) st) (1 + (c + 0))) same
-            ∙ ap (λ block. Done (into block st) (1 + (c + 0))) (undone_block p body placed);
-      }
-
-  -- a call begins, where the values that moved in can move back
+  -- a call begins, if the values that moved in can move back
   pub call_entered : (s : Statement) (past rest : Statements) (params : ℕ) (around : List Open) (st : State)
       (back : Bool) (method : Procedure) (self : ℕ) (receiver args : List Cell) (c : ℕ)
       → (let caller : State = moved_out (receiver ++ args) st in

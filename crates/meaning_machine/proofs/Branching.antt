@@ -1,10 +1,10 @@
--- Steps of choices and loops are taken back.
+-- Steps of choices and loops are undone.
 use Rattle.std.proofs.Common.{◌≡◌, ℕ, refl, Bool, true, false, not, List, [], ◌∷◌, if◌then◌else◌}
-use Rattle.rpp_tree.specs.Tree.{Statement, Statements, If, From, End, Then, Expression}
-use Rattle.roopl_semantics.specs.Run.{Run, Done, Fault, More, ◌>>=◌, fault_if}
-use Rattle.roopl_semantics.specs.Store.{Value, State}
-use Rattle.roopl_semantics.specs.Value.{evaluated}
-use Rattle.roopl_semantics.specs.Execution.{Setting, fi_fault, loop_fault, holds}
+use Rattle.meaning_points.specs.rpp_tree.Tree.{Statement, Statements, If, From, End, Then, Expression}
+use Rattle.meaning_points.specs.roopl_semantics.Run.{Run, Done, Fault, More, ◌>>=◌, fault_if}
+use Rattle.meaning_points.specs.roopl_semantics.Store.{Value, State}
+use Rattle.meaning_points.specs.roopl_semantics.Value.{evaluated}
+use Rattle.meaning_points.specs.roopl_semantics.Execution.{Setting, fi_fault, loop_fault, holds}
 use Rattle.meaning_machine.specs.Machine.{Part, Chosen, First, Again, Open, Config, turned_first}
 use Rattle.meaning_machine.specs.Machine.{begun, ended, next}
 use Rattle.meaning_machine.specs.MachineLaws.{before}
@@ -14,14 +14,14 @@ use Rattle.meaning_machine.specs.Placed.{IsBranchPart, Branches, BranchesStepBac
 use Rattle.meaning_machine.proofs.Back.{if_entered, if_left, loop_entered, loop_left, loop_again, loop_turned}
 use Rattle.meaning_machine.proofs.Placing.{Ends, ends_after, ends_done}
 
--- what holds behind a run that is done
+-- what holds after a run that is done
 ends_with : {A B : Type 0} (P : B → Type 0) (r : Run A) (f : A → Run B)
     → ((a : A) (c : ℕ) → r ≡ Done a c → Ends P (f a)) → Ends P (r >>= f)
 ends_with P (Done a cost) f h = ends_after P cost (f a) (h a cost refl)
 ends_with P (Fault code cost) f h = tt
 ends_with P More f h = tt
 
--- and behind a test that finds no fault
+-- and after a condition that finds no fault
 ends_past : {B : Type 0} (P : B → Type 0) (code : ℕ) (b : Bool) (f : Unit {0} → Run B) → (b ≡ false → Ends P (f tt))
     → Ends P (fault_if code b >>= f)
 ends_past P code true f h = tt

@@ -1,30 +1,30 @@
--- The machine follows the meaning.
+-- The machine follows the semantics.
 use Rattle.std.proofs.Common.{ℕ, zero, suc, ◌+◌, ◌≤◌, ◌<◌, sym, subst, append_assoc, ◌∙◌, arith, Bool, true, false, not}
 use Rattle.std.proofs.Common.{◌||◌, List, [], ◌∷◌, ◌++◌, length, Option, Some, None, if◌then◌else◌}
 use Rattle.std.specs.Prelude.{nat_eq, replicate}
 use Rattle.std.specs.Option.{unwrap_or}
-use Rattle.rpp_words.specs.Words.{is_less}
-use Rattle.rpp_tree.specs.declared.tree.Ident.{Ident}
-use Rattle.rpp_tree.specs.declared.tree.VarType.{VarType}
-use Rattle.rpp_tree.specs.declared.tree.UpdateOp.{UpdateOp}
-use Rattle.rpp_tree.specs.Tree.{Expression, Number, Null, Variable, Element, Binary, nodes, index_nodes, Lvalue, Whole}
-use Rattle.rpp_tree.specs.Tree.{Item, Object as AnObject, Ints, Objects, Statement, Statements, Update, Swap, If, From}
-use Rattle.rpp_tree.specs.Tree.{Construct, Local, New, Delete, Copy, Uncopy, Call, Skip, End, Then, Procedure}
-use Rattle.class_table.specs.Classes.{class_number, class_fields, method_named}
-use Rattle.roopl_semantics.specs.Run.{Run, Done, Fault, More, after_cost, ◌>>=◌, give, spend, fault_if}
-use Rattle.roopl_semantics.specs.Store.{Value, Word, Nil, Head, OfClass, OfInts, OfObjects, Object, object_at}
-use Rattle.roopl_semantics.specs.Store.{zero_values, State, is_nil, is_zero, number_of, same_value}
-use Rattle.roopl_semantics.specs.Value.{Cell, Slot, nil_fault, cell_named, own_class, read, written, evaluated, found}
-use Rattle.roopl_semantics.specs.Value.{value as value_in, cell_of}
-use Rattle.roopl_semantics.specs.Elements.{elements, index_elements, own_element, kept_apart, read_cost, share_array}
-use Rattle.roopl_semantics.specs.Elements.{shared_array_fault}
-use Rattle.roopl_semantics.specs.Execution.{Setting, holds, freed, all_zero, is_of_class, same_cell, not_nil_fault}
-use Rattle.roopl_semantics.specs.Execution.{count_fault, not_empty_fault, not_same_fault, class_differs_fault}
-use Rattle.roopl_semantics.specs.Execution.{length_differs_fault, length_fault, opened, closed, moved_back, allocated}
-use Rattle.roopl_semantics.specs.Execution.{new_array, delete_array, cells_named, class_of, is_too_deep, constructed}
-use Rattle.roopl_semantics.specs.Execution.{element_name, element_call, fi_fault, loop_fault, delocal_fault}
-use Rattle.roopl_semantics.specs.Execution.{too_deep_fault, touched_fault, turns, turn_end, with_local, invoked}
-use Rattle.roopl_semantics.specs.Execution.{statement, exec}
+use Rattle.meaning_points.specs.rpp_words.Words.{is_less}
+use Rattle.meaning_points.specs.rpp_tree.declared.tree.Ident.{Ident}
+use Rattle.meaning_points.specs.rpp_tree.declared.tree.VarType.{VarType}
+use Rattle.meaning_points.specs.rpp_tree.declared.tree.UpdateOp.{UpdateOp}
+use Rattle.meaning_points.specs.rpp_tree.Tree.{Expression, Number, Null, Variable, Element, Binary, nodes, index_nodes, Lvalue, Whole}
+use Rattle.meaning_points.specs.rpp_tree.Tree.{Item, Object as AnObject, Ints, Objects, Statement, Statements, Update, Swap, If, From}
+use Rattle.meaning_points.specs.rpp_tree.Tree.{Construct, Local, New, Delete, Copy, Uncopy, Call, Skip, End, Then, Procedure}
+use Rattle.meaning_points.specs.class_table.Classes.{class_number, class_fields, method_named}
+use Rattle.meaning_points.specs.roopl_semantics.Run.{Run, Done, Fault, More, after_cost, ◌>>=◌, give, spend, fault_if}
+use Rattle.meaning_points.specs.roopl_semantics.Store.{Value, Word, Nil, Head, OfClass, OfInts, OfObjects, Object, object_at}
+use Rattle.meaning_points.specs.roopl_semantics.Store.{zero_values, State, is_nil, is_zero, number_of, same_value}
+use Rattle.meaning_points.specs.roopl_semantics.Value.{Cell, Slot, nil_fault, cell_named, own_class, read, written, evaluated, found}
+use Rattle.meaning_points.specs.roopl_semantics.Value.{value as value_in, cell_of}
+use Rattle.meaning_points.specs.roopl_semantics.Elements.{elements, index_elements, own_element, kept_apart, read_cost, share_array}
+use Rattle.meaning_points.specs.roopl_semantics.Elements.{shared_array_fault}
+use Rattle.meaning_points.specs.roopl_semantics.Execution.{Setting, holds, freed, all_zero, is_of_class, same_cell, not_nil_fault}
+use Rattle.meaning_points.specs.roopl_semantics.Execution.{count_fault, not_empty_fault, not_same_fault, class_differs_fault}
+use Rattle.meaning_points.specs.roopl_semantics.Execution.{length_differs_fault, length_fault, opened, closed, moved_back, allocated}
+use Rattle.meaning_points.specs.roopl_semantics.Execution.{new_array, delete_array, cells_named, class_of, is_too_deep, constructed}
+use Rattle.meaning_points.specs.roopl_semantics.Execution.{element_name, element_call, fi_fault, loop_fault, delocal_fault}
+use Rattle.meaning_points.specs.roopl_semantics.Execution.{too_deep_fault, touched_fault, turns, turn_end, with_local, invoked}
+use Rattle.meaning_points.specs.roopl_semantics.Execution.{statement, exec}
 use Rattle.meaning_points.specs.Points.{Point, behind, begins, called_points, local_points, again_points, turn_points}
 use Rattle.meaning_points.specs.Points.{call_points, inner_points, points}
 use Rattle.meaning_machine.specs.Machine.{Config, Open, Chosen, First, Again, Holding, past_it, turned_first}

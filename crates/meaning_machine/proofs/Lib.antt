@@ -1,3 +1,9 @@
+pub use Rattle.meaning_points.proofs.rpp_tree_laws
+pub use Rattle.meaning_points.proofs.class_table_laws
+pub use Rattle.meaning_points.proofs.stmt_inverter_laws
+pub use Rattle.meaning_points.proofs.buddy_book_laws
+pub use Rattle.meaning_points.proofs.roopl_semantics_laws
+pub use Rattle.meaning_points.proofs as meaning_points_laws
 pub mod Steps
 pub mod Following
 pub mod Sources

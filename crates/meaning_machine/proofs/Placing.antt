@@ -1,18 +1,18 @@
--- Where a run can stand, a step and a turn keep it.
+-- Every step, and every reversal, keeps a valid state of a run valid.
 use Rattle.std.proofs.Common.{◌≡◌, ℕ, refl, sym, ap, subst, ◌∙◌, Bool, true, false, not, List, [], ◌∷◌, ◌++◌, length}
 use Rattle.std.proofs.Common.{map, Option, Some, None, if◌then◌else◌}
-use Rattle.rpp_tree.specs.declared.tree.Ident.{Ident}
-use Rattle.rpp_tree.specs.Tree.{Expression, Null, Lvalue, Whole, Item, Object as AnObject, Statement, Statements, If}
-use Rattle.rpp_tree.specs.Tree.{From, Construct, Local, Delete, Call, End, Then, joined, Procedure}
-use Rattle.class_table.specs.Classes.{method_named}
-use Rattle.stmt_inverter.specs.Inverse.{inverse_statement, inverse}
-use Rattle.stmt_inverter.proofs.Inverses.{inverse-joined}
-use Rattle.roopl_semantics.specs.Run.{Run, Done, Fault, More, after_cost, ◌>>=◌, give, spend, fault_if}
-use Rattle.roopl_semantics.specs.Store.{State, is_nil, number_of, same_value}
-use Rattle.roopl_semantics.specs.Value.{Cell, Slot, nil_fault, cell_named, own_class, read, evaluated}
-use Rattle.roopl_semantics.specs.Execution.{Setting, fi_fault, loop_fault, delocal_fault, too_deep_fault, holds, opened}
-use Rattle.roopl_semantics.specs.Execution.{moved_back, cells_named, class_of, is_too_deep, constructed}
-use Rattle.roopl_semantics.specs.Execution.{element_name, element_call, statement}
+use Rattle.meaning_points.specs.rpp_tree.declared.tree.Ident.{Ident}
+use Rattle.meaning_points.specs.rpp_tree.Tree.{Expression, Null, Lvalue, Whole, Item, Object as AnObject, Statement, Statements, If}
+use Rattle.meaning_points.specs.rpp_tree.Tree.{From, Construct, Local, Delete, Call, End, Then, joined, Procedure}
+use Rattle.meaning_points.specs.class_table.Classes.{method_named}
+use Rattle.meaning_points.specs.stmt_inverter.Inverse.{inverse_statement, inverse}
+use Rattle.meaning_points.proofs.stmt_inverter_laws.Inverses.{inverse-joined}
+use Rattle.meaning_points.specs.roopl_semantics.Run.{Run, Done, Fault, More, after_cost, ◌>>=◌, give, spend, fault_if}
+use Rattle.meaning_points.specs.roopl_semantics.Store.{State, is_nil, number_of, same_value}
+use Rattle.meaning_points.specs.roopl_semantics.Value.{Cell, Slot, nil_fault, cell_named, own_class, read, evaluated}
+use Rattle.meaning_points.specs.roopl_semantics.Execution.{Setting, fi_fault, loop_fault, delocal_fault, too_deep_fault, holds, opened}
+use Rattle.meaning_points.specs.roopl_semantics.Execution.{moved_back, cells_named, class_of, is_too_deep, constructed}
+use Rattle.meaning_points.specs.roopl_semantics.Execution.{element_name, element_call, statement}
 use Rattle.meaning_machine.specs.Machine.{Part, Chosen, First, Again, Holding, Calling, Open, Config, inside}
 use Rattle.meaning_machine.specs.Machine.{turned_first, simply, held_local, entered, called, begun, ended}
 use Rattle.meaning_machine.specs.Machine.{closing, stepped, next}
@@ -21,7 +21,7 @@ use Rattle.meaning_machine.specs.Turned.{each_undone, turned_part, turned_open, 
 use Rattle.meaning_machine.specs.Placed.{RunsIn, side, first, again, object, local, element, body, StandsIn, IsPlaced}
 use Rattle.meaning_machine.proofs.Back.{joined_joined, undone_from}
 
--- ---- what holds of the end of a run, where it has one
+-- ---- what holds for the end of a run, if it has one
 
 abbrev pub Ends : {A : Type 0} → (A → Type 0) → Run A → Type 0
 Ends P (Done a cost) = P a
@@ -52,7 +52,7 @@ first_of_loop : (s : Statement) (entry : Expression) (one two block : Statements
 first_of_loop _ _ _ _ _ _ (again at entry one two exit) = first at entry one two exit
 
 module _ (setting : Setting) where
-  -- behind a statement of the block, or in a block of it
+  -- after a statement of the block, or in a block of it
   abbrev Stands : Config → Statement → Statements → Type 0
   Stands x s rest = StandsIn (unwound x.past (Then s rest)) x.around
 
@@ -124,7 +124,7 @@ module _ (setting : Setting) where
   begun_placed x (Call at back receiver method args) rest h = called_placed x rest at back receiver method args h
   begun_placed x s rest h = simple_placed x s rest h
 
-  -- behind the innermost open statement
+  -- after the innermost enclosing statement
   abbrev Around : Open → List Open → Type 0
   Around o around = StandsIn (unwound o.past (Then o.here o.rest)) around
 
@@ -187,7 +187,7 @@ unwound_undone (Then s rest) b =
     unwound_undone rest (Then (inverse_statement s) b)
     ∙ sym (joined_joined (inverse rest) (Then (inverse_statement s) End) b)
 
--- the block turned round is the block undone
+-- the reversed block is the inverse block
 turned_block : (past rest : Statements) → unwound (each_undone rest) (each_undone past) ≡ inverse (unwound past rest)
 turned_block past rest = unwound_undone rest (each_undone past) ∙ sym (undone_from past rest)
 

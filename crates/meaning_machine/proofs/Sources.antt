@@ -1,15 +1,15 @@
 -- The runs of programs on the machine are the source.
 use Rattle.std.proofs.Common.{◌≡◌, ◌<◌, ◌≤◌, ℕ, zero, suc, ◌+◌, refl, sym, ap, subst, ◌∙◌, arith, List, [], ◌⊎◌, inl}
 use Rattle.std.proofs.Common.{inr}
-use Rattle.rpp_words.specs.declared.input.FieldWord.{FieldWord}
-use Rattle.rpp_words.specs.declared.input.Limits.{Limits}
-use Rattle.rpp_tree.specs.Tree.{Source, End}
-use Rattle.roopl_semantics.specs.Run.{Run, Done, Fault, More, after_cost, ◌>>=◌, give}
-use Rattle.roopl_semantics.specs.Store.{State}
-use Rattle.roopl_semantics.specs.Source.{main_body, starting, source}
-use Rattle.roopl_semantics.specs.Execution.{Setting, exec}
-use Rattle.roopl_semantics.proofs.CostBound.{exec_done_within, exec_fault_within}
-use Rattle.roopl_semantics.proofs.MoreFuel.{within_done, within_fault, done_within, fault_within}
+use Rattle.meaning_points.specs.rpp_words.declared.input.FieldWord.{FieldWord}
+use Rattle.meaning_points.specs.rpp_words.declared.input.Limits.{Limits}
+use Rattle.meaning_points.specs.rpp_tree.Tree.{Source, End}
+use Rattle.meaning_points.specs.roopl_semantics.Run.{Run, Done, Fault, More, after_cost, ◌>>=◌, give}
+use Rattle.meaning_points.specs.roopl_semantics.Store.{State}
+use Rattle.meaning_points.specs.roopl_semantics.Source.{main_body, starting, source}
+use Rattle.meaning_points.specs.roopl_semantics.Execution.{Setting, exec}
+use Rattle.meaning_points.proofs.roopl_semantics_laws.CostBound.{exec_done_within, exec_fault_within}
+use Rattle.meaning_points.proofs.roopl_semantics_laws.MoreFuel.{within_done, within_fault, done_within, fault_within}
 use Rattle.meaning_points.specs.Points.{points}
 use Rattle.meaning_points.specs.Trail.{trail}
 use Rattle.meaning_machine.specs.Machine.{Config, closing, stepped, next, walk}
@@ -113,7 +113,7 @@ module _ (setting : Setting) where
         (exceeds_on fuel (walk setting k x) (walk setting d) (subst IsEnd on end) h)
   ]
 
-  -- and none is broken off
+  -- and none is aborted
   not_broken : (m k : ℕ) (x : Config) → IsEnd (walk setting m x) → walk setting k x ≡ More → ⊥
   not_broken m k x end h = elim (onwards m k) [
     | up d e ↦ subst IsEnd (sym (ended_by m k d x e end) ∙ h) end
@@ -159,7 +159,7 @@ module _ (program : Source) (limits : Limits) (input : List FieldWord) (fuel : �
       → Breaks here start code cost (trail program limits input fuel).points
   fault code cost e = follows_as fuel (Fault code cost) (within_fault fuel (run fuel) code cost e).is
 
-  -- what is over with more fuel is over with this, where it costs no more
+  -- what is over with more fuel is over with this, if it costs no more
   done_sooner : (end : State) (cost : ℕ) → run (suc fuel) ≡ Done end cost → cost ≤ fuel
       → source program limits input fuel ≡ Done end cost
   done_sooner end cost e h = done_within fuel (run fuel) end cost

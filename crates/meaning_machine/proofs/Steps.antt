@@ -2,8 +2,8 @@
 use Rattle.std.proofs.Common.{◌≡◌, ℕ, zero, suc, ◌+◌, ◌≤◌, refl, sym, ap, subst, ◌∙◌, arith, append-nil, append_assoc}
 use Rattle.std.proofs.Common.{List, [], ◌++◌}
 use Rattle.std.specs.Prelude.{Result, Ok, Err}
-use Rattle.roopl_semantics.specs.Run.{Run, Done, Fault, More, after_cost, ◌>>=◌, give, given}
-use Rattle.roopl_semantics.specs.Execution.{Setting}
+use Rattle.meaning_points.specs.roopl_semantics.Run.{Run, Done, Fault, More, after_cost, ◌>>=◌, give, given}
+use Rattle.meaning_points.specs.roopl_semantics.Execution.{Setting}
 use Rattle.meaning_points.specs.Points.{Point, behind}
 use Rattle.meaning_machine.specs.Machine.{Config, next, walk, seen, point_of}
 
@@ -34,7 +34,7 @@ then_same (Done x c) f g h = ap (after_cost c) (h x)
 then_same (Fault code c) f g h = refl
 then_same More f g h = refl
 
--- ---- lists of points behind runs
+-- ---- lists of trace points after runs
 
 behind_after : {A : Type 0} (c : ℕ) (r : Run A) (f : A → List Point) → behind (after_cost c r) f ≡ behind r f
 behind_after c (Done x d) f = refl
@@ -57,7 +57,7 @@ behind_nothing (Done x c) = refl
 behind_nothing (Fault code c) = refl
 behind_nothing More = refl
 
--- ---- a run that is not broken off
+-- ---- a run that is not aborted
 
 abbrev SureRun : {A : Type 0} → Run A → Type 0
 SureRun (Done a c) = Unit {0}

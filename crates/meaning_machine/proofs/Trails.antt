@@ -1,13 +1,13 @@
--- The points that the machine passes are those of the run.
+-- The trace points that the machine passes are those of the run.
 use Rattle.std.proofs.Common.{◌≡◌, ◌<◌, ◌≤◌, ℕ, zero, suc, ◌+◌, refl, sym, ap, subst, ◌∙◌, arith, List, [], ◌++◌}
 use Rattle.std.proofs.Common.{append-nil}
-use Rattle.rpp_words.specs.declared.input.FieldWord.{FieldWord}
-use Rattle.rpp_words.specs.declared.input.Limits.{Limits}
-use Rattle.rpp_tree.specs.Tree.{Source, Statements, End}
-use Rattle.roopl_semantics.specs.Run.{Run, Done, Fault, More, after_cost, ◌>>=◌}
-use Rattle.roopl_semantics.specs.Store.{State}
-use Rattle.roopl_semantics.specs.Execution.{Setting}
-use Rattle.roopl_semantics.proofs.MoreFuel.{within_done, within_fault}
+use Rattle.meaning_points.specs.rpp_words.declared.input.FieldWord.{FieldWord}
+use Rattle.meaning_points.specs.rpp_words.declared.input.Limits.{Limits}
+use Rattle.meaning_points.specs.rpp_tree.Tree.{Source, Statements, End}
+use Rattle.meaning_points.specs.roopl_semantics.Run.{Run, Done, Fault, More, after_cost, ◌>>=◌}
+use Rattle.meaning_points.specs.roopl_semantics.Store.{State}
+use Rattle.meaning_points.specs.roopl_semantics.Execution.{Setting}
+use Rattle.meaning_points.proofs.roopl_semantics_laws.MoreFuel.{within_done, within_fault}
 use Rattle.meaning_points.specs.Points.{Point, behind}
 use Rattle.meaning_points.specs.Trail.{trail}
 use Rattle.meaning_machine.specs.Machine.{Config, next, walk, seen, point_of}
@@ -17,7 +17,7 @@ use Rattle.meaning_machine.specs.TrailLaws.{BeginsWith, TrailIsWalked}
 use Rattle.meaning_machine.proofs.Steps.{plus, walk_plus, seen_plus}
 use Rattle.meaning_machine.proofs.Sources.{IsEnd, stays_next, ended_by, ends_at, run, follows, follows_as, joined}
 
--- ---- of two numbers of steps one is behind the other, or not
+-- ---- of two numbers of steps one is at least the other, or less
 
 data Ahead (m k : ℕ) : Type 0 where
   later : (d : ℕ) → k ≡ plus m (suc d) → Ahead m k
@@ -32,10 +32,10 @@ ahead m zero = passed m refl
 ahead zero (suc k) = later k refl
 ahead (suc m) (suc k) = ahead_suc m k (ahead m k)
 
--- ---- points of walks
+-- ---- trace points of walks
 
 module _ (setting : Setting) where
-  -- a run that is over passes no more points
+  -- a run that is over passes no more trace points
   seen_stays : (d : ℕ) (x : Config) → x.rest ≡ End → x.around ≡ [] → seen setting d x ≡ []
   seen_stays zero x rest around = refl
   seen_stays (suc d) x rest around =
@@ -53,7 +53,7 @@ module _ (setting : Setting) where
       ap (λ n. seen setting n x) e ∙ seen_plus setting m d x
       ∙ ap (λ l. seen setting m x ++ l) (end_points d (walk setting m x) end) ∙ append-nil (seen setting m x)
 
-  -- walks that are over have passed the same points
+  -- walks that are over have passed the same trace points
   same_points : (m k : ℕ) (x : Config) → IsEnd (walk setting m x) → IsEnd (walk setting k x)
       → seen setting m x ≡ seen setting k x
   same_points m k x one two = elim (ahead m k) [
@@ -61,7 +61,7 @@ module _ (setting : Setting) where
     | passed d e ↦ further k m d x e two
   ]
 
-  -- a longer walk passes the point where this one stands
+  -- a longer walk passes the trace point at which this one is
   goes_along : (m k d : ℕ) (x to : Config) (cost : ℕ) → walk setting m x ≡ Done to cost → k ≡ plus m (suc d)
       → BeginsWith (seen setting k x) (seen setting m x) (point_of setting to.params to.state to.rest)
   goes_along m k d x to cost e i = record {

@@ -1,15 +1,15 @@
 -- Laws of steps back.
 use Rattle.std.specs.Prelude.{◌≡◌, ℕ, Bool, true, false, not, List, ◌∷◌, if◌then◌else◌}
-use Rattle.rpp_tree.specs.Tree.{Expression, Statements, If, From, End, Then}
-use Rattle.roopl_semantics.specs.Run.{Done}
-use Rattle.roopl_semantics.specs.Store.{Value, State}
-use Rattle.roopl_semantics.specs.Value.{evaluated}
-use Rattle.roopl_semantics.specs.Execution.{Setting, holds}
+use Rattle.meaning_points.specs.rpp_tree.Tree.{Expression, Statements, If, From, End, Then}
+use Rattle.meaning_points.specs.roopl_semantics.Run.{Done}
+use Rattle.meaning_points.specs.roopl_semantics.Store.{Value, State}
+use Rattle.meaning_points.specs.roopl_semantics.Value.{evaluated}
+use Rattle.meaning_points.specs.roopl_semantics.Execution.{Setting, holds}
 use Rattle.meaning_machine.specs.Machine.{Open, Chosen, First, Again, inside, turned_to, left}
 use Rattle.meaning_machine.specs.MachineLaws.{before}
 use Rattle.meaning_machine.specs.Turned.{unwound, StepsBack}
 
--- choices are taken back with no note of them: the test at the other end finds the side
+-- choices are undone with no note of them: the condition at the other end finds the side
 pub record ChoicesStepBack : Type 0 where
   pub entered : (setting : Setting) (past rest : Statements) (params : ℕ) (around : List Open)
       (st : State)
@@ -60,7 +60,7 @@ module _ (past rest : Statements) (at : ℕ) (entry : Expression) (first again :
     part = Again entry first again exit;
   }
 
--- and so are the turns of loops
+-- and so are the iterations of loops
 pub record LoopsStepBack (setting : Setting) (past rest : Statements) (params : ℕ)
     (around : List Open)
     (st : State) (at : ℕ) (entry : Expression) (first again : Statements)

@@ -1,3 +1,10 @@
+pub use Rattle.meaning_points.specs.rpp_words
+pub use Rattle.meaning_points.specs.rpp_tree
+pub use Rattle.meaning_points.specs.class_table
+pub use Rattle.meaning_points.specs.stmt_inverter
+pub use Rattle.meaning_points.specs.buddy_book
+pub use Rattle.meaning_points.specs.roopl_semantics
+pub use Rattle.meaning_points.specs as meaning_points
 pub mod Machine
 pub mod MachineLaws
 pub mod SourceLaws

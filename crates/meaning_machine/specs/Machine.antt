@@ -1,26 +1,24 @@
--- A machine for the source: what is open stands in a list, and one step does one part of a
--- statement.
+-- A machine for the source: a list holds what is active, and one step does one part of a statement.
 use Rattle.std.specs.Prelude.{ℕ, zero, suc, ◌+◌, Bool, true, false, not, List, [], ◌∷◌, ◌++◌}
 use Rattle.std.specs.Prelude.{length, map, Option, Some, None, if◌then◌else◌}
-use Rattle.rpp_tree.specs.declared.tree.Ident.{Ident}
-use Rattle.rpp_tree.specs.Tree.{Expression, Null, Lvalue, Whole, Item, Statement, Statements}
-use Rattle.rpp_tree.specs.Tree.{Update, Swap, If, From, Construct, Local, New, Delete, Copy, Uncopy}
-use Rattle.rpp_tree.specs.Tree.{Call, Skip, End, Then, Procedure}
-use Rattle.class_table.specs.Classes.{method_named}
-use Rattle.roopl_semantics.specs.Run.{Run, More, ◌>>=◌, give, spend, fault_if}
-use Rattle.roopl_semantics.specs.Store.{Value, Binding, State, is_nil, number_of, same_value}
-use Rattle.roopl_semantics.specs.Value.{Cell, Slot, nil_fault, cell_named, own_class, read}
-use Rattle.roopl_semantics.specs.Value.{evaluated}
-use Rattle.roopl_semantics.specs.Execution.{Setting, fi_fault, loop_fault, delocal_fault}
-use Rattle.roopl_semantics.specs.Execution.{too_deep_fault, holds, bound, opened, closed, moved_out}
-use Rattle.roopl_semantics.specs.Execution.{moved_back, in_direction, cells_named, class_of}
-use Rattle.roopl_semantics.specs.Execution.{is_too_deep, constructed, element_name, element_call}
-use Rattle.roopl_semantics.specs.Execution.{statement}
+use Rattle.meaning_points.specs.rpp_tree.declared.tree.Ident.{Ident}
+use Rattle.meaning_points.specs.rpp_tree.Tree.{Expression, Null, Lvalue, Whole, Item, Statement, Statements}
+use Rattle.meaning_points.specs.rpp_tree.Tree.{Update, Swap, If, From, Construct, Local, New, Delete, Copy, Uncopy}
+use Rattle.meaning_points.specs.rpp_tree.Tree.{Call, Skip, End, Then, Procedure}
+use Rattle.meaning_points.specs.class_table.Classes.{method_named}
+use Rattle.meaning_points.specs.roopl_semantics.Run.{Run, More, ◌>>=◌, give, spend, fault_if}
+use Rattle.meaning_points.specs.roopl_semantics.Store.{Value, Binding, State, is_nil, number_of, same_value}
+use Rattle.meaning_points.specs.roopl_semantics.Value.{Cell, Slot, nil_fault, cell_named, own_class, read}
+use Rattle.meaning_points.specs.roopl_semantics.Value.{evaluated}
+use Rattle.meaning_points.specs.roopl_semantics.Execution.{Setting, fi_fault, loop_fault, delocal_fault}
+use Rattle.meaning_points.specs.roopl_semantics.Execution.{too_deep_fault, holds, bound, opened, closed, moved_out}
+use Rattle.meaning_points.specs.roopl_semantics.Execution.{moved_back, in_direction, cells_named, class_of}
+use Rattle.meaning_points.specs.roopl_semantics.Execution.{is_too_deep, constructed, element_name, element_call}
+use Rattle.meaning_points.specs.roopl_semantics.Execution.{statement}
 use Rattle.meaning_points.specs.Points.{Point, behind, begins}
 
--- the caller of an open call, but for the store: its variables, its object, the number of its
--- calls,
--- and how many parameters it has
+-- the caller of an active call, except for the store: its variables, its object, the number of its
+-- calls, and its number of parameters
 pub record Caller : Type 0 where
   pub frame : List Binding
   pub self : ℕ
@@ -43,8 +41,7 @@ pub record Open : Type 0 where
   pub rest : Statements
   pub part : Part
 
--- where a run stands: in a block, in a method with so many parameters, in a state, inside of the
--- open
+-- the state of a run: a block, a method with so many parameters, a state, and the enclosing
 -- statements, the innermost first
 pub record Config : Type 0 where
   pub past : Statements
@@ -53,7 +50,7 @@ pub record Config : Type 0 where
   pub state : State
   pub around : List Open
 
--- behind a statement of the block
+-- after a statement of the block
 abbrev pub past_it : Config → Statement → Statements → State → Config
 past_it x s rest st = record x { past = Then s x.past; rest = rest; state = st }
 
@@ -75,7 +72,7 @@ turned_to x o around part body = record x {
   around = record o { part = part } ∷ around;
 }
 
--- behind the innermost open statement
+-- after the innermost enclosing statement
 abbrev pub left : Open → List Open → ℕ → State → Config
 left o around params st = record {
   past = Then o.here o.past;
@@ -178,7 +175,7 @@ module _ (setting : Setting) where
       called x (Call at back receiver method args) rest at back receiver method args
   begun x (Skip at) rest = simply x (Skip at) rest
 
-  -- behind the first part of a loop's turn: the loop is left where the exit holds
+  -- after the first block of a loop: the loop is left if the exit condition holds
   abbrev pub turned_first : Config → Open → List Open → Part → Statements → Bool → Config
   turned_first x o around part again true = left o around x.params x.state
   turned_first x o around part again false = turned_to x o around part again
@@ -212,7 +209,7 @@ module _ (setting : Setting) where
         })
     give (left o around caller.params st)
 
-  -- the end of a block: nothing is done where no statement is open
+  -- the end of a block: nothing is done if no statement is open
   abbrev pub closing : Config → List Open → Run Config
   closing x [] = give x
   closing x (o ∷ around) = ended x o around o.part
@@ -232,12 +229,12 @@ module _ (setting : Setting) where
   walk zero x = give x
   walk (suc m) x = next x >>= walk m
 
-  -- the point where a run stands: that of the statement that begins
+  -- the trace point of a run: that of the statement that begins
   abbrev pub point_of : ℕ → State → Statements → List Point
   point_of params st End = []
   point_of params st (Then s rest) = begins params s st
 
-  -- the points from which so many steps begin
+  -- the trace points from which so many steps begin
   abbrev pub seen : ℕ → Config → List Point
   seen zero x = []
   seen (suc m) x = point_of x.params x.state x.rest ++ behind (next x) (seen m)

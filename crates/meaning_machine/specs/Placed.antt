@@ -1,13 +1,13 @@
--- The places where a run can stand: each block is the one that its open statement holds.
+-- The valid configurations of a run: each block is the one that its enclosing statement has.
 use Rattle.std.specs.Prelude.{◌≡◌, ℕ, Bool, List, [], ◌∷◌, Option, Some, if◌then◌else◌}
-use Rattle.rpp_tree.specs.declared.tree.Ident.{Ident}
-use Rattle.rpp_tree.specs.declared.tree.Var.{Var}
-use Rattle.rpp_tree.specs.Tree.{Expression, Null, Lvalue, Item, Statement, Statements, If, From}
-use Rattle.rpp_tree.specs.Tree.{Construct, Local, Call, End, Then}
-use Rattle.roopl_semantics.specs.Run.{Done}
-use Rattle.roopl_semantics.specs.Store.{Value, State}
-use Rattle.roopl_semantics.specs.Value.{Cell}
-use Rattle.roopl_semantics.specs.Execution.{Setting, constructed, element_name, element_call}
+use Rattle.meaning_points.specs.rpp_tree.declared.tree.Ident.{Ident}
+use Rattle.meaning_points.specs.rpp_tree.declared.tree.Var.{Var}
+use Rattle.meaning_points.specs.rpp_tree.Tree.{Expression, Null, Lvalue, Item, Statement, Statements, If, From}
+use Rattle.meaning_points.specs.rpp_tree.Tree.{Construct, Local, Call, End, Then}
+use Rattle.meaning_points.specs.roopl_semantics.Run.{Done}
+use Rattle.meaning_points.specs.roopl_semantics.Store.{Value, State}
+use Rattle.meaning_points.specs.roopl_semantics.Value.{Cell}
+use Rattle.meaning_points.specs.roopl_semantics.Execution.{Setting, constructed, element_name, element_call}
 use Rattle.meaning_machine.specs.Machine.{Caller, Part, Chosen, First, Again, Holding, Calling}
 use Rattle.meaning_machine.specs.Machine.{Open}
 use Rattle.meaning_machine.specs.Machine.{Config, next}
@@ -37,17 +37,17 @@ pub data RunsIn : Statement → Part → Statements → Type 0 where
       (caller : Caller) (cells others : List Cell) (held : List Value) (block : Statements)
       → RunsIn (Call at back receiver method args) (Calling caller cells others held) block
 
--- a block stands inside of these open statements, the innermost first
+-- a block is inside of these enclosing statements, the innermost first
 abbrev pub StandsIn : Statements → List Open → Type 0
 StandsIn block [] = Unit {0}
 StandsIn block (o ∷ around) = RunsIn o.here o.part block
     × StandsIn (unwound o.past (Then o.here o.rest)) around
 
--- where a run can stand
+-- the valid configurations of a run
 pub record IsPlaced (x : Config) : Type 0 where
   pub stands : StandsIn (unwound x.past x.rest) x.around
 
--- it stands so at the start; a step keeps it so, and so does turning round
+-- this holds at the start; a step keeps it, and so does reversing
 pub record StaysPlaced : Type 0 where
   pub start : (body : Statements) (params : ℕ) (st : State)
       → IsPlaced (before End body params [] st)
@@ -55,7 +55,7 @@ pub record StaysPlaced : Type 0 where
       → IsPlaced x → next setting x ≡ Done y cost → IsPlaced y
   pub turned : (x : Config) → IsPlaced x → IsPlaced (turn x)
 
--- what is turned round twice is as it was
+-- what is reversed twice is as it was
 abbrev pub TurnsTwice : Type 0
 TurnsTwice = (x : Config) → turn (turn x) ≡ x
 
@@ -77,8 +77,7 @@ Branches (Then s rest) around = IsBranch s
 Branches End [] = ⊥
 Branches End (o ∷ around) = IsBranchPart o.part
 
--- wherever a run can stand, a step of a choice or a loop is taken back by a step of the machine
--- turned round
+-- in each valid configuration, a step of the reversed machine undoes a step of a choice or a loop
 abbrev pub BranchesStepBack : Type 0
 BranchesStepBack =
     (setting : Setting) (x y : Config) (cost : ℕ)

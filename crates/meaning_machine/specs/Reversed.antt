@@ -1,15 +1,15 @@
--- The machine that is turned round, in which `new` and `delete` take requests to the heap back.
+-- The reversed machine, in which `new` and `delete` undo requests to the heap.
 use Rattle.std.specs.Prelude.{ℕ, List, [], ◌∷◌, nat_lt, replicate, if◌then◌else◌}
 use Rattle.std.specs.Option.{unwrap_or}
-use Rattle.rpp_tree.specs.Tree.{Statement, Statements, New, Delete, End, Then, Ints, Objects}
-use Rattle.rpp_tree.specs.Tree.{Object as AnObject, Creation, Lvalue}
-use Rattle.class_table.specs.Classes.{class_number, class_fields}
-use Rattle.buddy_book.specs.Place.{Log, Taken, Given}
-use Rattle.roopl_semantics.specs.Run.{Run, More, ◌>>=◌, give, spend}
-use Rattle.roopl_semantics.specs.Store.{Value, Word, Nil, Name, Head, OfClass, OfInts, OfObjects}
-use Rattle.roopl_semantics.specs.Store.{Object, Store, State, number_of, zero_values, without}
-use Rattle.roopl_semantics.specs.Value.{Cell, evaluated, found, written}
-use Rattle.roopl_semantics.specs.Execution.{Setting, new_object}
+use Rattle.meaning_points.specs.rpp_tree.Tree.{Statement, Statements, New, Delete, End, Then, Ints, Objects}
+use Rattle.meaning_points.specs.rpp_tree.Tree.{Object as AnObject, Creation, Lvalue}
+use Rattle.meaning_points.specs.class_table.Classes.{class_number, class_fields}
+use Rattle.meaning_points.specs.buddy_book.Place.{Log, Taken, Given}
+use Rattle.meaning_points.specs.roopl_semantics.Run.{Run, More, ◌>>=◌, give, spend}
+use Rattle.meaning_points.specs.roopl_semantics.Store.{Value, Word, Nil, Name, Head, OfClass, OfInts, OfObjects}
+use Rattle.meaning_points.specs.roopl_semantics.Store.{Object, Store, State, number_of, zero_values, without}
+use Rattle.meaning_points.specs.roopl_semantics.Value.{Cell, evaluated, found, written}
+use Rattle.meaning_points.specs.roopl_semantics.Execution.{Setting, new_object}
 use Rattle.meaning_machine.specs.Machine.{Config, begun, closing, past_it}
 
 -- the object of the newest request goes, and the request with it
@@ -20,7 +20,7 @@ untaken (Taken name order ∷ older) cell st =
 untaken (Given name order ∷ older) cell st = More
 untaken [] cell st = More
 
--- the store with an object under its name again, behind those that are newer
+-- the store with an object under its object id again, after those that are newer
 abbrev pub put_back : Store → ℕ → Object → Store
 put_back [] name object = (name, object) ∷ []
 put_back ((n, other) ∷ store) name object =
@@ -38,7 +38,7 @@ ungiven (Taken name order ∷ older) cell head cells st = More
 ungiven [] cell head cells st = More
 
 module _ (setting : Setting) where
-  -- a `delete` taken back
+  -- a `delete` undone
   abbrev pub undeleted : Creation → Lvalue → State → Run State
   undeleted (AnObject class) target st = do
     cell ← found setting.program target st
@@ -55,13 +55,13 @@ module _ (setting : Setting) where
         (OfObjects (unwrap_or (class_number setting.program class.text) 0) (number_of v))
         (replicate (number_of v) Nil) st
 
-  -- a `new` taken back
+  -- a `new` undone
   abbrev pub unmade : Lvalue → State → Run State
   unmade target st = do
     cell ← found setting.program target st
     untaken st.log cell st
 
-  -- a statement of the machine turned round begins
+  -- a statement of the reversed machine begins
   abbrev pub begun_back : Config → Statement → Statements → Run Config
   begun_back x (New at made target) rest = do
     st ← undeleted made target x.state
@@ -71,7 +71,7 @@ module _ (setting : Setting) where
     give (past_it x (Delete at made target) rest st)
   begun_back x s rest = begun setting x s rest
 
-  -- a step of the machine turned round, by what is left of the block
+  -- a step of the reversed machine, by what is left of the block
   abbrev pub stepped_back : Config → Statements → Run Config
   stepped_back x End = closing setting x x.around
   stepped_back x (Then s rest) = do

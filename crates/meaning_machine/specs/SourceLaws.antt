@@ -1,12 +1,12 @@
 -- The runs of programs on the machine.
 use Rattle.std.specs.Prelude.{◌≡◌, ◌<◌, ◌≤◌, ℕ, List, []}
-use Rattle.rpp_words.specs.declared.input.FieldWord.{FieldWord}
-use Rattle.rpp_words.specs.declared.input.Limits.{Limits}
-use Rattle.rpp_tree.specs.Tree.{Source, End}
-use Rattle.roopl_semantics.specs.Run.{Run, Done, Fault, More}
-use Rattle.roopl_semantics.specs.Store.{State}
-use Rattle.roopl_semantics.specs.Source.{main_body, starting, source}
-use Rattle.roopl_semantics.specs.Execution.{Setting}
+use Rattle.meaning_points.specs.rpp_words.declared.input.FieldWord.{FieldWord}
+use Rattle.meaning_points.specs.rpp_words.declared.input.Limits.{Limits}
+use Rattle.meaning_points.specs.rpp_tree.Tree.{Source, End}
+use Rattle.meaning_points.specs.roopl_semantics.Run.{Run, Done, Fault, More}
+use Rattle.meaning_points.specs.roopl_semantics.Store.{State}
+use Rattle.meaning_points.specs.roopl_semantics.Source.{main_body, starting, source}
+use Rattle.meaning_points.specs.roopl_semantics.Execution.{Setting}
 use Rattle.meaning_points.specs.Trail.{trail}
 use Rattle.meaning_machine.specs.Machine.{Config, walk}
 use Rattle.meaning_machine.specs.MachineLaws.{before, after, Arrives, Breaks}
@@ -33,10 +33,11 @@ pub record Outlasts (setting : Setting) (x : Config) (fuel : ℕ) : Type 0 where
   pub steps : ℕ
   pub exceeds : Exceeds fuel (walk setting steps x)
 
--- the machine's steps from the start are the source: with every fuel the source gives a state or a
--- fault exactly where some number of steps comes to it at a cost within the fuel, at the same cost
--- and along the points of the run; and it is not over exactly where some number of steps costs more.
--- Wherever a walk is over within the fuel, it is over in the state that the source gives.
+-- The machine's steps from the start are the semantics of the source. With every fuel, the
+-- semantics gives a state or a fault exactly if some number of steps leads to it at a cost within
+-- the fuel. Then the cost and the trace points are the same. The semantics is out of fuel exactly
+-- if some number of steps costs more. Wherever a walk is over within the fuel, it is over in the
+-- state that the source gives.
 pub record SourceIsMachine (program : Source) (limits : Limits) (input : List FieldWord)
     (fuel : ℕ) : Type 0 where
   pub done : (end : State) (cost : ℕ) → source program limits input fuel ≡ Done end cost

@@ -1,21 +1,22 @@
--- The points that the machine passes.
+-- The trace points that the machine passes.
 use Rattle.std.specs.Prelude.{◌≡◌, ◌<◌, ◌≤◌, ℕ, List, [], ◌++◌}
-use Rattle.rpp_words.specs.declared.input.FieldWord.{FieldWord}
-use Rattle.rpp_words.specs.declared.input.Limits.{Limits}
-use Rattle.rpp_tree.specs.Tree.{Source, End}
-use Rattle.roopl_semantics.specs.Run.{Done, Fault}
+use Rattle.meaning_points.specs.rpp_words.declared.input.FieldWord.{FieldWord}
+use Rattle.meaning_points.specs.rpp_words.declared.input.Limits.{Limits}
+use Rattle.meaning_points.specs.rpp_tree.Tree.{Source, End}
+use Rattle.meaning_points.specs.roopl_semantics.Run.{Done, Fault}
 use Rattle.meaning_points.specs.Points.{Point}
 use Rattle.meaning_points.specs.Trail.{trail}
 use Rattle.meaning_machine.specs.Machine.{Config, walk, seen, point_of}
 use Rattle.meaning_machine.specs.SourceLaws.{set_for, start_of}
 
--- these points begin with others, and then with the next ones
+-- these trace points begin with others, and then with the next ones
 pub record BeginsWith (all first next : List Point) : Type 0 where
   pub more : List Point
   pub are : all ≡ first ++ (next ++ more)
 
--- the machine goes along the points of a run, bounded by n: where a walk is over within the bound, or
--- stops with a fault, it has passed them all; before that they go on with the one where it stands
+-- The machine passes the trace points of a run, bounded by n. If a walk ends within the bound, or
+-- stops with a fault, it has passed them all. Before that, the next trace point is the one at which
+-- the walk is.
 pub record TrailIsWalked (program : Source) (limits : Limits) (input : List FieldWord)
     (n : ℕ) : Type 0 where
   pub over : (steps : ℕ) (to : Config) (cost : ℕ)

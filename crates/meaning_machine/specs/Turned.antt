@@ -1,9 +1,9 @@
--- The machine turned round: what was past is still to come, undone.
+-- The reversed machine: what was past is still to come, inverted.
 use Rattle.std.specs.Prelude.{◌≡◌, ℕ, map}
-use Rattle.rpp_tree.specs.Tree.{Statements, End, Then}
-use Rattle.stmt_inverter.specs.Inverse.{inverse_statement, inverse}
-use Rattle.roopl_semantics.specs.Run.{Done}
-use Rattle.roopl_semantics.specs.Execution.{Setting}
+use Rattle.meaning_points.specs.rpp_tree.Tree.{Statements, End, Then}
+use Rattle.meaning_points.specs.stmt_inverter.Inverse.{inverse_statement, inverse}
+use Rattle.meaning_points.specs.roopl_semantics.Run.{Done}
+use Rattle.meaning_points.specs.roopl_semantics.Execution.{Setting}
 use Rattle.meaning_machine.specs.Machine.{Config, Open, Part, Chosen, First, Again, Holding}
 use Rattle.meaning_machine.specs.Machine.{Calling, next}
 
@@ -41,7 +41,7 @@ abbrev pub unwound : Statements → Statements → Statements
 unwound End rest = rest
 unwound (Then s past) rest = unwound past (Then s rest)
 
--- a step of the machine that is turned round leads back
+-- a step of the reversed machine leads back
 pub record StepsBack (setting : Setting) (x y : Config) : Type 0 where
   pub cost : ℕ
   pub steps : next setting (turn y) ≡ Done (turn x) cost

@@ -1,10 +1,10 @@
--- More fuel only adds points.
+-- More fuel only adds trace points.
 use Rattle.std.proofs.Common.{◌≡◌, ℕ, zero, suc, ◌≤◌, refl, sym, ap, ◌∙◌, arith, append-nil, append_assoc, Bool}
 use Rattle.std.proofs.Common.{true, false, not, List, [], ◌∷◌, ◌++◌, length, Option, Some, None}
-use Rattle.rpp_tree.specs.declared.tree.Ident.{Ident}
-use Rattle.rpp_tree.specs.Tree.{Expression, Lvalue, Whole, Item, Object as AnObject, Statement, Statements, If, From}
-use Rattle.rpp_tree.specs.Tree.{Construct, Local, New, Delete, Call, End, Then, Procedure, Null}
-use Rattle.class_table.specs.Classes.{method_named}
+use Rattle.roopl_semantics.specs.rpp_tree.declared.tree.Ident.{Ident}
+use Rattle.roopl_semantics.specs.rpp_tree.Tree.{Expression, Lvalue, Whole, Item, Object as AnObject, Statement, Statements, If, From}
+use Rattle.roopl_semantics.specs.rpp_tree.Tree.{Construct, Local, New, Delete, Call, End, Then, Procedure, Null}
+use Rattle.roopl_semantics.specs.class_table.Classes.{method_named}
 use Rattle.roopl_semantics.specs.Run.{Run, Done, Fault, More, after_cost, ◌>>=◌, fault_if}
 use Rattle.roopl_semantics.specs.Store.{State, is_nil, number_of}
 use Rattle.roopl_semantics.specs.Value.{Cell, nil_fault, cell_named, own_class, read, evaluated}
@@ -15,7 +15,8 @@ use Rattle.meaning_points.specs.Points.{Point, Lister, behind, begins, called_po
 use Rattle.meaning_points.specs.Points.{turn_points, call_points, inner_points, points}
 use Rattle.meaning_points.specs.PointLaws.{StartsWith}
 
--- a run with its points goes on as another: it is the same, or it is not over and has the first points
+-- a run with its trace points goes on as another: it is the same, or it is not over and has the
+-- first trace points
 data Grows {A : Type 0} (ps : List Point) (r : Run A) (qs : List Point) (s : Run A) : Type 0 where
   same : qs ≡ ps → s ≡ r → Grows ps r qs s
   longer : r ≡ More → (more : List Point) → qs ≡ ps ++ more → Grows ps r qs s
@@ -53,7 +54,7 @@ next ps qs r s f g h k (longer e more d) both =
     (ap (λ l. l ++ behind s g) d ∙ append_assoc ps more (behind s g)
     ∙ ap (λ l. l ++ (more ++ behind s g)) (sym (ap (λ x. ps ++ behind x f) e ∙ append-nil ps)))
 
--- ---- statements, over blocks with points that go on so
+-- ---- statements, over blocks with trace points that go on so
 
 module _ (setting : Setting) (run run' : Runner) (list list' : Lister)
     (block : (params : ℕ) (b : Statements) (st : State) → Grows (list params b st) (run b st) (list' params b st)

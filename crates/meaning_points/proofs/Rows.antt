@@ -1,22 +1,22 @@
--- The points of worked programs.
+-- The trace points of worked programs.
 use Rattle.std.specs.Prelude.{◌≡◌, ℕ, true, false, List, [], ◌∷◌, length, map, Some, None, codes}
 use Rattle.std.proofs.Common.{refl}
-use Rattle.rpp_tree.specs.declared.tree.VarType.TheVariants as kind
-use Rattle.rpp_tree.specs.declared.tree.BinOp.TheVariants as op
-use Rattle.rpp_tree.specs.declared.tree.UpdateOp.TheVariants as update
-use Rattle.rpp_tree.specs.Tree.{Number, Variable, Binary, Whole, Item, Object as AnObject, Objects, Update, If, From}
-use Rattle.rpp_tree.specs.Tree.{Construct, New, Call, Skip, Source}
+use Rattle.roopl_semantics.specs.rpp_tree.declared.tree.VarType.TheVariants as kind
+use Rattle.roopl_semantics.specs.rpp_tree.declared.tree.BinOp.TheVariants as op
+use Rattle.roopl_semantics.specs.rpp_tree.declared.tree.UpdateOp.TheVariants as update
+use Rattle.roopl_semantics.specs.rpp_tree.Tree.{Number, Variable, Binary, Whole, Item, Object as AnObject, Objects, Update, If, From}
+use Rattle.roopl_semantics.specs.rpp_tree.Tree.{Construct, New, Call, Skip, Source}
 use Rattle.roopl_semantics.specs.Run.{Run, Done, Fault, More}
 use Rattle.roopl_semantics.specs.Store.{State}
 use Rattle.roopl_semantics.proofs.Testing.{named, var, procedure, class_text, block, program}
 use Rattle.meaning_points.specs.Trail.{trail}
 
--- the place and the depth of each point of a run
+-- the place and the depth of each trace point of a run
 abbrev seen : Source → ℕ → ℕ → List (ℕ × ℕ)
 seen text heap deep = map (λ point. (point.place, point.state.depth))
     (trail text (record { heap = heap; deep = deep }) [] 1000).points
 
--- class P int x method main() x += 5
+-- `class P int x method main() x += 5`
 abbrev pub one_update-text : Source
 one_update-text = program (class_text (named 6 (codes "P")) None ((var kind.Int (named 12 (codes "x"))) ∷ [])
     (procedure (named 21 (codes "main")) [] (block ((Update 28 update.Add (Whole (named 28 (codes "x")))
@@ -25,7 +25,7 @@ one_update-text = program (class_text (named 6 (codes "P")) None ((var kind.Int 
 one_update : seen one_update-text 1 1 ≡ (28, 1) ∷ []
 one_update = refl
 
--- class P int x method main() call q() uncall q() method q() x += 1 x += 2
+-- `class P int x method main() call q() uncall q() method q() x += 1 x += 2`
 abbrev pub there_and_back-text : Source
 there_and_back-text = program (class_text (named 6 (codes "P")) None ((var kind.Int (named 12 (codes "x"))) ∷ [])
     (procedure (named 21 (codes "main")) [] (block ((Call 28 false None (named 33 (codes "q")) [])
@@ -37,7 +37,7 @@ there_and_back-text = program (class_text (named 6 (codes "P")) None ((var kind.
 there_and_back : seen there_and_back-text 1 2 ≡ (28, 1) ∷ (59, 2) ∷ (66, 2) ∷ (37, 1) ∷ (66, 2) ∷ (59, 2) ∷ []
 there_and_back = refl
 
--- class P int x method main() from x = 0 do x += 1 loop skip until x = 2
+-- `class P int x method main() from x = 0 do x += 1 loop skip until x = 2`
 abbrev pub loop-text : Source
 loop-text = program (class_text (named 6 (codes "P")) None ((var kind.Int (named 12 (codes "x"))) ∷ [])
     (procedure (named 21 (codes "main")) [] (block ((From 28
@@ -49,7 +49,8 @@ loop-text = program (class_text (named 6 (codes "P")) None ((var kind.Int (named
 turns : seen loop-text 1 1 ≡ (28, 1) ∷ (42, 1) ∷ (54, 1) ∷ (42, 1) ∷ []
 turns = refl
 
--- class P int x method main() construct A a call a::m() destruct a class A int f method m() f += 1 f -= 1
+-- `class P int x method main() construct A a call a::m() destruct a class A int f method m() f += 1
+-- f -= 1`
 abbrev pub constructs-text : Source
 constructs-text = program (class_text (named 6 (codes "P")) None ((var kind.Int (named 12 (codes "x"))) ∷ [])
     (procedure (named 21 (codes "main")) [] (block ((Construct 28 (named 38 (codes "A")) (named 40 (codes "a"))
@@ -63,7 +64,8 @@ constructs-text = program (class_text (named 6 (codes "P")) None ((var kind.Int 
 constructs : seen constructs-text 2 2 ≡ (28, 1) ∷ (28, 1) ∷ (42, 1) ∷ (90, 2) ∷ (97, 2) ∷ (28, 1) ∷ []
 constructs = refl
 
--- class P A[] u method main() new A[2] u new A u[0] call u[0]::m() class A int f method m() f += 7
+-- `class P A[] u method main() new A[2] u new A u[0] call u[0]::m() class A int f method m() f +=
+-- 7`
 abbrev pub elements-text : Source
 elements-text = program (class_text (named 6 (codes "P")) None
     ((var (kind.ClassArray (named 8 (codes "A"))) (named 12 (codes "u"))) ∷ [])
@@ -80,7 +82,7 @@ elements-text = program (class_text (named 6 (codes "P")) None
 elements : seen elements-text 3 2 ≡ (28, 1) ∷ (39, 1) ∷ (50, 1) ∷ (50, 1) ∷ (50, 1) ∷ (90, 2) ∷ (50, 1) ∷ []
 elements = refl
 
--- class P int x method main() if x = 0 then x += 1 else skip fi x = 0
+-- `class P int x method main() if x = 0 then x += 1 else skip fi x = 0`
 abbrev pub asserts-text : Source
 asserts-text = program (class_text (named 6 (codes "P")) None ((var kind.Int (named 12 (codes "x"))) ∷ [])
     (procedure (named 21 (codes "main")) [] (block ((If 28
@@ -89,11 +91,12 @@ asserts-text = program (class_text (named 6 (codes "P")) None ((var kind.Int (na
     (block ((Skip 54) ∷ [])) (Binary 64 op.Equal (Variable (named 62 (codes "x"))) (Number 66 0))) ∷ []))
     ∷ []) ∷ [])
 
--- a fault has no point
+-- a fault has no trace point
 asserts : seen asserts-text 1 1 ≡ (28, 1) ∷ (42, 1) ∷ []
 asserts = refl
 
--- the place, the depth and the number of variables of each point of a run, and the fault that ends it
+-- the place, the depth and the number of variables of each trace point of a run, and the fault that
+-- ends it
 abbrev fault_of : Run State → ℕ
 fault_of (Done end cost) = 0
 fault_of (Fault code cost) = code
@@ -104,19 +107,20 @@ with_variables text heap deep =
     let run = trail text (record { heap = heap; deep = deep }) [] 1000 in
     (map (λ point. (point.place, point.state.depth, length point.state.frame)) run.points, fault_of run.end)
 
--- class P method main() construct Q f skip destruct f class Q method q() skip
+-- `class P method main() construct Q f skip destruct f class Q method q() skip`
 abbrev pub construct_alone-text : Source
 construct_alone-text = program (class_text (named 6 (codes "P")) None []
     (procedure (named 15 (codes "main")) [] (block ((Construct 22 (named 32 (codes "Q")) (named 34 (codes "f"))
     (block ((Skip 36) ∷ [])) (named 50 (codes "f"))) ∷ [])) ∷ []) ∷ class_text (named 58 (codes "Q")) None []
     (procedure (named 67 (codes "q")) [] (block ((Skip 71) ∷ [])) ∷ []) ∷ [])
 
--- the variable is open from the point of `new` on
+-- the variable is open from the trace point of `new` on
 construct_alone : with_variables construct_alone-text 4 4
     ≡ ((22, 1, 0) ∷ (22, 1, 1) ∷ (36, 1, 1) ∷ (22, 1, 1) ∷ [], 0)
 construct_alone = refl
 
--- class P int x method main() uncall q() method q() construct Q f x += 1 x -= 2 destruct f class Q method m() skip
+-- `class P int x method main() uncall q() method q() construct Q f x += 1 x -= 2 destruct f class Q
+-- method m() skip`
 abbrev pub construct_undone-text : Source
 construct_undone-text = program (class_text (named 6 (codes "P")) None ((var kind.Int (named 12 (codes "x"))) ∷ [])
     (procedure (named 21 (codes "main")) [] (block ((Call 28 true None (named 35 (codes "q")) []) ∷ []))
@@ -130,7 +134,8 @@ construct_undone : with_variables construct_undone-text 4 2
     ≡ ((28, 1, 0) ∷ (50, 2, 0) ∷ (50, 2, 1) ∷ (71, 2, 1) ∷ (64, 2, 1) ∷ (50, 2, 1) ∷ [], 0)
 construct_undone = refl
 
--- class P method main() construct Q f construct Q g skip destruct g destruct f class Q int y method q() skip
+-- `class P method main() construct Q f construct Q g skip destruct g destruct f class Q int y
+-- method q() skip`
 abbrev pub construct_nested-text : Source
 construct_nested-text = program (class_text (named 6 (codes "P")) None []
     (procedure (named 15 (codes "main")) [] (block ((Construct 22 (named 32 (codes "Q")) (named 34 (codes "f"))
@@ -143,12 +148,12 @@ construct_nested : with_variables construct_nested-text 3 1
     ≡ ((22, 1, 0) ∷ (22, 1, 1) ∷ (36, 1, 1) ∷ (36, 1, 2) ∷ (50, 1, 2) ∷ (36, 1, 2) ∷ (22, 1, 1) ∷ [], 0)
 construct_nested = refl
 
--- with room for one object the `new` of the second has its point, and then its fault
+-- with space for one object the `new` of the second has its trace point, and then its fault
 construct_full : with_variables construct_nested-text 2 1
     ≡ ((22, 1, 0) ∷ (22, 1, 1) ∷ (36, 1, 1) ∷ (36, 1, 2) ∷ [], 8)
 construct_full = refl
 
--- class P A[] u method main() new A[2] u call u[0]::m() class A int f method m() f += 7
+-- `class P A[] u method main() new A[2] u call u[0]::m() class A int f method m() f += 7`
 abbrev pub element_nil-text : Source
 element_nil-text = program (class_text (named 6 (codes "P")) None
     ((var (kind.ClassArray (named 8 (codes "A"))) (named 12 (codes "u"))) ∷ [])
@@ -159,12 +164,12 @@ element_nil-text = program (class_text (named 6 (codes "P")) None
     (procedure (named 75 (codes "m")) [] (block ((Update 79 update.Add (Whole (named 79 (codes "f"))) (Number 84 7))
     ∷ [])) ∷ []) ∷ [])
 
--- the call has its point, and then the fault of its receiver
+-- the call has its trace point, and then the fault of its receiver
 element_nil : with_variables element_nil-text 3 2 ≡ ((28, 1, 0) ∷ (39, 1, 0) ∷ (39, 1, 1) ∷ (39, 1, 1) ∷ [], 5)
 element_nil = refl
 
--- class P A[] u method main() new A[2] u new A u[0] uncall q() method q() call u[0]::m()
--- class A int f method m() f += 1 f += 2
+-- `class P A[] u method main() new A[2] u new A u[0] uncall q() method q() call u[0]::m()
+-- class A int f method m() f += 1 f += 2`
 abbrev pub element_undone-text : Source
 element_undone-text = program (class_text (named 6 (codes "P")) None
     ((var (kind.ClassArray (named 8 (codes "A"))) (named 12 (codes "u"))) ∷ [])

@@ -1,16 +1,16 @@
--- Statements that mean others run as these, and pass their points.
+-- Statements that mean others run as these, and pass their trace points.
 use Rattle.std.proofs.Common.{◌≡◌, ℕ, zero, suc, ◌+◌, refl, ap, ◌∙◌, sym, Bool, true, not, List, [], ◌∷◌, ◌++◌, map}
 use Rattle.std.proofs.Common.{Some}
 use Rattle.std.proofs.lemmas.List.{map-id, map-append}
-use Rattle.rpp_tree.specs.declared.tree.Ident.{Ident}
-use Rattle.rpp_tree.specs.declared.tree.Var.{Var}
-use Rattle.rpp_tree.specs.declared.tree.VarType.{VarType}
-use Rattle.rpp_tree.specs.declared.tree.VarType.TheVariants as kind
-use Rattle.rpp_tree.specs.Tree.{Expression, Null, Whole, Item, Object as AnObject, Statement, Statements, Swap}
-use Rattle.rpp_tree.specs.Tree.{Construct}
-use Rattle.rpp_tree.specs.Tree.{Local, New, Delete, Call, End, Then, joined}
-use Rattle.stmt_inverter.specs.Inverse.{inverse_statement, inverse}
-use Rattle.stmt_inverter.proofs.Inverses.{inverse-joined}
+use Rattle.roopl_semantics.specs.rpp_tree.declared.tree.Ident.{Ident}
+use Rattle.roopl_semantics.specs.rpp_tree.declared.tree.Var.{Var}
+use Rattle.roopl_semantics.specs.rpp_tree.declared.tree.VarType.{VarType}
+use Rattle.roopl_semantics.specs.rpp_tree.declared.tree.VarType.TheVariants as kind
+use Rattle.roopl_semantics.specs.rpp_tree.Tree.{Expression, Null, Whole, Item, Object as AnObject, Statement, Statements, Swap}
+use Rattle.roopl_semantics.specs.rpp_tree.Tree.{Construct}
+use Rattle.roopl_semantics.specs.rpp_tree.Tree.{Local, New, Delete, Call, End, Then, joined}
+use Rattle.roopl_semantics.specs.stmt_inverter.Inverse.{inverse_statement, inverse}
+use Rattle.roopl_semantics.proofs.stmt_inverter_laws.Inverses.{inverse-joined}
 use Rattle.roopl_semantics.specs.Run.{Run, Done, Fault, More, ◌>>=◌, after_cost, give, fault_if}
 use Rattle.roopl_semantics.specs.Store.{State, same_value}
 use Rattle.roopl_semantics.specs.Value.{Slot, read, evaluated}
@@ -39,7 +39,7 @@ module _ {Q : Type 0} (shown : Point → Q) (setting : Setting) where
       → ((a : A) → map shown (f a) ≡ map shown (g a)) → map shown (behind r f) ≡ map shown (behind s g)
   behind_same r s f g e each = ap (λ x. map shown (behind x f)) e ∙ shows_on s f g each
 
-  -- the points of a statement, with blocks bounded by n
+  -- the trace points of a statement, with blocks bounded by n
   abbrev own : ℕ → ℕ → Statement → State → List Point
   own n params s st = begins params s st ++ inner_points setting n (exec setting n) (points setting n) params s st
 
@@ -83,14 +83,14 @@ module _ {Q : Type 0} (shown : Point → Q) (setting : Setting) where
   joined_same End b c x = x
   joined_same (Then s body) b c x = then_same s s _ _ (itself s) (joined_same body b c x)
 
--- behind the block of a local variable that ends with nil
+-- after the block of a local variable that ends with nil
 abbrev local_end : Setting → ℕ → State → Run State
 local_end setting at end = do
   w ← evaluated setting.program (Null at) end
   _ ← fault_if delocal_fault (not (same_value (read end (Slot 0)) w))
   give (closed end)
 
--- a point at a place
+-- a trace point at a place
 abbrev point : ℕ → ℕ → State → Point
 point at params st = record { place = at; params = params; state = st }
 

@@ -1,6 +1,6 @@
--- Laws of the points of a run.
+-- Laws of the trace points of a run.
 use Rattle.std.specs.Prelude.{◌≡◌, ◌≤◌, ℕ, List, ◌++◌}
-use Rattle.rpp_tree.specs.Tree.{Statements}
+use Rattle.roopl_semantics.specs.rpp_tree.Tree.{Statements}
 use Rattle.roopl_semantics.specs.Run.{Done, Fault}
 use Rattle.roopl_semantics.specs.Store.{State}
 use Rattle.roopl_semantics.specs.Execution.{Setting, exec}
@@ -10,7 +10,7 @@ use Rattle.meaning_points.specs.Points.{Point, points}
 abbrev pub StartsWith : List Point → List Point → Type 0
 StartsWith first whole = (more : List Point) × (whole ≡ first ++ more)
 
--- more fuel only adds points; where the run is over, it adds none and ends the same
+-- more fuel only adds trace points; if the run is over, it adds none and ends the same
 pub record MoreFuelAdds : Type 0 where
   pub adds : (setting : Setting) (n m params : ℕ) (body : Statements) (st : State) → n ≤ m
       → StartsWith (points setting n params body st) (points setting m params body st)

@@ -1,12 +1,12 @@
--- The points of a run: the statements as they begin, in the order in which they do.
+-- The trace points of a run: the statements as they begin, in the order in which they do.
 use Rattle.std.specs.Prelude.{ℕ, zero, suc, ◌+◌, Bool, true, false, not, List, [], ◌∷◌, ◌++◌}
 use Rattle.std.specs.Prelude.{length, map, Option, Some, None, if◌then◌else◌}
-use Rattle.rpp_tree.specs.declared.tree.Ident.{Ident}
-use Rattle.rpp_tree.specs.Tree.{Expression, Null, Lvalue, Whole, Item, Statement, Statements}
-use Rattle.rpp_tree.specs.Tree.{Update, Swap, If, From, Construct, Local, New, Delete, Copy, Uncopy}
-use Rattle.rpp_tree.specs.Tree.{Call, Skip, End, Then, Procedure}
-use Rattle.rpp_tree.specs.Places.{statement_place}
-use Rattle.class_table.specs.Classes.{method_named}
+use Rattle.roopl_semantics.specs.rpp_tree.declared.tree.Ident.{Ident}
+use Rattle.roopl_semantics.specs.rpp_tree.Tree.{Expression, Null, Lvalue, Whole, Item, Statement, Statements}
+use Rattle.roopl_semantics.specs.rpp_tree.Tree.{Update, Swap, If, From, Construct, Local, New, Delete, Copy, Uncopy}
+use Rattle.roopl_semantics.specs.rpp_tree.Tree.{Call, Skip, End, Then, Procedure}
+use Rattle.roopl_semantics.specs.rpp_tree.Places.{statement_place}
+use Rattle.roopl_semantics.specs.class_table.Classes.{method_named}
 use Rattle.roopl_semantics.specs.Run.{Run, Done, Fault, More, fault_if}
 use Rattle.roopl_semantics.specs.Store.{State, is_nil, number_of}
 use Rattle.roopl_semantics.specs.Value.{Cell, nil_fault, cell_named, own_class, read, evaluated}
@@ -21,11 +21,11 @@ pub record Point : Type 0 where
   pub params : ℕ
   pub state : State
 
--- lists the points of a block in a method with so many parameters
+-- lists the trace points of a block in a method with so many parameters
 abbrev pub Lister : Type 0
 Lister = ℕ → Statements → State → List Point
 
--- what comes behind a run that is done
+-- what comes after a run that is done
 abbrev pub behind : {A : Type 0} → Run A → (A → List Point) → List Point
 behind (Done result cost) next = next result
 behind (Fault code cost) next = []
@@ -34,13 +34,13 @@ behind More next = []
 abbrev pub point_at : ℕ → ℕ → State → List Point
 point_at at params st = record { place = at; params = params; state = st } ∷ []
 
--- the point of a statement where it begins: that of the local variable that it means, where it is a
--- `construct` or a call on an element
+-- the trace point of a statement where it begins: that of the local variable that it means, if it
+-- is a `construct` or a call on an element
 abbrev pub begins : ℕ → Statement → State → List Point
 begins params s st = point_at (statement_place s) params st
 
 module _ (setting : Setting) where
-  -- the points of a method that runs on an object: of its body, or of the inverse where it is
+  -- the trace points of a method that runs on an object: of its body, or of the inverse if it is
   -- uncalled
   abbrev pub called_points : Lister → Bool → Procedure → ℕ → List Cell → List Cell → State
       → List Point
@@ -50,12 +50,12 @@ module _ (setting : Setting) where
       list (length frame) (in_direction back method.body) (record
       { frame = frame; self = self; depth = 1 + st.depth; store = caller.store; log = caller.log })
 
-  -- the points of a block with a local variable
+  -- the trace points of a block with a local variable
   abbrev pub local_points : Lister → ℕ → List ℕ → Expression → Statements → State → List Point
   local_points list params name value body st =
       behind (evaluated setting.program value st) (λ v. list params body (opened name v st))
 
-  -- the points of a loop's turn behind its first part: none where the exit holds
+  -- the trace points of a loop's iteration after its first block: none if the exit condition holds
   abbrev pub again_points : Runner → Lister → ℕ → Expression → Statements → (State → List Point)
       → Bool → State → List Point
   again_points run list params entry again next true st = []
@@ -64,7 +64,7 @@ module _ (setting : Setting) where
       ++ behind (run again st) (λ end. behind (evaluated setting.program entry end)
       (λ v. behind (fault_if loop_fault (holds v)) (λ u. next end)))
 
-  -- the points of a loop whose entry has passed, of at most so many turns
+  -- the trace points of a loop whose entry has passed, of at most so many iterations
   abbrev pub turn_points : ℕ → Runner → Lister → ℕ → Expression → Statements → Statements
       → Expression → State → List Point
   turn_points zero run list params entry first again exit st = []
@@ -74,7 +74,7 @@ module _ (setting : Setting) where
       again_points run list params entry again
       (turn_points n run list params entry first again exit) (holds v) end))
 
-  -- the points of a call, by what is called
+  -- the trace points of a call, by what is called
   abbrev pub call_points : Lister → ℕ → ℕ → Bool → Option Lvalue → Ident → List Ident → State
       → List Point
   call_points list params at back None method args st =
@@ -92,7 +92,7 @@ module _ (setting : Setting) where
       local_points list params (element_name at).text (Null at)
       (element_call at back name index method args) st
 
-  -- the points of the blocks in a statement that run, one clause for each form that has some
+  -- the trace points of the blocks in a statement that run, one clause for each form that has some
   abbrev pub inner_points : ℕ → Runner → Lister → ℕ → Statement → State → List Point
   inner_points n run list params (Update at op target value) st = []
   inner_points n run list params (Swap at left right) st = []
@@ -115,7 +115,7 @@ module _ (setting : Setting) where
       call_points list params at back receiver method args st
   inner_points n run list params (Skip at) st = []
 
-  -- the points of a block, at most n statements deep and long
+  -- the trace points of a block, at most n statements deep and long
   abbrev pub points : ℕ → Lister
   points n params End st = []
   points zero params (Then first rest) st = []

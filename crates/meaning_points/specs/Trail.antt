@@ -1,15 +1,15 @@
--- The positions of a program's run: its points, and then its end.
+-- The positions of a program's run: its trace points, and then its end.
 use Rattle.std.specs.Prelude.{ℕ, List}
-use Rattle.rpp_words.specs.declared.input.FieldWord.{FieldWord}
-use Rattle.rpp_words.specs.declared.input.Limits.{Limits}
-use Rattle.rpp_tree.specs.Tree.{Source}
+use Rattle.roopl_semantics.specs.rpp_words.declared.input.FieldWord.{FieldWord}
+use Rattle.roopl_semantics.specs.rpp_words.declared.input.Limits.{Limits}
+use Rattle.roopl_semantics.specs.rpp_tree.Tree.{Source}
 use Rattle.roopl_semantics.specs.Run.{Run}
 use Rattle.roopl_semantics.specs.Store.{State}
 use Rattle.roopl_semantics.specs.Execution.{exec}
 use Rattle.roopl_semantics.specs.Source.{main_body, starting}
 use Rattle.meaning_points.specs.Points.{Point, points}
 
--- the points of a run, and how it ends
+-- the trace points of a run, and how it ends
 pub record Trail : Type 0 where
   pub points : List Point
   pub end : Run State

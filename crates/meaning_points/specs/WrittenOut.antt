@@ -1,18 +1,18 @@
 -- What `construct` and a call on an element mean, written out.
 use Rattle.std.specs.Prelude.{◌≡◌, ℕ, Bool, not, List, [], map, Some}
-use Rattle.rpp_tree.specs.declared.tree.Ident.{Ident}
-use Rattle.rpp_tree.specs.declared.tree.Var.{Var}
-use Rattle.rpp_tree.specs.declared.tree.VarType.{VarType}
-use Rattle.rpp_tree.specs.declared.tree.VarType.TheVariants as kind
-use Rattle.rpp_tree.specs.Tree.{Expression, Null, Whole, Item, Object as AnObject, Statement}
-use Rattle.rpp_tree.specs.Tree.{Statements, Swap, Construct, Local, New, Delete, Call, End, Then}
-use Rattle.rpp_tree.specs.Tree.{joined}
-use Rattle.stmt_inverter.specs.Inverse.{inverse_statement, inverse}
+use Rattle.roopl_semantics.specs.rpp_tree.declared.tree.Ident.{Ident}
+use Rattle.roopl_semantics.specs.rpp_tree.declared.tree.Var.{Var}
+use Rattle.roopl_semantics.specs.rpp_tree.declared.tree.VarType.{VarType}
+use Rattle.roopl_semantics.specs.rpp_tree.declared.tree.VarType.TheVariants as kind
+use Rattle.roopl_semantics.specs.rpp_tree.Tree.{Expression, Null, Whole, Item, Object as AnObject, Statement}
+use Rattle.roopl_semantics.specs.rpp_tree.Tree.{Statements, Swap, Construct, Local, New, Delete, Call, End, Then}
+use Rattle.roopl_semantics.specs.rpp_tree.Tree.{joined}
+use Rattle.roopl_semantics.specs.stmt_inverter.Inverse.{inverse_statement, inverse}
 use Rattle.roopl_semantics.specs.Store.{State}
 use Rattle.roopl_semantics.specs.Execution.{Setting, exec}
 use Rattle.meaning_points.specs.Points.{Point, points}
 
--- where the words of a written text stand, by their number
+-- the offsets of the tokens of a written source, by their number
 abbrev pub Spots : Type 0
 Spots = ℕ → ℕ
 
@@ -52,17 +52,17 @@ DoesAs s t =
     (setting : Setting) (n : ℕ) (rest : Statements) (st : State)
     → exec setting n (Then s rest) st ≡ exec setting n (Then t rest) st
 
--- and they have the same points
+-- and they have the same trace points
 abbrev pub HasPointsOf : Statement → Statement → Type 0
 HasPointsOf s t =
     (setting : Setting) (n params : ℕ) (rest : Statements) (st : State)
     → points setting n params (Then s rest) st ≡ points setting n params (Then t rest) st
 
--- a point without its place
+-- a trace point without its place
 abbrev pub placeless : Point → Point
 placeless point = record point { place = 0 }
 
--- or the same but for their places
+-- or the same except for their offsets
 abbrev pub HasMovedPointsOf : Statement → Statement → Type 0
 HasMovedPointsOf s t =
     (setting : Setting) (n params : ℕ) (rest : Statements) (st : State)

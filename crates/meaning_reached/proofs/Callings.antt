@@ -4,18 +4,19 @@ use Rattle.std.proofs.Common.{◌++◌, map, length, arith}
 use Rattle.std.proofs.lemmas.Bool.{eqb-true, ltb-true, ltb-false}
 use Rattle.std.proofs.lemmas.List.{map-append}
 use Rattle.std.specs.Prelude.{nat_eq, nat_lt, is_some, not, if◌then◌else◌}
-use Rattle.rpp_tree.specs.declared.tree.Var.{Var}
-use Rattle.rpp_tree.specs.Tree.{Statements, Procedure, Source}
-use Rattle.class_table.specs.declared.kind.Kind.{Kind}
-use Rattle.class_table.specs.Table.{table_of}
-use Rattle.class_table.specs.Scope.{Locals}
-use Rattle.class_table.specs.Statements.{passed, check_statements}
-use Rattle.class_table.specs.Program.{setting_in, with_parameters}
-use Rattle.roopl_semantics.specs.Store.{Value, Word, Nil, Name, Binding, State, is_zero, cleared}
-use Rattle.roopl_semantics.specs.Value.{Cell, Slot, Part, value_at, read, written}
-use Rattle.roopl_semantics.specs.Execution.{Setting, Runner, moved_out, moved_back, touched_fault, in_direction}
-use Rattle.roopl_semantics.specs.Execution.{invoked}
-use Rattle.roopl_semantics.specs.Laws.{one_if_name, holders_among}
+use Rattle.meaning_sound.specs.rpp_tree.declared.tree.Var.{Var}
+use Rattle.meaning_sound.specs.rpp_tree.Tree.{Statements, Procedure, Source}
+use Rattle.meaning_sound.specs.class_table.declared.kind.Kind.{Kind}
+use Rattle.meaning_sound.specs.class_table.Table.{table_of}
+use Rattle.meaning_sound.specs.class_table.Scope.{Locals}
+use Rattle.meaning_sound.specs.class_table.Statements.{passed, check_statements}
+use Rattle.meaning_sound.specs.class_table.Program.{setting_in, with_parameters}
+use Rattle.meaning_sound.specs.roopl_semantics.Store.{Value, Word, Nil, Name, Binding, State, is_zero, cleared}
+use Rattle.meaning_sound.specs.roopl_semantics.Value.{Cell, Slot, Part, value_at, read, written}
+use Rattle.meaning_sound.specs.roopl_semantics.Execution.{Setting, Runner, moved_out, moved_back, touched_fault}
+use Rattle.meaning_sound.specs.roopl_semantics.Execution.{in_direction}
+use Rattle.meaning_sound.specs.roopl_semantics.Execution.{invoked}
+use Rattle.meaning_sound.specs.roopl_semantics.Laws.{one_if_name, holders_among}
 use Rattle.meaning_sound.specs.Sound.{is_live, AllFit, value_of, Sound, Keeps, Typed}
 use Rattle.meaning_sound.specs.Plain.{IsPlain}
 use Rattle.meaning_sound.specs.Kept.{MeansSame}
@@ -41,11 +42,12 @@ pub record ReachesAll (setting : Setting) (run : Runner) : Type 0 where
       → IsPlain body
       → Sound setting extra shape class st → Reaches extra st → Ends (Reaches extra) (run body st)
 
-pub ends_both : {A : Type 0} (P Q : A → Type 0) (r : Rattle.roopl_semantics.specs.Run.Run A) → Ends P r → Ends Q r
+pub ends_both : {A : Type 0} (P Q : A → Type 0) (r : Rattle.meaning_sound.specs.roopl_semantics.Run.Run A) → Ends P r
+    → Ends Q r
     → Ends (λ a. P a × Q a) r
-ends_both P Q (Rattle.roopl_semantics.specs.Run.Done result cost) h k = (h, k)
-ends_both P Q (Rattle.roopl_semantics.specs.Run.Fault code cost) h k = tt
-ends_both P Q Rattle.roopl_semantics.specs.Run.More h k = tt
+ends_both P Q (Rattle.meaning_sound.specs.roopl_semantics.Run.Done result cost) h k = (h, k)
+ends_both P Q (Rattle.meaning_sound.specs.roopl_semantics.Run.Fault code cost) h k = tt
+ends_both P Q Rattle.meaning_sound.specs.roopl_semantics.Run.More h k = tt
 
 -- ---- values in a set
 
@@ -291,7 +293,7 @@ module _ (setting : Setting) (classes : KnowsClasses setting.program) (run : Run
           ends_more (Back setting extra shape class caller_after values_back) (Reaches extra)
           (moved_back (receiver ++ args) values_back caller_after) (λ last b. ended_reaches last r b)
           (moves_within setting extra shape class st.self (receiver_kinds
-          ++ map (Rattle.class_table.specs.Inheritance.kind_of_var program) params) (receiver ++ args)
+          ++ map (Rattle.meaning_sound.specs.class_table.Inheritance.kind_of_var program) params) (receiver ++ args)
           values_back caller_after
           (after_typed setting classes run keeps extra shape class back method self own params receiver args
           receiver_kinds st call end kept)

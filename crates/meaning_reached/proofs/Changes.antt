@@ -4,13 +4,15 @@ use Rattle.std.proofs.Common.{Some, None, slice_get}
 use Rattle.std.proofs.lemmas.Bool.{eqb-true}
 use Rattle.std.specs.Prelude.{nat_eq, is_some, ◌&&◌, ◌||◌}
 use Rattle.std.specs.Option.{unwrap_or, option_map}
-use Rattle.rpp_tree.specs.Tree.{Source}
-use Rattle.class_table.specs.declared.kind.Kind.{Kind}
-use Rattle.class_table.specs.Scope.{Locals}
-use Rattle.roopl_semantics.specs.Store.{Value, Nil, Object, Binding, State, object_named, object_at, no_object}
-use Rattle.roopl_semantics.specs.Store.{changed_at}
-use Rattle.roopl_semantics.specs.Value.{Cell, Slot, Part, value_at, read, written}
-use Rattle.roopl_semantics.specs.Execution.{Setting, same_cell, all_zero, new_object, opened, closed, counted}
+use Rattle.meaning_sound.specs.rpp_tree.Tree.{Source}
+use Rattle.meaning_sound.specs.class_table.declared.kind.Kind.{Kind}
+use Rattle.meaning_sound.specs.class_table.Scope.{Locals}
+use Rattle.meaning_sound.specs.roopl_semantics.Store.{Value, Nil, Object, Binding, State, object_named, object_at}
+use Rattle.meaning_sound.specs.roopl_semantics.Store.{no_object}
+use Rattle.meaning_sound.specs.roopl_semantics.Store.{changed_at}
+use Rattle.meaning_sound.specs.roopl_semantics.Value.{Cell, Slot, Part, value_at, read, written}
+use Rattle.meaning_sound.specs.roopl_semantics.Execution.{Setting, same_cell, all_zero, new_object, opened, closed}
+use Rattle.meaning_sound.specs.roopl_semantics.Execution.{counted}
 use Rattle.meaning_sound.specs.Sound.{is_live, cell_kind, Typed}
 use Rattle.meaning_sound.proofs.Stores.{same_number, differs, changed_here, changed_other}
 use Rattle.meaning_sound.proofs.Cells.{heads_written}
@@ -38,7 +40,7 @@ cell_turned a b e = by (same_cell b a) refl
     by false q = q
     by true q = absurd (clash (same_cell a b) (ap (λ c. same_cell a c) (same_cell_is b a q) ∙ itself a) e)
 
--- where closed sets were closed before, and nothing new lives, what lives is reached
+-- if closed sets were closed before, and nothing new lives, what lives is reached
 pub reaches_on : (extra : ℕ → ℕ) (st end : State) → ((names : ℕ → Bool) → IsClosed names extra end
     → IsClosed names extra st) → ((n : ℕ) → is_live end.store n ≡ true → is_live st.store n ≡ true) → Reaches extra st
     → Reaches extra end
@@ -62,7 +64,8 @@ closed_reaches extra end none r = reaches_on extra end (closed end)
     (λ names c. record { extras = c.extras; cells = cells names c }) (λ n l. l) r
   where
     slots : (names : ℕ → Bool) (frame : List Binding) → is_within names (value_at frame 0) ≡ true
-        → ((i : ℕ) → is_within names (value_at (Rattle.roopl_semantics.specs.Execution.rest_of frame) i) ≡ true)
+        → ((i : ℕ) → is_within names (value_at (Rattle.meaning_sound.specs.roopl_semantics.Execution.rest_of frame) i)
+        ≡ true)
         → (i : ℕ) → is_within names (value_at frame i) ≡ true
     slots names [] first rest i = refl
     slots names (b ∷ frame) first rest zero = first

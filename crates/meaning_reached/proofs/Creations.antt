@@ -4,14 +4,14 @@ use Rattle.std.proofs.Common.{Some, None, slice_get}
 use Rattle.std.proofs.lemmas.Bool.{eqb-true, or_left, or_right}
 use Rattle.std.specs.Prelude.{nat_eq, is_some, ◌&&◌, ◌||◌}
 use Rattle.std.specs.Option.{unwrap_or, option_map}
-use Rattle.rpp_tree.specs.Tree.{Source}
-use Rattle.class_table.specs.declared.kind.Kind.{Kind}
-use Rattle.class_table.specs.Scope.{Locals}
-use Rattle.buddy_book.specs.Place.{Log, count_taken}
-use Rattle.roopl_semantics.specs.Store.{Value, Word, Nil, Name, Object, State, is_zero, object_named, object_at}
-use Rattle.roopl_semantics.specs.Store.{no_object, without}
-use Rattle.roopl_semantics.specs.Value.{Cell, Slot, Part, read, written}
-use Rattle.roopl_semantics.specs.Execution.{Setting, same_cell, all_zero, counted, one_less}
+use Rattle.meaning_sound.specs.rpp_tree.Tree.{Source}
+use Rattle.meaning_sound.specs.class_table.declared.kind.Kind.{Kind}
+use Rattle.meaning_sound.specs.class_table.Scope.{Locals}
+use Rattle.meaning_sound.specs.buddy_book.Place.{Log, count_taken}
+use Rattle.meaning_sound.specs.roopl_semantics.Store.{Value, Word, Nil, Name, Object, State, is_zero, object_named, object_at}
+use Rattle.meaning_sound.specs.roopl_semantics.Store.{no_object, without}
+use Rattle.meaning_sound.specs.roopl_semantics.Value.{Cell, Slot, Part, read, written}
+use Rattle.meaning_sound.specs.roopl_semantics.Execution.{Setting, same_cell, all_zero, counted, one_less}
 use Rattle.meaning_sound.specs.Sound.{head_of, is_live, cell_kind, Typed}
 use Rattle.meaning_sound.proofs.Stores.{same_number, differs, there, without_other, without_here}
 use Rattle.meaning_sound.proofs.Cells.{heads_written}
@@ -198,7 +198,7 @@ module _ (setting : Setting) (extra : ℕ → ℕ) (shape : Locals) (class : ℕ
       (closed_uncounted names extra (written st b v) n suc c))
       (λ m l. live_unwritten st b v m (live_uncounted (written st b v) n suc m l)) r
 
-  -- what goes from the second place stands in the first; arrays are copied like objects here
+  -- what goes from the second lvalue is in the first; arrays are copied like objects here
   pub uncopy_reaches : (st : State) (a b : Cell) (ka kb : Kind) (n : ℕ) → IsVisible program shape st ka a
       → 0 < extra st.self → cell_kind program shape st.store b ≡ Some kb → (is_array ka ≡ false → is_array kb ≡ false)
       → read st b ≡ read st a → same_cell b a ≡ false

@@ -4,23 +4,23 @@ use Rattle.std.proofs.Common.{[], ◌∷◌, ◌++◌, map, length, Option, Some
 use Rattle.std.proofs.lemmas.Bool.{eqb-true, or_left, or_right}
 use Rattle.std.specs.Prelude.{nat_eq, is_some, ◌&&◌, ◌||◌, if◌then◌else◌}
 use Rattle.std.specs.Option.{option_map}
-use Rattle.rpp_words.specs.declared.input.FieldWord.{FieldWord}
-use Rattle.rpp_words.specs.declared.input.Limits.{Limits}
-use Rattle.rpp_tree.specs.Tree.{Source}
-use Rattle.buddy_book.specs.Place.{count_taken}
-use Rattle.roopl_semantics.specs.Store.{Value, Nil, Head, OfClass, OfInts, OfObjects, Store, State, main_name}
-use Rattle.roopl_semantics.specs.Store.{object_at}
-use Rattle.roopl_semantics.specs.Value.{Cell, Slot, Part, value_at, read}
-use Rattle.roopl_semantics.specs.Execution.{Setting, exec}
-use Rattle.roopl_semantics.specs.Source.{IsValid, main_body, starting, source}
-use Rattle.class_table.specs.Classes.{main_of}
-use Rattle.rpp_words.specs.Limits.{IsLimits}
-use Rattle.roopl_semantics.specs.Laws.{holders}
-use Rattle.roopl_semantics.specs.Report.{numbered, live_count, live_line, objects_shown}
-use Rattle.roopl_semantics.specs.Layout.{has_plain_head, is_plain_among, is_plain}
-use Rattle.roopl_semantics.specs.Walk.{counted}
-use Rattle.roopl_semantics.proofs.MoreFuel.{within_done}
-use Rattle.roopl_semantics.proofs.MainPlace.{class_inside}
+use Rattle.meaning_sound.specs.rpp_words.declared.input.FieldWord.{FieldWord}
+use Rattle.meaning_sound.specs.rpp_words.declared.input.Limits.{Limits}
+use Rattle.meaning_sound.specs.rpp_tree.Tree.{Source}
+use Rattle.meaning_sound.specs.buddy_book.Place.{count_taken}
+use Rattle.meaning_sound.specs.roopl_semantics.Store.{Value, Nil, Head, OfClass, OfInts, OfObjects, Store, State, main_name}
+use Rattle.meaning_sound.specs.roopl_semantics.Store.{object_at}
+use Rattle.meaning_sound.specs.roopl_semantics.Value.{Cell, Slot, Part, value_at, read}
+use Rattle.meaning_sound.specs.roopl_semantics.Execution.{Setting, exec}
+use Rattle.meaning_sound.specs.roopl_semantics.Source.{IsValid, main_body, starting, source}
+use Rattle.meaning_sound.specs.class_table.Classes.{main_of}
+use Rattle.meaning_sound.specs.rpp_words.Limits.{IsLimits}
+use Rattle.meaning_sound.specs.roopl_semantics.Laws.{holders}
+use Rattle.meaning_sound.specs.roopl_semantics.Report.{numbered, live_count, live_line, objects_shown}
+use Rattle.meaning_sound.specs.roopl_semantics.Layout.{has_plain_head, is_plain_among, is_plain}
+use Rattle.meaning_sound.specs.roopl_semantics.Walk.{counted}
+use Rattle.meaning_sound.proofs.roopl_semantics_laws.MoreFuel.{within_done}
+use Rattle.meaning_sound.proofs.roopl_semantics_laws.MainPlace.{class_inside}
 use Rattle.meaning_sound.specs.Sound.{head_of, head_named, is_live, named_fits, Descending, Sound, main_alone}
 use Rattle.meaning_sound.specs.Kept.{MeansSame}
 use Rattle.meaning_sound.proofs.Stores.{same_number, here, there}
@@ -45,13 +45,13 @@ execution_reaches program limits fuel extra locals shape class body start end co
     ((exec_reaches setting (knows_classes program accepted (program_plain program accepted)) fuel).by extra locals shape
     class body start inside means checked plain sound reaches) done
 
--- at the beginning there is the main object alone, and it is reached
+-- at the beginning there is only the main object, and it is reachable
 pub starting_reaches : (program : Source) (input : List FieldWord) → Reaches main_alone (starting program input)
 starting_reaches program input = record { all = λ names c n l. by names c n (nat_eq main_name n) refl l }
   where
     by : (names : ℕ → Bool) → IsClosed names main_alone (starting program input) → (n : ℕ) → (b : Bool)
         → nat_eq main_name n ≡ b → is_some (option_map head_of
-        (if b then Some (Rattle.roopl_semantics.specs.Source.main_object program input) else None)) ≡ true
+        (if b then Some (Rattle.meaning_sound.specs.roopl_semantics.Source.main_object program input) else None)) ≡ true
         → names n ≡ true
     by names c n true e l = ap names (sym (eqb-true main_name n e)) ∙ c.extras main_name (omega arith)
     by names c n false e l = absurd (cc)
@@ -65,7 +65,7 @@ get_within names (v ∷ vs) (suc i) h = get_within names vs i h.1
 -- a sound state without variables, in which every live object is reached from the main object
 pub reached_store : (program : Source) (limits : Limits) (class : ℕ) (end : State)
     → Sound (record { program = program; limits = limits }) main_alone [] class end
-    → named_fits program (Rattle.class_table.specs.declared.kind.Kind.TheVariants.Class class)
+    → named_fits program (Rattle.meaning_sound.specs.class_table.declared.kind.Kind.TheVariants.Class class)
     (head_named end.store main_name) ≡ true → Reaches main_alone end → IsReached program end.store
 reached_store program limits class end s main_fits r = record {
   met = λ n l apart. met n l apart;
@@ -136,9 +136,9 @@ reached_store program limits class end s main_fits r = record {
     main_head : (h : Head) → head_named store main_name ≡ Some h → has_plain_head program h ≡ true
     main_head (OfClass c) e = refl
     main_head (OfInts n) e = absurd (let q = sym (ap (named_fits program
-        (Rattle.class_table.specs.declared.kind.Kind.TheVariants.Class class)) e) ∙ main_fits in cc)
+        (Rattle.meaning_sound.specs.class_table.declared.kind.Kind.TheVariants.Class class)) e) ∙ main_fits in cc)
     main_head (OfObjects c n) e = absurd (let q = sym (ap
-        (named_fits program (Rattle.class_table.specs.declared.kind.Kind.TheVariants.Class class)) e)
+        (named_fits program (Rattle.meaning_sound.specs.class_table.declared.kind.Kind.TheVariants.Class class)) e)
         ∙ main_fits in cc)
 
     -- the entries from one on: each is met, or the main object's
@@ -211,5 +211,5 @@ ends_reached program limits input fuel end cost accepted inside valid done =
     over.is in
     let self_is : end.self ≡ main_name = kept.stays.self_same in
     reached_store program limits (main_of program).class end kept.sound
-    (subst (λ k. named_fits program (Rattle.class_table.specs.declared.kind.Kind.TheVariants.Class
+    (subst (λ k. named_fits program (Rattle.meaning_sound.specs.class_table.declared.kind.Kind.TheVariants.Class
     (main_of program).class) (head_named end.store k) ≡ true) self_is kept.sound.self_is) reaches

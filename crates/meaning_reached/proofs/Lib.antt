@@ -1,3 +1,10 @@
+pub use Rattle.meaning_sound.proofs.rpp_words_laws
+pub use Rattle.meaning_sound.proofs.rpp_tree_laws
+pub use Rattle.meaning_sound.proofs.class_table_laws
+pub use Rattle.meaning_sound.proofs.stmt_inverter_laws
+pub use Rattle.meaning_sound.proofs.buddy_book_laws
+pub use Rattle.meaning_sound.proofs.roopl_semantics_laws
+pub use Rattle.meaning_sound.proofs as meaning_sound_laws
 pub mod Rooted
 pub mod Changes
 pub mod Creations

@@ -1,5 +1,5 @@
--- The names that a report numbers are exactly the live ones but for the main object's, where every
--- live object is reached.
+-- A report numbers exactly the live object ids except that of the main object, if every live object
+-- is reachable.
 use Rattle.std.proofs.Common.{◌≡◌, ◌≢◌, ◌∙◌, sym, ap, subst, refl, ℕ, zero, suc, ◌+◌, ◌<◌, ◌≤◌, Bool, true, false, List}
 use Rattle.std.proofs.Common.{[], ◌∷◌, ◌++◌, length, Option, Some, None, arith}
 use Rattle.std.proofs.lemmas.Bool.{eqb-true, or_left, or_right, or_parts}
@@ -8,10 +8,10 @@ use Rattle.std.proofs.lemmas.List.Folds.{list_any-append}
 use Rattle.std.specs.Prelude.{nat_eq, is_some, ◌||◌, if◌then◌else◌}
 use Rattle.std.specs.List.{list_any}
 use Rattle.std.specs.Option.{unwrap_or, option_map}
-use Rattle.roopl_semantics.specs.Store.{Value, Word, Nil, Name, Object, Store, main_name, object_named, object_at}
-use Rattle.roopl_semantics.specs.Store.{no_object}
-use Rattle.roopl_semantics.specs.Laws.{one_if_name, holders_among, holders}
-use Rattle.roopl_semantics.specs.Report.{newly_met, walked, numbered}
+use Rattle.meaning_sound.specs.roopl_semantics.Store.{Value, Word, Nil, Name, Object, Store, main_name, object_named, object_at}
+use Rattle.meaning_sound.specs.roopl_semantics.Store.{no_object}
+use Rattle.meaning_sound.specs.roopl_semantics.Laws.{one_if_name, holders_among, holders}
+use Rattle.meaning_sound.specs.roopl_semantics.Report.{newly_met, walked, numbered}
 use Rattle.meaning_sound.specs.Sound.{head_of, is_live, Descending}
 use Rattle.meaning_sound.proofs.Stores.{same_number, other_number, differs, here, there, none_above, holders_inside}
 use Rattle.meaning_reached.proofs.Changes.{or_either, clash}
@@ -31,7 +31,7 @@ in_first xs ys n h = in_append xs ys n ∙ or_left (is_in xs n) (is_in ys n) h
 in_second : (xs ys : List ℕ) (n : ℕ) → is_in ys n ≡ true → is_in (xs ++ ys) n ≡ true
 in_second xs ys n h = in_append xs ys n ∙ or_right (is_in xs n) (is_in ys n) h
 
--- an element in the middle may stand in front
+-- an element in the middle may come first
 in_moved : (xs ys : List ℕ) (m n : ℕ) → is_in ((m ∷ xs) ++ ys) n ≡ is_in (xs ++ m ∷ ys) n
 in_moved xs ys m n = in_append (m ∷ xs) ys n ∙ by (nat_eq n m) (is_in xs n) (is_in ys n) ∙ sym (in_append xs (m ∷ ys) n)
   where

@@ -1,29 +1,29 @@
 -- Execution of a checked block keeps every live object reached.
 use Rattle.std.proofs.Common.{◌≡◌, ◌∙◌, ap, refl, ℕ, zero, suc, ◌<◌, Bool, [], ◌∷◌, List, length, Some, None}
 use Rattle.std.specs.Prelude.{not, ◌||◌, Ok}
-use Rattle.rpp_tree.specs.declared.tree.Ident.{Ident}
-use Rattle.rpp_tree.specs.Tree.{Expression, Null, Element, Object as AnObject, Ints, Objects, Whole, Item, Statement}
-use Rattle.rpp_tree.specs.Tree.{Statements, Update, Swap, If, From, Construct, Local, New, Delete, Copy, Uncopy, Call}
-use Rattle.rpp_tree.specs.Tree.{Skip, End, Then, joined, Source}
-use Rattle.class_table.specs.declared.kind.Kind.{Kind}
-use Rattle.class_table.specs.declared.kind.Kind.TheVariants as kind
-use Rattle.class_table.specs.Table.{table_of, class_of, slot_in}
-use Rattle.class_table.specs.Refusal.{type_differs, self_update}
-use Rattle.class_table.specs.Scope.{Typing, Local as ALocal, Locals, kind_of, class_kind}
-use Rattle.class_table.specs.Expressions.{and_then, occurs, place_type}
-use Rattle.class_table.specs.Statements.{Verdict, passed, required, in_turn, receiver_kind, place_class, same_kind}
-use Rattle.class_table.specs.Statements.{in_either_index, swap_rules, class_known, construct_rules, call_rules}
-use Rattle.class_table.specs.Statements.{receiver_class, slot_rules, test_rules, local_rules, with_local, with_object}
-use Rattle.class_table.specs.Statements.{check_statement, check_statements}
-use Rattle.class_table.specs.Program.{setting_in}
-use Rattle.roopl_semantics.specs.Store.{State}
-use Rattle.roopl_semantics.specs.Execution.{Setting, Runner, element_name, constructed, element_call, statement, exec}
+use Rattle.meaning_sound.specs.rpp_tree.declared.tree.Ident.{Ident}
+use Rattle.meaning_sound.specs.rpp_tree.Tree.{Expression, Null, Element, Object as AnObject, Ints, Objects, Whole, Item, Statement}
+use Rattle.meaning_sound.specs.rpp_tree.Tree.{Statements, Update, Swap, If, From, Construct, Local, New, Delete, Copy, Uncopy, Call}
+use Rattle.meaning_sound.specs.rpp_tree.Tree.{Skip, End, Then, joined, Source}
+use Rattle.meaning_sound.specs.class_table.declared.kind.Kind.{Kind}
+use Rattle.meaning_sound.specs.class_table.declared.kind.Kind.TheVariants as kind
+use Rattle.meaning_sound.specs.class_table.Table.{table_of, class_of, slot_in}
+use Rattle.meaning_sound.specs.class_table.Refusal.{type_differs, self_update}
+use Rattle.meaning_sound.specs.class_table.Scope.{Typing, Local as ALocal, Locals, kind_of, class_kind}
+use Rattle.meaning_sound.specs.class_table.Expressions.{and_then, occurs, place_type}
+use Rattle.meaning_sound.specs.class_table.Statements.{Verdict, passed, required, in_turn, receiver_kind, place_class, same_kind}
+use Rattle.meaning_sound.specs.class_table.Statements.{in_either_index, swap_rules, class_known, construct_rules, call_rules}
+use Rattle.meaning_sound.specs.class_table.Statements.{receiver_class, slot_rules, test_rules, local_rules, with_local, with_object}
+use Rattle.meaning_sound.specs.class_table.Statements.{check_statement, check_statements}
+use Rattle.meaning_sound.specs.class_table.Program.{setting_in}
+use Rattle.meaning_sound.specs.roopl_semantics.Store.{State}
+use Rattle.meaning_sound.specs.roopl_semantics.Execution.{Setting, Runner, element_name, constructed, element_call, statement, exec}
 use Rattle.meaning_sound.specs.Sound.{Sound, Keeps}
 use Rattle.meaning_sound.specs.Plain.{HasWords, IsNamed, HasNames, AreNamed, StatementIsPlain, IsPlain}
 use Rattle.meaning_sound.specs.Kept.{MeansSame}
 use Rattle.meaning_sound.proofs.Classes.{KnowsClasses}
 use Rattle.meaning_sound.proofs.Runs.{Ends, ends_after, ends_then}
-use Rattle.class_table.proofs.PassedRules.{both_passed, in_turn_passes, required_passes, hands_on, same_as_itself}
+use Rattle.meaning_sound.proofs.class_table_laws.PassedRules.{both_passed, in_turn_passes, required_passes, hands_on, same_as_itself}
 use Rattle.meaning_sound.proofs.Blocks.{KeepsAll}
 use Rattle.meaning_sound.proofs.Locals.{local_parts, nil_end, no_int_class, type_of_under}
 use Rattle.meaning_sound.proofs.Undone.{check_joined, plain_joined}

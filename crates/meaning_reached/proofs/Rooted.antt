@@ -1,24 +1,24 @@
 -- Places that a statement names are rooted, and what writes do to closed sets.
 use Rattle.std.proofs.Common.{◌≡◌, ◌∙◌, sym, ap, subst, refl, ℕ, ◌<◌, Bool, true, false, List, length, Some, arith}
 use Rattle.std.specs.Prelude.{Result, Ok, Err, nat_lt, if◌then◌else◌}
-use Rattle.rpp_tree.specs.declared.tree.Ident.{Ident}
-use Rattle.rpp_tree.specs.Tree.{Lvalue, Whole, Item, Source}
-use Rattle.class_table.specs.declared.kind.Kind.{Kind}
-use Rattle.class_table.specs.declared.kind.Kind.TheVariants as kind
-use Rattle.class_table.specs.Table.{table_of}
-use Rattle.class_table.specs.Scope.{Typing, Locals, kind_in}
-use Rattle.class_table.specs.Expressions.{element_kind, element_of as element_type, index_is_int, variable_type}
-use Rattle.class_table.specs.Expressions.{type_of, place_type, first_token}
-use Rattle.class_table.specs.Program.{setting_in}
-use Rattle.roopl_semantics.specs.Store.{Value, Word, Nil, Name, Store, State, number_of, object_at}
-use Rattle.roopl_semantics.specs.Value.{Cell, Slot, Part, read, written, cell_named, variable_value, element_cell}
-use Rattle.roopl_semantics.specs.Value.{element_of, value, cell_of, index_fault}
-use Rattle.roopl_semantics.specs.Execution.{Setting, same_cell}
+use Rattle.meaning_sound.specs.rpp_tree.declared.tree.Ident.{Ident}
+use Rattle.meaning_sound.specs.rpp_tree.Tree.{Lvalue, Whole, Item, Source}
+use Rattle.meaning_sound.specs.class_table.declared.kind.Kind.{Kind}
+use Rattle.meaning_sound.specs.class_table.declared.kind.Kind.TheVariants as kind
+use Rattle.meaning_sound.specs.class_table.Table.{table_of}
+use Rattle.meaning_sound.specs.class_table.Scope.{Typing, Locals, kind_in}
+use Rattle.meaning_sound.specs.class_table.Expressions.{element_kind, element_of as element_type, index_is_int, variable_type}
+use Rattle.meaning_sound.specs.class_table.Expressions.{type_of, place_type, first_token}
+use Rattle.meaning_sound.specs.class_table.Program.{setting_in}
+use Rattle.meaning_sound.specs.roopl_semantics.Store.{Value, Word, Nil, Name, Store, State, number_of, object_at}
+use Rattle.meaning_sound.specs.roopl_semantics.Value.{Cell, Slot, Part, read, written, cell_named, variable_value, element_cell}
+use Rattle.meaning_sound.specs.roopl_semantics.Value.{element_of, value, cell_of, index_fault}
+use Rattle.meaning_sound.specs.roopl_semantics.Execution.{Setting, same_cell}
 use Rattle.meaning_sound.specs.Sound.{cell_kind, Typed}
 use Rattle.meaning_sound.specs.Kept.{MeansSame}
 use Rattle.meaning_sound.proofs.Classes.{KnowsClasses}
 use Rattle.meaning_sound.proofs.Names.{IsMeant, variable, field, meant}
-use Rattle.class_table.proofs.PassedRules.{handed_on, some_of}
+use Rattle.meaning_sound.proofs.class_table_laws.PassedRules.{handed_on, some_of}
 use Rattle.meaning_sound.proofs.Makes.{is_array}
 use Rattle.meaning_sound.proofs.Values.{variable_fits}
 use Rattle.meaning_sound.proofs.AfterWrites.{same_cell_is, read_other}
@@ -32,7 +32,7 @@ array_of_element (kind.Class c) k h = absurd (cc)
 array_of_element kind.IntArray k h = (refl, let e : kind.Int ≡ k = cc in ap is_array (sym e))
 array_of_element (kind.ClassArray c) k h = (refl, let e : kind.Class c ≡ k = cc in ap is_array (sym e))
 
--- a place that a statement can name: the frame's or the present object's, or an element of an array
+-- a place that a statement can name: the frame's or the current object's, or an element of an array
 -- that such a place holds
 pub data IsVisible (program : Source) (shape : Locals) (st : State) (k : Kind) : Cell → Type 0 where
   own : (cell : Cell) → IsOwn st.self cell → IsVisible program shape st k cell
@@ -121,7 +121,7 @@ pub own_rooted : (names : ℕ → Bool) (extra : ℕ → ℕ) (st : State) (self
 own_rooted names extra st self (Slot i) c h o = refl
 own_rooted names extra st self (Part n i) c h o = c.extras n (let e = ap extra o in omega arith)
 
--- a place that was visible is rooted in a state in which arrays stand where they stood
+-- an lvalue that was visible is rooted in a state in which the references to arrays are as before
 pub visible_rooted : (program : Source) (shape : Locals) (names : ℕ → Bool) (extra : ℕ → ℕ) (st end : State) (k : Kind)
     (cell : Cell) → IsVisible program shape st k cell → 0 < extra st.self
     → ((holder : Cell) (array : Kind) → cell_kind program shape st.store holder ≡ Some array → is_array array ≡ true
@@ -134,7 +134,7 @@ visible_rooted p shape names extra st end k cell (element holder array n i o ha 
     let there = stays holder array ha a.0 a.1 ∙ r in
     ap (is_within names) (sym there) ∙ closed.cells holder (own_rooted names extra end st.self holder closed h o)
 
--- a set that is closed after a write was so before, where it has what the cell held
+-- a set that is closed after a write was so before, if it has what the cell held
 pub closed_before : (names : ℕ → Bool) (extra : ℕ → ℕ) (st : State) (cell : Cell) (v : Value)
     → (is_rooted names cell ≡ true → is_within names (read st cell) ≡ true) → IsClosed names extra (written st cell v)
     → IsClosed names extra st

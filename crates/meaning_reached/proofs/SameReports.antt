@@ -1,4 +1,4 @@
--- Stores that agree have one report where no name stands twice.
+-- Isomorphic stores have one report if no object id occurs twice.
 use Rattle.std.proofs.Common.{◌≡◌, ℕ, zero, suc, ◌+◌, ◌-◌, refl, sym, ap, subst, ◌∙◌, true, false, Bool, not, ◌||◌}
 use Rattle.std.proofs.Common.{List, [], ◌∷◌, ◌++◌, length, map, Option, Some, None, option_map, unwrap_or, nat_eq}
 use Rattle.std.proofs.Common.{nat_lt, cond, if◌then◌else◌, eqb-true, eq-eqb, ne_eqb, position, codes, arith}
@@ -6,22 +6,21 @@ use Rattle.std.proofs.lemmas.Bool.{eqb-false}
 use Rattle.std.proofs.lemmas.List.{map-append}
 use Rattle.std.specs.List.{list_any, position_or_len}
 use Rattle.std.specs.Fmt.{decimal}
-use Rattle.rpp_tree.specs.declared.tree.Var.{Var}
-use Rattle.rpp_tree.specs.Tree.{Source}
-use Rattle.class_table.specs.Classes.{class_fields}
-use Rattle.roopl_semantics.specs.Store.{Value, Word, Nil, Name, Head, OfClass, OfInts, OfObjects, Object, Store}
-use Rattle.roopl_semantics.specs.Store.{main_name, object_named, object_at, no_object, without}
-use Rattle.roopl_semantics.specs.Source.{main_fields}
-use Rattle.roopl_semantics.specs.Agreement.{Agree, renamed, renamed_object}
-use Rattle.roopl_semantics.specs.Report.{Text, newly_met, walked, numbered, number_shown, value_shown, field_lines}
-use Rattle.roopl_semantics.specs.Report.{element_lines, head_shown, cell_lines, object_lines, live_line, objects_shown}
-use Rattle.roopl_semantics.specs.Report.{live_count, report}
-use Rattle.rpp_words.specs.Texts.{line_end}
-use Rattle.roopl_semantics.specs.Laws.{HasNamesOnce as IsUnique}
-use Rattle.meaning_sound.specs.Sound.{Descending}
-use Rattle.meaning_sound.proofs.Stores.{without_other, differs, none_above}
+use Rattle.meaning_sound.specs.rpp_tree.declared.tree.Var.{Var}
+use Rattle.meaning_sound.specs.rpp_tree.Tree.{Source}
+use Rattle.meaning_sound.specs.class_table.Classes.{class_fields}
+use Rattle.meaning_sound.specs.roopl_semantics.Store.{Value, Word, Nil, Name, Head, OfClass, OfInts, OfObjects, Object, Store}
+use Rattle.meaning_sound.specs.roopl_semantics.Store.{main_name, object_named, object_at, no_object, without}
+use Rattle.meaning_sound.specs.roopl_semantics.Source.{main_fields}
+use Rattle.meaning_sound.specs.roopl_semantics.Agreement.{Agree, renamed, renamed_object}
+use Rattle.meaning_sound.specs.roopl_semantics.Report.{Text, newly_met, walked, numbered, number_shown, value_shown, field_lines}
+use Rattle.meaning_sound.specs.roopl_semantics.Report.{element_lines, head_shown, cell_lines, object_lines, live_line, objects_shown}
+use Rattle.meaning_sound.specs.roopl_semantics.Report.{live_count, report}
+use Rattle.meaning_sound.specs.rpp_words.Texts.{line_end}
+use Rattle.meaning_sound.specs.roopl_semantics.Laws.{HasNamesOnce as IsUnique}
+use Rattle.meaning_sound.proofs.Stores.{without_other, differs}
 
--- ---- where no name stands twice
+-- ---- if no object id occurs twice
 
 none_without : (store : Store) (n m : ℕ) → object_named store m ≡ None → object_named (without store n) m ≡ None
 none_without [] n m e = refl
@@ -52,11 +51,6 @@ unique_without ((k, o) ∷ store) n u = by (unique_without store n u.1) (nat_eq 
     by : IsUnique (without store n) → (s : Bool) → IsUnique (if s then store else (k, o) ∷ without store n)
     by again true = u.1
     by again false = (none_without store n k u.0, again)
-
--- where names descend, none stands twice
-pub names_once : (bound : ℕ) (store : Store) → Descending bound store → IsUnique store
-names_once bound [] d = tt
-names_once bound ((n, o) ∷ store) d = (none_above n store n d.1 (omega arith), names_once n store d.1)
 
 length_without : (store : Store) (n : ℕ) (o : Object) → object_named store n ≡ Some o
     → length store ≡ suc (length (without store n))
@@ -247,7 +241,7 @@ module _ (f back : ℕ → ℕ) (there_and_back : (n : ℕ) → back (f n) ≡ n
       report_alike program = sym (ap (λ t. t ++ live_line (live_count second)) (shown_alike program)
           ∙ ap (λ n. objects_shown program first ++ live_line (n - 1)) (sym same))
 
--- stores that agree have the same report, where no name stands twice
+-- isomorphic stores have the same report, if no object id occurs twice
 pub same_reports : (program : Source) (first second : Store) → IsUnique first → IsUnique second → Agree first second
     → report program first ≡ report program second
 same_reports program first second u v agree =

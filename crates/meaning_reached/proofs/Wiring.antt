@@ -1,45 +1,45 @@
--- Each form of statement keeps every live object reached, where the blocks inside it do.
+-- Each form of statement keeps every live object reached, if the blocks inside it do.
 use Rattle.std.proofs.Common.{◌≡◌, ◌∙◌, sym, ap, subst, refl, ℕ, zero, suc, ◌+◌, ◌<◌, Bool, true, false, List, [], ◌∷◌}
 use Rattle.std.proofs.Common.{map, length, Some, None, arith}
 use Rattle.std.proofs.lemmas.Bool.{or_left}
 use Rattle.std.proofs.lemmas.List.{length-map, length-replicate}
 use Rattle.std.specs.Prelude.{nat_eq, nat_lt, is_none, not, ◌&&◌, ◌||◌, ◌++◌, if◌then◌else◌, replicate, Ok}
 use Rattle.std.specs.Option.{unwrap_or}
-use Rattle.rpp_words.specs.Words.{is_less}
-use Rattle.rpp_tree.specs.declared.tree.Ident.{Ident}
-use Rattle.rpp_tree.specs.declared.tree.Var.{Var}
-use Rattle.rpp_tree.specs.declared.tree.VarType.{VarType}
-use Rattle.rpp_tree.specs.declared.tree.UpdateOp.{UpdateOp}
-use Rattle.rpp_tree.specs.Tree.{Expression, Lvalue, Whole, Object as AnObject, Ints, Objects, Statements, Update, Swap}
-use Rattle.rpp_tree.specs.Tree.{If, From, New, Delete, Copy, Uncopy, Call, Source, nodes, index_nodes}
-use Rattle.class_table.specs.declared.kind.Kind.{Kind}
-use Rattle.class_table.specs.declared.kind.Kind.TheVariants as kind
-use Rattle.class_table.specs.Classes.{class_fields, class_number, method_named}
-use Rattle.class_table.specs.Overrides.{parameters_of}
-use Rattle.class_table.specs.Table.{table_of, dispatch_in}
-use Rattle.class_table.specs.Refusal.{type_differs, unknown_name}
-use Rattle.class_table.specs.Scope.{Typing, Local, Locals, kind_in}
-use Rattle.class_table.specs.Expressions.{is_int, type_of, place_type}
-use Rattle.class_table.specs.Statements.{passed, required, same_kind, update_rules, swap_rules, make_rules, copy_rules}
-use Rattle.class_table.specs.Statements.{call_rules, check_statements}
-use Rattle.class_table.specs.Program.{setting_in}
-use Rattle.buddy_book.specs.Place.{count_taken, place}
-use Rattle.roopl_semantics.specs.Operators.{updated}
-use Rattle.roopl_semantics.specs.Run.{Run, ◌>>=◌, give, spend, fault_if}
-use Rattle.roopl_semantics.specs.Store.{Value, Word, Nil, Name, Head, OfClass, OfInts, OfObjects, Store, State}
-use Rattle.roopl_semantics.specs.Store.{number_of, is_nil, same_value, zero_value, zero_values, object_at}
-use Rattle.roopl_semantics.specs.Value.{Cell, Slot, read, written, own_class, cell_named, value_at, value as value_in}
-use Rattle.roopl_semantics.specs.Value.{cell_of, nil_fault}
-use Rattle.roopl_semantics.specs.Execution.{Setting, Runner, holds, loop_fault, fi_fault, delocal_fault, not_nil_fault}
-use Rattle.roopl_semantics.specs.Execution.{count_fault, not_empty_fault, heap_full_fault, class_differs_fault}
-use Rattle.roopl_semantics.specs.Execution.{length_differs_fault, length_fault, not_same_fault, too_deep_fault}
-use Rattle.roopl_semantics.specs.Execution.{same_cell, is_of_class, all_zero, allocated, freed, counted, one_less}
-use Rattle.roopl_semantics.specs.Execution.{new_array, delete_array, order_of_cells, opened, closed, with_local}
-use Rattle.roopl_semantics.specs.Execution.{turn_end, turns, cells_named, class_of, is_too_deep, invoked, statement}
-use Rattle.roopl_semantics.specs.Elements.{shared_array_fault, elements, index_elements, own_element, share_array}
-use Rattle.roopl_semantics.specs.Elements.{read_cost}
-use Rattle.roopl_semantics.specs.Laws.{one_if_name}
-use Rattle.class_table.specs.Inheritance.{kind_of_var}
+use Rattle.meaning_sound.specs.rpp_words.Words.{is_less}
+use Rattle.meaning_sound.specs.rpp_tree.declared.tree.Ident.{Ident}
+use Rattle.meaning_sound.specs.rpp_tree.declared.tree.Var.{Var}
+use Rattle.meaning_sound.specs.rpp_tree.declared.tree.VarType.{VarType}
+use Rattle.meaning_sound.specs.rpp_tree.declared.tree.UpdateOp.{UpdateOp}
+use Rattle.meaning_sound.specs.rpp_tree.Tree.{Expression, Lvalue, Whole, Object as AnObject, Ints, Objects, Statements, Update, Swap}
+use Rattle.meaning_sound.specs.rpp_tree.Tree.{If, From, New, Delete, Copy, Uncopy, Call, Source, nodes, index_nodes}
+use Rattle.meaning_sound.specs.class_table.declared.kind.Kind.{Kind}
+use Rattle.meaning_sound.specs.class_table.declared.kind.Kind.TheVariants as kind
+use Rattle.meaning_sound.specs.class_table.Classes.{class_fields, class_number, method_named}
+use Rattle.meaning_sound.specs.class_table.Overrides.{parameters_of}
+use Rattle.meaning_sound.specs.class_table.Table.{table_of, dispatch_in}
+use Rattle.meaning_sound.specs.class_table.Refusal.{type_differs, unknown_name}
+use Rattle.meaning_sound.specs.class_table.Scope.{Typing, Local, Locals, kind_in}
+use Rattle.meaning_sound.specs.class_table.Expressions.{is_int, type_of, place_type}
+use Rattle.meaning_sound.specs.class_table.Statements.{passed, required, same_kind, update_rules, swap_rules, make_rules, copy_rules}
+use Rattle.meaning_sound.specs.class_table.Statements.{call_rules, check_statements}
+use Rattle.meaning_sound.specs.class_table.Program.{setting_in}
+use Rattle.meaning_sound.specs.buddy_book.Place.{count_taken, place}
+use Rattle.meaning_sound.specs.roopl_semantics.Operators.{updated}
+use Rattle.meaning_sound.specs.roopl_semantics.Run.{Run, ◌>>=◌, give, spend, fault_if}
+use Rattle.meaning_sound.specs.roopl_semantics.Store.{Value, Word, Nil, Name, Head, OfClass, OfInts, OfObjects, Store, State}
+use Rattle.meaning_sound.specs.roopl_semantics.Store.{number_of, is_nil, same_value, zero_value, zero_values, object_at}
+use Rattle.meaning_sound.specs.roopl_semantics.Value.{Cell, Slot, read, written, own_class, cell_named, value_at, value as value_in}
+use Rattle.meaning_sound.specs.roopl_semantics.Value.{cell_of, nil_fault}
+use Rattle.meaning_sound.specs.roopl_semantics.Execution.{Setting, Runner, holds, loop_fault, fi_fault, delocal_fault, not_nil_fault}
+use Rattle.meaning_sound.specs.roopl_semantics.Execution.{count_fault, not_empty_fault, heap_full_fault, class_differs_fault}
+use Rattle.meaning_sound.specs.roopl_semantics.Execution.{length_differs_fault, length_fault, not_same_fault, too_deep_fault}
+use Rattle.meaning_sound.specs.roopl_semantics.Execution.{same_cell, is_of_class, all_zero, allocated, freed, counted, one_less}
+use Rattle.meaning_sound.specs.roopl_semantics.Execution.{new_array, delete_array, order_of_cells, opened, closed, with_local}
+use Rattle.meaning_sound.specs.roopl_semantics.Execution.{turn_end, turns, cells_named, class_of, is_too_deep, invoked, statement}
+use Rattle.meaning_sound.specs.roopl_semantics.Elements.{shared_array_fault, elements, index_elements, own_element, share_array}
+use Rattle.meaning_sound.specs.roopl_semantics.Elements.{read_cost}
+use Rattle.meaning_sound.specs.roopl_semantics.Laws.{one_if_name}
+use Rattle.meaning_sound.specs.class_table.Inheritance.{kind_of_var}
 use Rattle.meaning_sound.specs.Sound.{fits, cell_kinds, AllFit, cell_kind, Sound, Keeps, Typed}
 use Rattle.meaning_sound.specs.Plain.{IsPlain}
 use Rattle.meaning_sound.specs.Kept.{MeansSame}
@@ -48,8 +48,8 @@ use Rattle.meaning_sound.proofs.Cells.{typed_of, read_fits, typed_written, kind_
 use Rattle.meaning_sound.proofs.Classes.{KnowsClasses}
 use Rattle.meaning_sound.proofs.Names.{is_object, cell_named_kind, meant}
 use Rattle.meaning_sound.proofs.Runs.{Ends, ends_after, ends_then, ends_check, ends_checked, ends_given}
-use Rattle.class_table.proofs.PassedRules.{handed_on, both_passed, held as was_held, both_true, int_kind, kinds_same}
-use Rattle.class_table.proofs.PassedRules.{some_of}
+use Rattle.meaning_sound.proofs.class_table_laws.PassedRules.{handed_on, both_passed, held as was_held, both_true, int_kind, kinds_same}
+use Rattle.meaning_sound.proofs.class_table_laws.PassedRules.{some_of}
 use Rattle.meaning_sound.proofs.Values.{int_value, cell_found, place_fits}
 use Rattle.meaning_sound.proofs.Writes.{nil_is}
 use Rattle.meaning_sound.proofs.Blocks.{KeepsAll}
@@ -239,7 +239,7 @@ module _ (setting : Setting) (classes : KnowsClasses setting.program) (run : Run
       let tb = bigger_typed setting extra shape class st head cells t fit
       (second (nat_lt setting.limits.heap (order_of_cells (length (cell_kinds program head)))) q) in
       grown_reaches setting extra shape class st (2 + count_taken st.log)
-      (Rattle.roopl_semantics.specs.Execution.new_object head cells) big.log cell k v s.self_held
+      (Rattle.meaning_sound.specs.roopl_semantics.Execution.new_object head cells) big.log cell k v s.self_held
       (none_above (2 + count_taken st.log) st.store (2 + count_taken st.log) s.fresh (omega arith)) tb
       (cell_bigger setting extra shape class st head cells cell k t h)
       (λ holder array ha. (
@@ -518,7 +518,7 @@ module _ (setting : Setting) (classes : KnowsClasses setting.program) (run : Run
           apart_cells setting classes run keeps extra locals shape class inside means st name cell args
               cell_meant mean (apart_after (name ∷ []) args name p.new
               (or_left (Rattle.std.specs.Str.bytes_eq name.text name.text) false
-              (Rattle.class_table.proofs.FirstPlaces.equal_name name.text name.text refl))),
+              (Rattle.meaning_sound.proofs.class_table_laws.FirstPlaces.equal_name name.text name.text refl))),
           all_apart_cells setting classes run keeps extra locals shape class inside means st args mean
               (all_apart_after (name ∷ []) args p.new),
         );

@@ -1,21 +1,21 @@
 -- At the end of every accepted program each live object is reached: the laws.
 use Rattle.std.specs.Prelude.{◌≡◌, ◌≢◌, ◌<◌, ℕ, true, false, List, length, nat_eq}
 use Rattle.std.specs.List.{list_any}
-use Rattle.rpp_words.specs.declared.input.FieldWord.{FieldWord}
-use Rattle.rpp_words.specs.declared.input.Limits.{Limits}
-use Rattle.rpp_tree.specs.Tree.{Statements, Source}
-use Rattle.class_table.specs.Scope.{Locals}
-use Rattle.class_table.specs.Table.{table_of}
-use Rattle.class_table.specs.Statements.{passed, check_statements}
-use Rattle.class_table.specs.Program.{IsAccepted, setting_in}
-use Rattle.roopl_semantics.specs.Run.{Done}
-use Rattle.roopl_semantics.specs.Store.{Store, State, main_name}
-use Rattle.roopl_semantics.specs.Execution.{exec}
-use Rattle.roopl_semantics.specs.Source.{IsValid, source}
-use Rattle.rpp_words.specs.Limits.{IsLimits}
-use Rattle.roopl_semantics.specs.Report.{numbered, live_count, report}
-use Rattle.roopl_semantics.specs.Layout.{is_plain}
-use Rattle.roopl_semantics.specs.Walk.{run_report}
+use Rattle.meaning_sound.specs.rpp_words.declared.input.FieldWord.{FieldWord}
+use Rattle.meaning_sound.specs.rpp_words.declared.input.Limits.{Limits}
+use Rattle.meaning_sound.specs.rpp_tree.Tree.{Statements, Source}
+use Rattle.meaning_sound.specs.class_table.Scope.{Locals}
+use Rattle.meaning_sound.specs.class_table.Table.{table_of}
+use Rattle.meaning_sound.specs.class_table.Statements.{passed, check_statements}
+use Rattle.meaning_sound.specs.class_table.Program.{IsAccepted, setting_in}
+use Rattle.meaning_sound.specs.roopl_semantics.Run.{Done}
+use Rattle.meaning_sound.specs.roopl_semantics.Store.{Store, State, main_name}
+use Rattle.meaning_sound.specs.roopl_semantics.Execution.{exec}
+use Rattle.meaning_sound.specs.roopl_semantics.Source.{IsValid, source}
+use Rattle.meaning_sound.specs.rpp_words.Limits.{IsLimits}
+use Rattle.meaning_sound.specs.roopl_semantics.Report.{numbered, live_count, report}
+use Rattle.meaning_sound.specs.roopl_semantics.Layout.{is_plain}
+use Rattle.meaning_sound.specs.roopl_semantics.Walk.{run_report}
 use Rattle.meaning_sound.specs.Sound.{is_live, Sound}
 use Rattle.meaning_sound.specs.Plain.{IsPlain}
 use Rattle.meaning_sound.specs.Kept.{MeansSame}

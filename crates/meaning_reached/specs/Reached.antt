@@ -1,8 +1,8 @@
 -- What a state reaches: each live object is in every set of names that holds the roots and what
 -- cells of its objects hold.
 use Rattle.std.specs.Prelude.{◌≡◌, ◌<◌, ℕ, Bool, true}
-use Rattle.roopl_semantics.specs.Store.{Value, Word, Nil, Name, State}
-use Rattle.roopl_semantics.specs.Value.{Cell, Slot, Part, read}
+use Rattle.meaning_sound.specs.roopl_semantics.Store.{Value, Word, Nil, Name, State}
+use Rattle.meaning_sound.specs.roopl_semantics.Value.{Cell, Slot, Part, read}
 use Rattle.meaning_sound.specs.Sound.{is_live}
 
 -- whether a value names only what is in the set

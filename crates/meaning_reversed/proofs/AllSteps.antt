@@ -1,12 +1,12 @@
 -- Each step from the beginning of a typed block in a good state is undone.
 use Rattle.std.proofs.Common.{◌≡◌, ℕ, zero, suc, ◌+◌, ◌≤◌, arith, refl, sym, ap, subst, List, Some, None}
-use Rattle.rpp_tree.specs.Tree.{Statement, Statements, Update, Swap, If, From, Construct, Local, New, Delete, Copy}
-use Rattle.rpp_tree.specs.Tree.{Uncopy, Call, Skip, Whole, Item, End, Then}
-use Rattle.buddy_book.specs.Place.{count_taken}
-use Rattle.roopl_semantics.specs.Run.{Done}
-use Rattle.roopl_semantics.specs.Store.{State}
-use Rattle.roopl_semantics.specs.Execution.{Setting}
-use Rattle.meaning_sound.specs.Sound.{Descending}
+use Rattle.meaning_machine.specs.rpp_tree.Tree.{Statement, Statements, Update, Swap, If, From, Construct, Local, New, Delete, Copy}
+use Rattle.meaning_machine.specs.rpp_tree.Tree.{Uncopy, Call, Skip, Whole, Item, End, Then}
+use Rattle.meaning_machine.specs.buddy_book.Place.{count_taken}
+use Rattle.meaning_machine.specs.roopl_semantics.Run.{Done}
+use Rattle.meaning_machine.specs.roopl_semantics.Store.{State}
+use Rattle.meaning_machine.specs.roopl_semantics.Execution.{Setting}
+use Rattle.meaning_inverse.specs.meaning_sound.Sound.{Descending}
 use Rattle.meaning_machine.specs.Machine.{Config, Open, begun, next}
 use Rattle.meaning_machine.specs.MachineLaws.{gone, before}
 use Rattle.meaning_inverse.proofs.Runs.{runs_end, runs_then}
@@ -31,7 +31,7 @@ module _ (setting : Setting) (G : Ground setting)
     abbrev On : Statement → Type 0
     On s = OnPast setting k s st (before (Then s past) rest params around)
 
-    -- a call, its method, and all that comes behind it
+    -- a call, its method, and all that comes after it
     through : (s : Statement) → ((y : Config) (c : ℕ) → next setting (here s) ≡ Done y c
         → CallOpened setting G past rest params around st s y) → On s
         → Ends (next setting (here s)) (Leads setting k (here s))
@@ -59,7 +59,7 @@ module _ (setting : Setting) (G : Ground setting)
         ends_spent 1 (begun setting (here s) s rest) (Leads setting k (here s))
         (simple_back setting G k C past rest params around st s simple typed good on)
 
-    -- a statement, and all that comes behind it
+    -- a statement, and all that comes after it
     statement_back : (s : Statement) → G.Typed C (Then s End) → On s
         → Ends (next setting (here s)) (Leads setting k (here s))
     statement_back (Update at op target value) typed on = simply_back (Update at op target value) tt typed on

@@ -1,11 +1,11 @@
--- Choices and loops, each of their steps taken back.
+-- Choices and loops, each of their steps undone.
 use Rattle.std.proofs.Common.{◌≡◌, ℕ, zero, suc, ◌+◌, ◌≤◌, ◌∙◌, arith, refl, ap, Bool, true, false, not, List, ◌∷◌}
 use Rattle.std.proofs.Common.{if◌then◌else◌}
-use Rattle.rpp_tree.specs.Tree.{Expression, Statement, Statements, If, From, End, Then, nodes}
-use Rattle.roopl_semantics.specs.Run.{Done, ◌>>=◌, give, fault_if}
-use Rattle.roopl_semantics.specs.Store.{Value, State}
-use Rattle.roopl_semantics.specs.Value.{evaluated}
-use Rattle.roopl_semantics.specs.Execution.{Setting, exec, holds, fi_fault, loop_fault, turn_end, turns}
+use Rattle.meaning_machine.specs.rpp_tree.Tree.{Expression, Statement, Statements, If, From, End, Then, nodes}
+use Rattle.meaning_machine.specs.roopl_semantics.Run.{Done, ◌>>=◌, give, fault_if}
+use Rattle.meaning_machine.specs.roopl_semantics.Store.{Value, State}
+use Rattle.meaning_machine.specs.roopl_semantics.Value.{evaluated}
+use Rattle.meaning_machine.specs.roopl_semantics.Execution.{Setting, exec, holds, fi_fault, loop_fault, turn_end, turns}
 use Rattle.meaning_machine.specs.Machine.{Open, Chosen, First, Again, inside, turned_first, left}
 use Rattle.meaning_machine.specs.Machine.{begun}
 use Rattle.meaning_machine.specs.MachineLaws.{gone, before}
@@ -36,13 +36,13 @@ module _ (setting : Setting) where
         (passes fi_fault (if holds v then not (holds w) else holds w) agree) refl refl) (omega arith)) refl) refl;
   }
 
-  -- turns of a loop with any fuel from their cost on
+  -- iterations of a loop with any fuel from their cost on
   record Turns (entry : Expression) (one two : Statements) (exit : Expression) (st end : State) (cost : ℕ) : Type 0
     where
       by : (m i : ℕ) → cost ≤ m → cost ≤ i → turns setting i (exec setting m) entry one two exit st ≡ Done end cost
 
   module _ (entry : Expression) (one two : Statements) (exit : Expression) where
-    -- the last turn
+    -- the last iteration
     turn_last : (st end : State) (v : Value) (cost : ℕ) → Runs setting one st end cost
         → evaluated setting.program exit end ≡ Done v (nodes exit) → holds v ≡ true
         → Turns entry one two exit st end (cost + nodes exit)
@@ -57,7 +57,7 @@ module _ (setting : Setting) where
             (ap (λ t. turn_end setting (exec setting m) entry two
             (turns setting i (exec setting m) entry one two exit) t end) out) (omega arith)) refl
 
-    -- one turn more
+    -- one iteration more
     turn_more : (st mid next end : State) (v w : Value) (c d cost : ℕ) → Runs setting one st mid c
         → evaluated setting.program exit mid ≡ Done v (nodes exit) → holds v ≡ false → Runs setting two mid next d
         → evaluated setting.program entry next ≡ Done w (nodes entry) → holds w ≡ false
@@ -101,7 +101,7 @@ module _ (setting : Setting) where
     chosen_typed true taken other k = k.0
     chosen_typed false taken other k = k.1
 
-    -- a choice, and all that comes behind it
+    -- a choice, and all that comes after it
     pub if_back : (k : ℕ) → k ≤ n → (st : State) (at : ℕ) (test : Expression) (taken other : Statements)
         (last : Expression)
         → let s = If at test taken other last in let x = before past (Then s rest) params around st in
@@ -147,7 +147,7 @@ module _ (setting : Setting) where
       abbrev in_two : Open
       in_two = record { past = past; here = loop; rest = rest; part = Again entry one two exit }
 
-      -- the turns of a loop, and all that comes behind it
+      -- the iterations of a loop, and all that comes after it
       loop_back : (bound : ℕ) (k : ℕ) → k ≤ bound → k ≤ n → (st : State) → G.Good C st
           → ((i : ℕ) → i ≤ k → (end : State) (cost : ℕ) → Turns entry one two exit st end cost
           → AllBack setting i (before (Then loop past) rest params around end))
@@ -208,7 +208,7 @@ module _ (setting : Setting) where
                     ))))),
               )
 
-      -- a loop, and all that comes behind it
+      -- a loop, and all that comes after it
       pub from_back : (k : ℕ) → k ≤ n → (st : State) → G.Good C st
           → OnPast setting k loop st (before (Then loop past) rest params around)
           → let x = before past (Then loop rest) params around st in

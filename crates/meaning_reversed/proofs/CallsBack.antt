@@ -5,15 +5,15 @@ use Rattle.std.proofs.Common.{List}
 use Rattle.std.proofs.Common.{◌∷◌, ◌++◌, length, map, take, length-append}
 use Rattle.std.proofs.lemmas.List.{length-map, map-append, append_cancel_left}
 use Rattle.std.proofs.Math.Seq.{take-append_seam}
-use Rattle.rpp_tree.specs.Tree.{Statement, Statements, End, Then, Procedure}
-use Rattle.stmt_inverter.specs.Inverse.{inverse_statement, inverse}
-use Rattle.stmt_inverter.proofs.Inverses.{inverse-twice}
-use Rattle.roopl_semantics.specs.Run.{Done, after_cost, give}
-use Rattle.roopl_semantics.specs.Store.{Value, Binding, State}
-use Rattle.roopl_semantics.specs.Value.{Cell, read}
-use Rattle.roopl_semantics.specs.Execution.{Setting, statement, exec, bound, moved_out, moved_back}
-use Rattle.roopl_semantics.specs.Execution.{in_direction}
-use Rattle.roopl_semantics.specs.Execution.{invoked}
+use Rattle.meaning_machine.specs.rpp_tree.Tree.{Statement, Statements, End, Then, Procedure}
+use Rattle.meaning_inverse.specs.stmt_inverter.Inverse.{inverse_statement, inverse}
+use Rattle.meaning_machine.proofs.stmt_inverter_laws.Inverses.{inverse-twice}
+use Rattle.meaning_machine.specs.roopl_semantics.Run.{Done, after_cost, give}
+use Rattle.meaning_machine.specs.roopl_semantics.Store.{Value, Binding, State}
+use Rattle.meaning_machine.specs.roopl_semantics.Value.{Cell, read}
+use Rattle.meaning_machine.specs.roopl_semantics.Execution.{Setting, statement, exec, bound, moved_out, moved_back}
+use Rattle.meaning_machine.specs.roopl_semantics.Execution.{in_direction}
+use Rattle.meaning_machine.specs.roopl_semantics.Execution.{invoked}
 use Rattle.meaning_machine.specs.Machine.{Config, Open, Calling, entered, next}
 use Rattle.meaning_machine.specs.MachineLaws.{before}
 use Rattle.meaning_machine.specs.Turned.{each_undone, turned_open, turn, unwound}
@@ -29,7 +29,7 @@ use Rattle.meaning_machine.specs.Reversed.{begun_back}
 use Rattle.meaning_reversed.specs.ReverseLaws.{LeadsTo, is_over}
 use Rattle.meaning_reversed.proofs.Undoing.{undone_block}
 
--- the step out of a method: it comes behind the call, which has run, and is undone
+-- the step out of a method: it leads past the call, which has run, and is undone
 pub record CallLeft (setting : Setting) (past rest : Statements) (params : ℕ) (around : List Open)
     (st : State)
     (s : Statement) (x z : Config) : Type 0 where
@@ -39,8 +39,8 @@ pub record CallLeft (setting : Setting) (past rest : Statements) (params : ℕ) 
   pub does : Does setting s st end cost
   pub undone : LeadsTo setting x z
 
--- the step into a method: it comes to the beginning of a typed block in a good state, and is
--- undone; and so is the step from behind that block
+-- the step into a method: it leads to the beginning of a typed block in a good state, and is
+-- undone; and so is the step from after that block
 pub record CallOpened (setting : Setting) (G : Ground setting) (past rest : Statements) (params : ℕ)
     (around : List Open) (st : State) (s : Statement) (y : Config) : Type 0 where
   pub undone : LeadsTo setting (before past (Then s rest) params around st) y

@@ -3,17 +3,17 @@
 use Rattle.std.proofs.Common.{◌≡◌, ℕ, ◌+◌, refl, sym, ap, subst, ◌∙◌, arith, false, Bool, not, List}
 use Rattle.std.proofs.Common.{[], ◌∷◌}
 use Rattle.std.proofs.Common.{length, Some, None, nat_lt, get_or}
-use Rattle.rpp_tree.specs.declared.tree.Ident.{Ident}
-use Rattle.rpp_tree.specs.Tree.{Whole, Statement, Statements, Call, End, Then, Procedure}
-use Rattle.class_table.specs.Classes.{method_named}
-use Rattle.stmt_inverter.specs.Inverse.{inverse_statement}
-use Rattle.roopl_semantics.specs.Run.{Run, Done, ◌>>=◌, give, spend, fault_if}
-use Rattle.roopl_semantics.specs.Store.{Value, Nil, Name, State, is_nil, number_of, object_at}
-use Rattle.roopl_semantics.specs.Store.{class_of_head}
-use Rattle.roopl_semantics.specs.Value.{Cell, cell_named, own_class, read, nil_fault}
-use Rattle.roopl_semantics.specs.Execution.{Setting, exec, invoked, cells_named, class_of}
-use Rattle.roopl_semantics.specs.Execution.{is_too_deep}
-use Rattle.roopl_semantics.specs.Execution.{too_deep_fault}
+use Rattle.meaning_machine.specs.rpp_tree.declared.tree.Ident.{Ident}
+use Rattle.meaning_machine.specs.rpp_tree.Tree.{Whole, Statement, Statements, Call, End, Then, Procedure}
+use Rattle.meaning_machine.specs.class_table.Classes.{method_named}
+use Rattle.meaning_inverse.specs.stmt_inverter.Inverse.{inverse_statement}
+use Rattle.meaning_machine.specs.roopl_semantics.Run.{Run, Done, ◌>>=◌, give, spend, fault_if}
+use Rattle.meaning_machine.specs.roopl_semantics.Store.{Value, Nil, Name, State, is_nil, number_of, object_at}
+use Rattle.meaning_machine.specs.roopl_semantics.Store.{class_of_head}
+use Rattle.meaning_machine.specs.roopl_semantics.Value.{Cell, cell_named, own_class, read, nil_fault}
+use Rattle.meaning_machine.specs.roopl_semantics.Execution.{Setting, exec, invoked, cells_named, class_of}
+use Rattle.meaning_machine.specs.roopl_semantics.Execution.{is_too_deep}
+use Rattle.meaning_machine.specs.roopl_semantics.Execution.{too_deep_fault}
 use Rattle.meaning_machine.specs.Machine.{Config, Open, entered, next}
 use Rattle.meaning_machine.specs.MachineLaws.{before}
 use Rattle.meaning_inverse.proofs.Runs.{in_parts, done_then, done_result, passed_check, passes}

@@ -1,16 +1,16 @@
--- Blocks with a local variable, `construct` and calls on elements among them, each step taken back.
+-- Blocks with a local variable, `construct` and calls on elements among them, each step undone.
 use Rattle.std.proofs.Common.{◌≡◌, ℕ, ◌+◌, ◌≤◌, ◌∙◌, arith, refl, sym, ap, subst, Bool, false, not, List}
 use Rattle.std.proofs.Common.{◌∷◌, Some, Ok, Result, Err}
-use Rattle.rpp_tree.specs.declared.tree.Ident.{Ident}
-use Rattle.rpp_tree.specs.declared.tree.Var.{Var}
-use Rattle.rpp_tree.specs.Tree.{Expression, Null, Item, Statement, Statements, Construct, Local, Call, End, Then, nodes}
-use Rattle.class_table.specs.Expressions.{occurs}
-use Rattle.stmt_inverter.specs.Inverse.{inverse_statement, inverse}
-use Rattle.roopl_semantics.specs.Run.{Done, after_cost, ◌>>=◌, give, fault_if}
-use Rattle.roopl_semantics.specs.Store.{Value, Nil, State, same_value}
-use Rattle.roopl_semantics.specs.Value.{Slot, read, value as value_in, evaluated}
-use Rattle.roopl_semantics.specs.Execution.{Setting, statement, exec, opened, closed, with_local, constructed}
-use Rattle.roopl_semantics.specs.Execution.{element_call, element_name, delocal_fault}
+use Rattle.meaning_machine.specs.rpp_tree.declared.tree.Ident.{Ident}
+use Rattle.meaning_machine.specs.rpp_tree.declared.tree.Var.{Var}
+use Rattle.meaning_machine.specs.rpp_tree.Tree.{Expression, Null, Item, Statement, Statements, Construct, Local, Call, End, Then, nodes}
+use Rattle.meaning_machine.specs.class_table.Expressions.{occurs}
+use Rattle.meaning_inverse.specs.stmt_inverter.Inverse.{inverse_statement, inverse}
+use Rattle.meaning_machine.specs.roopl_semantics.Run.{Done, after_cost, ◌>>=◌, give, fault_if}
+use Rattle.meaning_machine.specs.roopl_semantics.Store.{Value, Nil, State, same_value}
+use Rattle.meaning_machine.specs.roopl_semantics.Value.{Slot, read, value as value_in, evaluated}
+use Rattle.meaning_machine.specs.roopl_semantics.Execution.{Setting, statement, exec, opened, closed, with_local, constructed}
+use Rattle.meaning_machine.specs.roopl_semantics.Execution.{element_call, element_name, delocal_fault}
 use Rattle.meaning_machine.specs.Machine.{Config, Open, Holding, inside, held_local, left, begun}
 use Rattle.meaning_machine.specs.MachineLaws.{gone, before}
 use Rattle.meaning_machine.specs.Turned.{each_undone, turn, unwound}
@@ -108,7 +108,7 @@ module _ (setting : Setting) (s : Statement) (name : List ℕ) (value : Expressi
           ∙ ap (λ x. opened name x (closed end)) (is_same_value (read end (Slot 0)) w
           (is_true (same_value (read end (Slot 0)) w) check))
 
-      -- the statement, and all that comes behind it
+      -- the statement, and all that comes after it
       pub scope_back : (k : ℕ) → k ≤ n → (st : State) → IsSound st
           → ((v : Value) → value_in setting.program st value ≡ Ok v
           → (inner : G.Context) × G.Good inner (opened name v st) × G.Typed inner body)

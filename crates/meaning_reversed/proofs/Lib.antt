@@ -1,3 +1,4 @@
+pub use Rattle.meaning_machine.proofs as meaning_machine_laws
 pub mod Undoing
 pub mod Simple
 pub mod Branches

@@ -1,13 +1,13 @@
--- `new` and `delete`, each taken back by the machine turned round with their request.
+-- `new` and `delete`, each undone by the reversed machine together with their request.
 use Rattle.std.proofs.Common.{◌≡◌, ℕ, ◌+◌, ◌≤◌, ◌∙◌, arith, refl, ap, List}
-use Rattle.rpp_tree.specs.Tree.{Creation, Object as AnObject, Ints, Objects, Lvalue, Statement, Statements, New, Delete}
-use Rattle.rpp_tree.specs.Tree.{End, Then}
-use Rattle.stmt_inverter.specs.Inverse.{inverse_statement}
-use Rattle.buddy_book.specs.Place.{count_taken}
-use Rattle.roopl_semantics.specs.Run.{More, after_cost, ◌>>=◌, give}
-use Rattle.roopl_semantics.specs.Store.{State}
-use Rattle.roopl_semantics.specs.Execution.{Setting, Runner, statement, exec}
-use Rattle.meaning_sound.specs.Sound.{Descending}
+use Rattle.meaning_machine.specs.rpp_tree.Tree.{Creation, Object as AnObject, Ints, Objects, Lvalue, Statement, Statements, New, Delete}
+use Rattle.meaning_machine.specs.rpp_tree.Tree.{End, Then}
+use Rattle.meaning_inverse.specs.stmt_inverter.Inverse.{inverse_statement}
+use Rattle.meaning_machine.specs.buddy_book.Place.{count_taken}
+use Rattle.meaning_machine.specs.roopl_semantics.Run.{More, after_cost, ◌>>=◌, give}
+use Rattle.meaning_machine.specs.roopl_semantics.Store.{State}
+use Rattle.meaning_machine.specs.roopl_semantics.Execution.{Setting, Runner, statement, exec}
+use Rattle.meaning_inverse.specs.meaning_sound.Sound.{Descending}
 use Rattle.meaning_machine.specs.Machine.{Config, Open, past_it, begun}
 use Rattle.meaning_machine.specs.MachineLaws.{before}
 use Rattle.meaning_machine.specs.Turned.{each_undone, turn}
@@ -17,7 +17,7 @@ use Rattle.meaning_inverse.proofs.Ground.{Ground}
 use Rattle.meaning_reversed.proofs.Undoing.{ends_so, Leads, OnPast, good_past}
 use Rattle.meaning_reversed.proofs.Requests.{new_taken_back, delete_taken_back}
 
--- the machine does a statement that makes or deletes with no turns of loops and no blocks
+-- the machine does a statement that makes or deletes with no iterations of loops and no blocks
 abbrev no_blocks : Runner
 no_blocks body st = More
 
@@ -45,7 +45,7 @@ module _ (setting : Setting) where
     abbrev gone_on : Statement → State → Config
     gone_on s st = before (Then s past) rest params around st
 
-    -- `new`, and all that comes behind it
+    -- `new`, and all that comes after it
     pub new_back : let s = New at made target in
         G.Typed C (Then s End) → OnPast setting k s st (gone_on s)
         → Ends (begun setting (going s st) s rest) (Leads setting k (going s st))
@@ -66,7 +66,7 @@ module _ (setting : Setting) where
           on k (let z : k ≤ k = omega arith in z) end e.0 does,
         ))
 
-    -- `delete`, and all that comes behind it
+    -- `delete`, and all that comes after it
     pub delete_back : let s = Delete at made target in
         G.Typed C (Then s End) → OnPast setting k s st (gone_on s)
         → Ends (begun setting (going s st) s rest) (Leads setting k (going s st))

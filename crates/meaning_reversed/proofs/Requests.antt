@@ -1,26 +1,27 @@
--- `new` and `delete` taken back: the turned machine leads to the very state, names and all.
+-- `new` and `delete` undone: the reversed machine leads to exactly the same state, object ids
+-- included.
 use Rattle.std.proofs.Common.{◌≡◌, ℕ, ◌+◌, refl, sym, ap, subst, ◌∙◌, arith, true, false, Bool, not, List, [], ◌∷◌}
 use Rattle.std.proofs.Common.{length, replicate, Some, None, option_map, unwrap_or, Ok, nat_eq, eqb-true}
 use Rattle.std.proofs.Common.{eq-eqb, le-ltb, if◌then◌else◌}
 use Rattle.std.proofs.lemmas.Bool.{lt-ltb, eqb-false}
-use Rattle.rpp_words.specs.Words.{is_less}
-use Rattle.rpp_tree.specs.declared.tree.Ident.{Ident}
-use Rattle.rpp_tree.specs.Tree.{Expression, Lvalue, Creation, Object as AnObject, Ints, Objects, New, Delete, End, Then}
-use Rattle.rpp_tree.specs.Tree.{Source, nodes, index_nodes}
-use Rattle.class_table.specs.Classes.{class_number}
-use Rattle.buddy_book.specs.Place.{Log, count_taken}
-use Rattle.roopl_semantics.specs.Run.{Run, Done, ◌>>=◌, spend, fault_if}
-use Rattle.roopl_semantics.specs.Store.{Value, Word, Nil, Name, Head, OfClass, OfInts, OfObjects, Object, Store, State}
-use Rattle.roopl_semantics.specs.Store.{is_nil, number_of, object_named, object_at, no_object, changed_at, without}
-use Rattle.roopl_semantics.specs.Value.{Cell, Slot, Part, with_value, read, written, value as value_in, cell_of}
-use Rattle.roopl_semantics.specs.Value.{evaluated, found, nil_fault}
-use Rattle.roopl_semantics.specs.Elements.{index_elements, own_element, share_array, kept_apart}
-use Rattle.roopl_semantics.specs.Execution.{Setting, Runner, statement, allocated, freed, new_array, delete_array}
-use Rattle.roopl_semantics.specs.Execution.{new_object, order_of_cells, is_of_class, all_zero, not_nil_fault}
-use Rattle.roopl_semantics.specs.Execution.{length_fault, length_differs_fault, count_fault, not_empty_fault}
-use Rattle.roopl_semantics.specs.Execution.{class_differs_fault}
-use Rattle.meaning_sound.specs.Sound.{Descending}
-use Rattle.meaning_sound.proofs.Stores.{below_bound, live_named, descends_changed}
+use Rattle.meaning_machine.specs.rpp_words.Words.{is_less}
+use Rattle.meaning_machine.specs.rpp_tree.declared.tree.Ident.{Ident}
+use Rattle.meaning_machine.specs.rpp_tree.Tree.{Expression, Lvalue, Creation, Object as AnObject, Ints, Objects, New, Delete, End, Then}
+use Rattle.meaning_machine.specs.rpp_tree.Tree.{Source, nodes, index_nodes}
+use Rattle.meaning_machine.specs.class_table.Classes.{class_number}
+use Rattle.meaning_machine.specs.buddy_book.Place.{Log, count_taken}
+use Rattle.meaning_machine.specs.roopl_semantics.Run.{Run, Done, ◌>>=◌, spend, fault_if}
+use Rattle.meaning_machine.specs.roopl_semantics.Store.{Value, Word, Nil, Name, Head, OfClass, OfInts, OfObjects, Object, Store, State}
+use Rattle.meaning_machine.specs.roopl_semantics.Store.{is_nil, number_of, object_named, object_at, no_object, changed_at, without}
+use Rattle.meaning_machine.specs.roopl_semantics.Value.{Cell, Slot, Part, with_value, read, written, value as value_in, cell_of}
+use Rattle.meaning_machine.specs.roopl_semantics.Value.{evaluated, found, nil_fault}
+use Rattle.meaning_machine.specs.roopl_semantics.Elements.{index_elements, own_element, share_array, kept_apart}
+use Rattle.meaning_machine.specs.roopl_semantics.Execution.{Setting, Runner, statement, allocated, freed, new_array, delete_array}
+use Rattle.meaning_machine.specs.roopl_semantics.Execution.{new_object, order_of_cells, is_of_class, all_zero, not_nil_fault}
+use Rattle.meaning_machine.specs.roopl_semantics.Execution.{length_fault, length_differs_fault, count_fault, not_empty_fault}
+use Rattle.meaning_machine.specs.roopl_semantics.Execution.{class_differs_fault}
+use Rattle.meaning_inverse.specs.meaning_sound.Sound.{Descending}
+use Rattle.meaning_inverse.proofs.meaning_sound_laws.Stores.{below_bound, live_named, descends_changed}
 use Rattle.meaning_inverse.proofs.Runs.{given_done, done_given, done_then, apart_done, passed_check}
 use Rattle.meaning_inverse.proofs.Cells.{IsCell, IsSlot, IsPart, with_cell, with_with, with_same, named_changed}
 use Rattle.meaning_inverse.proofs.Cells.{written_twice, written_same, apart_sym}
@@ -38,7 +39,7 @@ use Rattle.meaning_machine.specs.Reversed.{untaken, put_back, ungiven, undeleted
 inner : {A : Type 0} (x y : A) → Some x ≡ Some y → x ≡ y
 inner x y e = ap (λ o. elim o as (λ _. _) [ Some z ↦ z | None ↦ x ]) e
 
--- an object whose name is above all others stands in front
+-- an object whose object id is above all others comes first
 put_front : (store : Store) (name : ℕ) (object : Object) → Descending name store
     → put_back store name object ≡ (name, object) ∷ store
 put_front [] name object d = refl
@@ -46,7 +47,7 @@ put_front ((n, other) ∷ store) name object d =
     ap (λ t. if t then (name, object) ∷ ((n, other) ∷ store) else (n, other) ∷ put_back store name object)
     (lt-ltb n name d.0)
 
--- an object that was dropped is put back where it stood
+-- an object that was dropped is put back where it was
 pub put_where_it_was : (bound : ℕ) (store : Store) (name : ℕ) (object : Object) → Descending bound store
     → object_named store name ≡ Some object → put_back (without store name) name object ≡ store
 put_where_it_was bound [] name object d e = cc
@@ -81,7 +82,7 @@ changed_without ((m, o) ∷ store) n k f e = by (changed_without store n k f e) 
     by again false p true q = rw (p, q) refl
     by again false p false q = rw (p, q) (ap (λ l. (m, o) ∷ l) again)
 
--- ---- what was made is taken back
+-- ---- what was made is undone
 
 -- the object of a name goes, and so do the requests but these
 abbrev rid : State → ℕ → Log → State
@@ -273,7 +274,7 @@ module _ (setting : Setting) (G : Ground setting) (C : G.Context) (a : State) (g
       (OfObjects (number_named setting.program class)) Nil a (G.sound C a good)
       (λ cell v p q r. G.new_objects C at class size target a cell v typed good p q r)
 
-  -- a `new` is taken back
+  -- a `new` is undone
   pub new_taken_back : (n : ℕ) (run : Runner) (at : ℕ) (creation : Creation) (target : Lvalue) (b : State) (c : ℕ)
       → G.Typed C (Then (New at creation target) End)
       → statement setting n run (New at creation target) a ≡ Done b c
@@ -352,7 +353,7 @@ module _ (setting : Setting) (G : Ground setting) (C : G.Context) (a : State) (g
         ends_done (freed setting cell (number_of (read a cell)) a) 0 _
         (object_back at class target cell typed place unshared some fits single empty))))))))
 
-    -- `delete` of an array taken back, whatever its head and its zeros
+    -- `delete` of an array undone, whatever its head and its zeros
     abbrev ArrayBack : Lvalue → Expression → (ℕ → Head) → Value → State → Type 0
     ArrayBack target size head element b = G.Good C b
         → (found setting.program target b >>= (λ cell. evaluated setting.program size b >>=
@@ -431,7 +432,7 @@ module _ (setting : Setting) (G : Ground setting) (C : G.Context) (a : State) (g
         (OfObjects (number_named setting.program class)) Nil
         (λ cell v p q r s. G.delete_objects C at class size target a cell v typed good p q r s)
 
-    -- a `delete` is taken back
+    -- a `delete` is undone
     pub delete_taken_back : (n : ℕ) (run : Runner) (at : ℕ) (creation : Creation) (target : Lvalue) (b : State) (c : ℕ)
         → G.Typed C (Then (Delete at creation target) End) → G.Good C b
         → statement setting n run (Delete at creation target) a ≡ Done b c

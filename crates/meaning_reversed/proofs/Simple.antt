@@ -1,10 +1,10 @@
--- Statements that hold no block, make nothing and delete nothing, taken back.
+-- Statements that hold no block, make nothing and delete nothing, undone.
 use Rattle.std.proofs.Common.{◌≡◌, ℕ, ◌≤◌, ◌∙◌, arith, refl, sym, ap, subst, List}
-use Rattle.rpp_tree.specs.Tree.{Statement, Statements, Update, Swap, Copy, Uncopy, Skip, End, Then}
-use Rattle.stmt_inverter.specs.Inverse.{inverse_statement}
-use Rattle.roopl_semantics.specs.Run.{Run, Done, More, after_cost, give}
-use Rattle.roopl_semantics.specs.Store.{State}
-use Rattle.roopl_semantics.specs.Execution.{Setting, statement, exec}
+use Rattle.meaning_machine.specs.rpp_tree.Tree.{Statement, Statements, Update, Swap, Copy, Uncopy, Skip, End, Then}
+use Rattle.meaning_inverse.specs.stmt_inverter.Inverse.{inverse_statement}
+use Rattle.meaning_machine.specs.roopl_semantics.Run.{Run, Done, More, after_cost, give}
+use Rattle.meaning_machine.specs.roopl_semantics.Store.{State}
+use Rattle.meaning_machine.specs.roopl_semantics.Execution.{Setting, statement, exec}
 use Rattle.meaning_machine.specs.Machine.{Config, Open, past_it, simply, begun}
 use Rattle.meaning_machine.specs.MachineLaws.{before}
 use Rattle.meaning_machine.specs.Turned.{each_undone, turn}
@@ -25,7 +25,7 @@ IsPlainSimple (Uncopy at kind source target) = Unit {0}
 IsPlainSimple (Skip at) = Unit {0}
 IsPlainSimple _ = ⊥
 
--- what such a statement does with no turns of loops and no blocks
+-- what such a statement does with no iterations of loops and no blocks
 abbrev at_once : Setting → Statement → State → Run State
 at_once setting s st = statement setting 0 (λ body st. More) s st
 
@@ -40,7 +40,7 @@ module _ (setting : Setting) where
   begun_simply (Skip at) h x rest = refl
   begun_simply _ h x rest = absurd h
 
-  -- and so it is taken back
+  -- and so it is undone
   undone_simply : (s : Statement) → IsPlainSimple s → (x : Config) (rest : Statements)
       → begun setting x (inverse_statement s) rest ≡ simply setting x (inverse_statement s) rest
   undone_simply (Update at op target value) h x rest = refl
@@ -98,7 +98,7 @@ module _ (setting : Setting) where
         subst (λ x. P x a) z (subst (λ y. P a y) (sym z) e))
     inverse_does _ h C a b c typed good good_b e = absurd h
 
-    -- a simple statement, and all that comes behind it
+    -- a simple statement, and all that comes after it
     pub simple_back : (k : ℕ) (C : G.Context) (past rest : Statements) (params : ℕ) (around : List Open) (st : State)
         (s : Statement) → IsPlainSimple s → G.Typed C (Then s End) → G.Good C st
         → OnPast setting k s st (before (Then s past) rest params around)

@@ -1,11 +1,11 @@
 -- That each of so many steps from a place is undone, and how it is shown: step by step.
 use Rattle.std.proofs.Common.{◌≡◌, ℕ, zero, suc, ◌+◌, ◌≤◌, ◌∙◌, arith, refl, sym, ap, Bool, true, false, not, List}
-use Rattle.rpp_tree.specs.Tree.{Expression, Statement, Statements, End, Then, nodes}
-use Rattle.stmt_inverter.specs.Inverse.{inverse}
-use Rattle.roopl_semantics.specs.Run.{Run, Done, after_cost, spend, fault_if}
-use Rattle.roopl_semantics.specs.Store.{State}
-use Rattle.roopl_semantics.specs.Value.{value as value_in, evaluated}
-use Rattle.roopl_semantics.specs.Execution.{Setting}
+use Rattle.meaning_machine.specs.rpp_tree.Tree.{Expression, Statement, Statements, End, Then, nodes}
+use Rattle.meaning_inverse.specs.stmt_inverter.Inverse.{inverse}
+use Rattle.meaning_machine.specs.roopl_semantics.Run.{Run, Done, after_cost, spend, fault_if}
+use Rattle.meaning_machine.specs.roopl_semantics.Store.{State}
+use Rattle.meaning_machine.specs.roopl_semantics.Value.{value as value_in, evaluated}
+use Rattle.meaning_machine.specs.roopl_semantics.Execution.{Setting}
 use Rattle.meaning_machine.specs.Machine.{Config, Open, begun, next}
 use Rattle.meaning_machine.specs.MachineLaws.{gone, before}
 use Rattle.meaning_machine.specs.Turned.{each_undone, turn, unwound, StepsBack}
@@ -16,7 +16,7 @@ use Rattle.meaning_inverse.proofs.Ground.{Ground}
 use Rattle.meaning_machine.specs.Reversed.{back}
 use Rattle.meaning_reversed.specs.ReverseLaws.{LeadsTo, is_over}
 
--- ---- what holds of the results of runs
+-- ---- what holds for the results of runs
 
 pub is_true : (b : Bool) → not b ≡ false → b ≡ true
 is_true true e = refl
@@ -39,7 +39,7 @@ ends_valued setting e st = record {
       h ∙ (ap (Done v) (sym k)));
 }
 
--- ---- blocks behind their ends
+-- ---- blocks after their ends
 
 -- the statements past at the end of a block are the block
 pub unwound_gone : (b past : Statements) → unwound (gone b past) End ≡ unwound past b
@@ -63,7 +63,7 @@ module _ (setting : Setting) where
   AllBack (suc n) x = is_over x.rest x.around ≡ false
       → Ends (next setting x) (λ y. LeadsTo setting x y × AllBack n y)
 
-  -- a step to a place is undone, and so are those behind it
+  -- a step to a configuration is undone, and so are those after it
   abbrev pub Leads : ℕ → Config → Config → Type 0
   Leads n x y = LeadsTo setting x y × AllBack n y
 
@@ -81,7 +81,7 @@ module _ (setting : Setting) where
 
   -- ---- what is to be shown of statements and blocks
 
-  -- wherever a statement leads to, all steps behind it are undone
+  -- wherever a statement leads to, all steps after it are undone
   abbrev pub OnPast : ℕ → Statement → State → (State → Config) → Type 0
   OnPast n s st y = (i : ℕ) → i ≤ n → (end : State) (cost : ℕ) → Does setting s st end cost → AllBack i (y end)
 
@@ -89,7 +89,7 @@ module _ (setting : Setting) where
   OnBehind n b st y = (i : ℕ) → i ≤ n → (end : State) (cost : ℕ) → Runs setting b st end cost → AllBack i (y end)
 
   module _ (G : Ground setting) where
-    -- at most n steps from the beginning of a block are undone, where those behind its end are
+    -- at most n steps from the beginning of a block are undone, if those after its end are
     abbrev pub BlocksBack : ℕ → Type 0
     BlocksBack n =
         (k : ℕ) → k ≤ n → (C : G.Context) (past b : Statements) (params : ℕ) (around : List Open) (st : State)

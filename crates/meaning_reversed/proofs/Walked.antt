@@ -1,20 +1,20 @@
 -- Where a walk has come to, the next step is undone; and so it is in every run of an accepted program.
 use Rattle.std.proofs.Common.{◌≡◌, ℕ, zero, suc, ◌≤◌, arith, refl, sym, ap, subst, ◌∙◌, Bool, true, false, List}
 use Rattle.std.proofs.Common.{[], ◌∷◌}
-use Rattle.rpp_words.specs.declared.input.FieldWord.{FieldWord}
-use Rattle.rpp_words.specs.declared.input.Limits.{Limits}
-use Rattle.rpp_words.specs.Limits.{IsLimits}
-use Rattle.rpp_tree.specs.Tree.{Statements, Source, End, Then}
-use Rattle.class_table.specs.Program.{IsAccepted}
-use Rattle.roopl_semantics.specs.Run.{Done, after_cost, ◌>>=◌}
-use Rattle.roopl_semantics.specs.Store.{State}
-use Rattle.roopl_semantics.specs.Execution.{Setting}
-use Rattle.roopl_semantics.specs.Source.{IsValid, main_body, starting}
+use Rattle.meaning_machine.specs.rpp_words.declared.input.FieldWord.{FieldWord}
+use Rattle.meaning_machine.specs.rpp_words.declared.input.Limits.{Limits}
+use Rattle.meaning_machine.specs.rpp_words.Limits.{IsLimits}
+use Rattle.meaning_machine.specs.rpp_tree.Tree.{Statements, Source, End, Then}
+use Rattle.meaning_machine.specs.class_table.Program.{IsAccepted}
+use Rattle.meaning_machine.specs.roopl_semantics.Run.{Done, after_cost, ◌>>=◌}
+use Rattle.meaning_machine.specs.roopl_semantics.Store.{State}
+use Rattle.meaning_machine.specs.roopl_semantics.Execution.{Setting}
+use Rattle.meaning_machine.specs.roopl_semantics.Source.{IsValid, main_body, starting}
 use Rattle.meaning_machine.specs.Machine.{Config, Open, next, walk}
 use Rattle.meaning_machine.specs.MachineLaws.{gone, before}
 use Rattle.meaning_machine.specs.SourceLaws.{set_for, start_of}
-use Rattle.meaning_sound.proofs.Accepted.{knows_classes}
-use Rattle.meaning_sound.proofs.Plainness.{program_plain}
+use Rattle.meaning_inverse.proofs.meaning_sound_laws.Accepted.{knows_classes}
+use Rattle.meaning_inverse.proofs.meaning_sound_laws.Plainness.{program_plain}
 use Rattle.meaning_inverse.proofs.Runs.{in_parts, done_result}
 use Rattle.meaning_inverse.proofs.Later.{Ends}
 use Rattle.meaning_inverse.proofs.Grounded.{checked_ground}
@@ -37,7 +37,7 @@ module _ (setting : Setting) where
       ap (λ r. r >>= walk setting m) (over_stays x.past x.rest x.params x.around x.state e)
       ∙ ap (after_cost 0) (over_walks m x e)
 
-  -- a step is undone behind so many that are
+  -- a step is undone after so many that are
   along : (m : ℕ) (x z : Config) (c : ℕ) → AllBack setting (suc m) x → walk setting m x ≡ Done z c
       → is_over z.rest z.around ≡ false → Ends (next setting z) (LeadsTo setting z)
   along zero x z c all e going =
@@ -57,7 +57,7 @@ module _ (setting : Setting) where
           let parts = in_parts (next setting x) (walk setting m) z c e in
           more parts.middle parts.after ((all g).by parts.middle parts.before parts.first).1 parts.second going
 
-  -- nothing is to be shown behind the end
+  -- nothing has to be shown after the end
   at_the_end : (n : ℕ) (past : Statements) (params : ℕ) (st : State) → AllBack setting n (before past End params [] st)
   at_the_end zero past params st = tt
   at_the_end (suc n) past params st = λ going. cc

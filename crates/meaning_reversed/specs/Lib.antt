@@ -1,1 +1,2 @@
+pub use Rattle.meaning_machine.specs as meaning_machine
 pub mod ReverseLaws

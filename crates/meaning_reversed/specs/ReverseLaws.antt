@@ -1,19 +1,19 @@
 -- The law of steps back.
 use Rattle.std.specs.Prelude.{◌≡◌, ℕ, Bool, true, false, List, [], ◌∷◌}
-use Rattle.rpp_words.specs.declared.input.FieldWord.{FieldWord}
-use Rattle.rpp_words.specs.declared.input.Limits.{Limits}
-use Rattle.rpp_words.specs.Limits.{IsLimits}
-use Rattle.rpp_tree.specs.Tree.{Source, Statements, End, Then}
-use Rattle.class_table.specs.Program.{IsAccepted}
-use Rattle.roopl_semantics.specs.Run.{Done}
-use Rattle.roopl_semantics.specs.Execution.{Setting}
-use Rattle.roopl_semantics.specs.Source.{IsValid}
+use Rattle.meaning_machine.specs.rpp_words.declared.input.FieldWord.{FieldWord}
+use Rattle.meaning_machine.specs.rpp_words.declared.input.Limits.{Limits}
+use Rattle.meaning_machine.specs.rpp_words.Limits.{IsLimits}
+use Rattle.meaning_machine.specs.rpp_tree.Tree.{Source, Statements, End, Then}
+use Rattle.meaning_machine.specs.class_table.Program.{IsAccepted}
+use Rattle.meaning_machine.specs.roopl_semantics.Run.{Done}
+use Rattle.meaning_machine.specs.roopl_semantics.Execution.{Setting}
+use Rattle.meaning_machine.specs.roopl_semantics.Source.{IsValid}
 use Rattle.meaning_machine.specs.Machine.{Config, Open, next, walk}
 use Rattle.meaning_machine.specs.SourceLaws.{set_for, start_of}
 use Rattle.meaning_machine.specs.Turned.{turn}
 use Rattle.meaning_machine.specs.Reversed.{back}
 
--- a step of the machine turned round leads back to the very place, at some cost
+-- a step of the reversed machine leads back to exactly the same configuration, at some cost
 pub record LeadsTo (setting : Setting) (x y : Config) : Type 0 where
   pub cost : ℕ
   pub steps : back setting (turn y) ≡ Done (turn x) cost
@@ -24,7 +24,7 @@ is_over End [] = true
 is_over End (o ∷ around) = false
 is_over (Then s rest) around = false
 
--- each step of a run of an accepted program is undone by a step of the machine turned round
+-- a step of the reversed machine undoes each step of a run of an accepted program
 abbrev pub StepsAreUndone : Type 0
 StepsAreUndone =
     (program : Source) (limits : Limits) (input : List FieldWord)

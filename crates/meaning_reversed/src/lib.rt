@@ -1,6 +1,5 @@
-//! Steps back: the machine of the source that is turned round, and the law that each step of a run
-//! of an accepted program is undone by one of its steps, names and all. The layers above cite the
-//! laws of `laws`.
+//! The reversed machine of the source. One of its steps undoes each step of a run of an accepted
+//! program, object ids included. The layers above cite the laws of `laws`.
 #![tactic(auto)]
 
 pub mod laws;

@@ -1,15 +1,16 @@
--- What is known of the classes of an accepted program: a call finds a method that is checked and plain.
+-- What holds for the classes of an accepted program: a call finds a method that is checked and
+-- ordinary.
 use Rattle.std.proofs.Common.{◌≡◌, subst, ℕ, ◌<◌, List, length, Some, slice_get}
 use Rattle.std.specs.Prelude.{All}
-use Rattle.rpp_tree.specs.Tree.{Procedure, ClassText, Source}
-use Rattle.class_table.specs.Members.{class_at}
-use Rattle.class_table.specs.Overrides.{parameters_of}
-use Rattle.class_table.specs.Classes.{method_named}
-use Rattle.class_table.specs.Table.{table_of, dispatch_in}
-use Rattle.class_table.specs.Program.{IsAccepted}
-use Rattle.class_table.proofs.ClassLines.{front_fields, is_through}
-use Rattle.class_table.proofs.InheritedSlots.{class_there}
-use Rattle.class_table.proofs.FoundMethods.{all_at, slot_inside, own_range, Dispatched, dispatched_method}
+use Rattle.roopl_semantics.specs.rpp_tree.Tree.{Procedure, ClassText, Source}
+use Rattle.roopl_semantics.specs.class_table.Members.{class_at}
+use Rattle.roopl_semantics.specs.class_table.Overrides.{parameters_of}
+use Rattle.roopl_semantics.specs.class_table.Classes.{method_named}
+use Rattle.roopl_semantics.specs.class_table.Table.{table_of, dispatch_in}
+use Rattle.roopl_semantics.specs.class_table.Program.{IsAccepted}
+use Rattle.roopl_semantics.proofs.class_table_laws.ClassLines.{front_fields, is_through}
+use Rattle.roopl_semantics.proofs.class_table_laws.InheritedSlots.{class_there}
+use Rattle.roopl_semantics.proofs.class_table_laws.FoundMethods.{all_at, slot_inside, own_range, Dispatched, dispatched_method}
 use Rattle.meaning_sound.specs.Plain.{IsPlain, ProgramIsPlain}
 use Rattle.meaning_sound.proofs.Classes.{IsFound, KnowsClasses}
 

@@ -4,11 +4,11 @@ use Rattle.std.proofs.Common.{Option, Some, None, arith, slice_get, slice_set}
 use Rattle.std.proofs.lemmas.Bool.{eqb-true}
 use Rattle.std.specs.Prelude.{nat_eq, is_some}
 use Rattle.std.specs.Option.{unwrap_or, option_map}
-use Rattle.rpp_tree.specs.Tree.{Source}
-use Rattle.class_table.specs.declared.kind.Kind.{Kind}
-use Rattle.class_table.specs.declared.kind.Kind.TheVariants as kind
-use Rattle.class_table.specs.Scope.{Locals}
-use Rattle.buddy_book.specs.Place.{Log, count_taken}
+use Rattle.roopl_semantics.specs.rpp_tree.Tree.{Source}
+use Rattle.roopl_semantics.specs.class_table.declared.kind.Kind.{Kind}
+use Rattle.roopl_semantics.specs.class_table.declared.kind.Kind.TheVariants as kind
+use Rattle.roopl_semantics.specs.class_table.Scope.{Locals}
+use Rattle.roopl_semantics.specs.buddy_book.Place.{Log, count_taken}
 use Rattle.roopl_semantics.specs.Store.{Value, Nil, Object, Store, Binding, State, main_name, object_named, object_at}
 use Rattle.roopl_semantics.specs.Store.{no_object, changed_at}
 use Rattle.roopl_semantics.specs.Value.{Cell, Slot, Part, value_at, with_value, read, written}
@@ -91,7 +91,7 @@ changed_objects P store n f all one m o h = by (nat_eq n m) refl
         ∙ ap (λ k. object_named (changed_at store n f) k) s ∙ h)
     by false e = all m o (sym (changed_other store n m f (Rattle.meaning_sound.proofs.Stores.differs n m e)) ∙ h)
 
--- ---- blocks, where heads and names stay
+-- ---- blocks, if heads and names stay
 
 pub placed_same : (setting : Setting) (store other : Store) (log : Log) → map entry_name other ≡ map entry_name store
     → ((m : ℕ) → head_named other m ≡ head_named store m) → IsPlaced setting store log → IsPlaced setting other log

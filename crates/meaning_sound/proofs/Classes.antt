@@ -1,15 +1,15 @@
--- What is known of the classes of an accepted program.
+-- What holds for the classes of an accepted program.
 use Rattle.std.proofs.Common.{◌≡◌, ℕ, ◌<◌, List, map, length, Some}
 use Rattle.std.specs.Prelude.{true}
-use Rattle.rpp_tree.specs.declared.tree.Var.{Var}
-use Rattle.rpp_tree.specs.Tree.{Procedure, Source}
-use Rattle.rpp_tree.specs.Limits.{IsSmallMethod}
-use Rattle.class_table.specs.Classes.{class_fields, method_named}
-use Rattle.class_table.specs.Table.{table_of, slot_in, dispatch_in}
-use Rattle.class_table.specs.Overrides.{parameters_of}
-use Rattle.class_table.specs.Statements.{passed}
-use Rattle.class_table.specs.Program.{check_method, setting_in}
-use Rattle.class_table.specs.Inheritance.{is_or_inherits, kind_of_var, HasFront}
+use Rattle.roopl_semantics.specs.rpp_tree.declared.tree.Var.{Var}
+use Rattle.roopl_semantics.specs.rpp_tree.Tree.{Procedure, Source}
+use Rattle.roopl_semantics.specs.rpp_tree.Limits.{IsSmallMethod}
+use Rattle.roopl_semantics.specs.class_table.Classes.{class_fields, method_named}
+use Rattle.roopl_semantics.specs.class_table.Table.{table_of, slot_in, dispatch_in}
+use Rattle.roopl_semantics.specs.class_table.Overrides.{parameters_of}
+use Rattle.roopl_semantics.specs.class_table.Statements.{passed}
+use Rattle.roopl_semantics.specs.class_table.Program.{check_method, setting_in}
+use Rattle.roopl_semantics.specs.class_table.Inheritance.{is_or_inherits, kind_of_var, HasFront}
 use Rattle.meaning_sound.specs.Plain.{IsPlain}
 
 -- the method that a call finds: it is checked in a class that the object's class is or inherits

@@ -3,8 +3,8 @@ use Rattle.std.proofs.Common.{◌≡◌, ◌∙◌, sym, ap, subst, refl, ℕ, z
 use Rattle.std.proofs.Common.{◌∷◌, ◌++◌, map, length, Option, Some, None, arith, slice_get, slice_set}
 use Rattle.std.specs.Prelude.{nat_eq, is_some, if◌then◌else◌}
 use Rattle.std.specs.Option.{unwrap_or}
-use Rattle.rpp_tree.specs.Tree.{Source}
-use Rattle.class_table.specs.declared.kind.Kind.{Kind}
+use Rattle.roopl_semantics.specs.rpp_tree.Tree.{Source}
+use Rattle.roopl_semantics.specs.class_table.declared.kind.Kind.{Kind}
 use Rattle.roopl_semantics.specs.Store.{Value, Word, Nil, Name, Head, Store}
 use Rattle.roopl_semantics.specs.Laws.{one_if_name, holders_among}
 use Rattle.meaning_sound.specs.Sound.{head_named, is_live, fits, AllFit, named_fits}
@@ -56,7 +56,7 @@ holders_get n [] i = omega arith
 holders_get n (v ∷ vs) zero = omega arith
 holders_get n (v ∷ vs) (suc i) = let r = holders_get n vs i in omega arith
 
--- a value is of its type in another store, where what it names has the same head
+-- a value is of its type in another store, if what it names has the same head
 pub fits_kept : (program : Source) (store other : Store) (v : Value) (k : Kind)
     → ((m : ℕ) → 0 < one_if_name m v → is_live store m ≡ true → head_named other m ≡ head_named store m)
     → fits program store v k ≡ true → fits program other v k ≡ true

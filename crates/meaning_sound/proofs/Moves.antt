@@ -2,11 +2,11 @@
 use Rattle.std.proofs.Common.{◌≡◌, ◌∙◌, sym, ap, refl, ℕ, ◌+◌, Bool, true, false, List, [], ◌∷◌, ◌++◌, map, Option}
 use Rattle.std.proofs.Common.{Some, None, arith}
 use Rattle.std.specs.Prelude.{not, ◌&&◌}
-use Rattle.rpp_tree.specs.Tree.{Source}
-use Rattle.class_table.specs.declared.kind.Kind.{Kind}
-use Rattle.class_table.specs.declared.kind.Kind.TheVariants as kind
-use Rattle.class_table.specs.Expressions.{is_int}
-use Rattle.class_table.specs.Scope.{Locals}
+use Rattle.roopl_semantics.specs.rpp_tree.Tree.{Source}
+use Rattle.roopl_semantics.specs.class_table.declared.kind.Kind.{Kind}
+use Rattle.roopl_semantics.specs.class_table.declared.kind.Kind.TheVariants as kind
+use Rattle.roopl_semantics.specs.class_table.Expressions.{is_int}
+use Rattle.roopl_semantics.specs.class_table.Scope.{Locals}
 use Rattle.roopl_semantics.specs.Store.{Value, Word, Nil, Name, Head, Store, State, is_zero, cleared}
 use Rattle.roopl_semantics.specs.Value.{Cell, Slot, Part, read, written}
 use Rattle.roopl_semantics.specs.Execution.{Setting, same_cell, moved_out, moved_back, touched_fault}

@@ -6,26 +6,26 @@ use Rattle.std.proofs.lemmas.List.Quantifiers.{position-Some}
 use Rattle.std.specs.Prelude.{position, if◌then◌else◌}
 use Rattle.std.specs.Option.{unwrap_or, option_map, option_or}
 use Rattle.std.specs.Str.{bytes_eq}
-use Rattle.rpp_tree.specs.declared.tree.Var.{Var}
-use Rattle.rpp_tree.specs.Tree.{Source}
-use Rattle.class_table.specs.declared.kind.Kind.{Kind}
-use Rattle.class_table.specs.declared.kind.Kind.TheVariants as kind
-use Rattle.class_table.specs.Members.{field_name}
-use Rattle.class_table.specs.Classes.{class_fields}
-use Rattle.class_table.specs.Table.{table_of, fields_in, field_in}
-use Rattle.class_table.specs.Scope.{Local, Locals, local_kind, kind_at, field_kind, kind_in, no_var}
-use Rattle.class_table.specs.Program.{setting_in}
-use Rattle.class_table.proofs.Tables.{table_reads}
+use Rattle.roopl_semantics.specs.rpp_tree.declared.tree.Var.{Var}
+use Rattle.roopl_semantics.specs.rpp_tree.Tree.{Source}
+use Rattle.roopl_semantics.specs.class_table.declared.kind.Kind.{Kind}
+use Rattle.roopl_semantics.specs.class_table.declared.kind.Kind.TheVariants as kind
+use Rattle.roopl_semantics.specs.class_table.Members.{field_name}
+use Rattle.roopl_semantics.specs.class_table.Classes.{class_fields}
+use Rattle.roopl_semantics.specs.class_table.Table.{table_of, fields_in, field_in}
+use Rattle.roopl_semantics.specs.class_table.Scope.{Local, Locals, local_kind, kind_at, field_kind, kind_in, no_var}
+use Rattle.roopl_semantics.specs.class_table.Program.{setting_in}
+use Rattle.roopl_semantics.proofs.class_table_laws.Tables.{table_reads}
 use Rattle.roopl_semantics.specs.Store.{Head, OfClass, OfInts, OfObjects, Store, State, object_at, class_of_head}
 use Rattle.roopl_semantics.specs.Value.{Cell, Slot, Part, slot_of, own_class, slot_or_field, cell_named}
-use Rattle.class_table.specs.Members.{field_of}
+use Rattle.roopl_semantics.specs.class_table.Members.{field_of}
 use Rattle.roopl_semantics.specs.Execution.{Setting}
-use Rattle.class_table.specs.Inheritance.{is_or_inherits, kind_of_var}
+use Rattle.roopl_semantics.specs.class_table.Inheritance.{is_or_inherits, kind_of_var}
 use Rattle.meaning_sound.specs.Sound.{named_fits, head_of, head_named, name_of, local_name, local_type, part_kind}
 use Rattle.meaning_sound.specs.Sound.{cell_kind, Typed}
 use Rattle.meaning_sound.specs.Kept.{MeansSame}
 use Rattle.meaning_sound.proofs.Stores.{live_object}
-use Rattle.class_table.proofs.FirstPlaces.{position_cons, position_before, bytes_turned}
+use Rattle.roopl_semantics.proofs.class_table_laws.FirstPlaces.{position_cons, position_before, bytes_turned}
 use Rattle.meaning_sound.proofs.Classes.{KnowsClasses}
 
 abbrev pub type_at : Locals → Option ℕ → Option Kind
@@ -52,7 +52,7 @@ local_kind_is (l ∷ shape) name = by (local_kind_is shape name) (bytes_eq name 
 
 -- ---- fields
 
--- the present object's head, with its class
+-- the current object's head, with its class
 pub record IsObject (program : Source) (class : ℕ) (store : Store) (self : ℕ) : Type 0 where
   pub own : ℕ
   pub head : head_named store self ≡ Some (OfClass own)

@@ -4,14 +4,14 @@ use Rattle.std.proofs.Common.{Some, None, arith, length-append}
 use Rattle.std.proofs.lemmas.List.{get_or_append_left, get_or-append-add}
 use Rattle.std.specs.Prelude.{All}
 use Rattle.std.specs.List.{flat_map}
-use Rattle.rpp_tree.specs.Tree.{Expression, Number, Null, Variable, Element, Binary, Lvalue, Whole, Item, Creation}
-use Rattle.rpp_tree.specs.Tree.{Object, Ints, Objects, Statements, Source, Part, Operand, Target, Typed, Creates}
-use Rattle.rpp_tree.specs.Tree.{Invokes}
-use Rattle.rpp_tree.specs.declared.limits.TheConstants.{MOST_NUMBER}
-use Rattle.rpp_tree.specs.Numbers.{expression_numbers, lvalue_numbers, receiver_numbers, creation_numbers}
-use Rattle.rpp_tree.specs.Numbers.{part_numbers, numbers, block_numbers, procedure_numbers, class_numbers}
-use Rattle.rpp_tree.specs.Numbers.{source_numbers}
-use Rattle.rpp_tree.proofs.Walks.{AreRelated, block_related, parts_related}
+use Rattle.roopl_semantics.specs.rpp_tree.Tree.{Expression, Number, Null, Variable, Element, Binary, Lvalue, Whole, Item, Creation}
+use Rattle.roopl_semantics.specs.rpp_tree.Tree.{Object, Ints, Objects, Statements, Source, Part, Operand, Target, Typed, Creates}
+use Rattle.roopl_semantics.specs.rpp_tree.Tree.{Invokes}
+use Rattle.roopl_semantics.specs.rpp_tree.declared.limits.TheConstants.{MOST_NUMBER}
+use Rattle.roopl_semantics.specs.rpp_tree.Numbers.{expression_numbers, lvalue_numbers, receiver_numbers, creation_numbers}
+use Rattle.roopl_semantics.specs.rpp_tree.Numbers.{part_numbers, numbers, block_numbers, procedure_numbers, class_numbers}
+use Rattle.roopl_semantics.specs.rpp_tree.Numbers.{source_numbers}
+use Rattle.roopl_semantics.proofs.rpp_tree_laws.Walks.{AreRelated, block_related, parts_related}
 use Rattle.meaning_sound.specs.Plain.{HasWords, PlaceHasWords, CreationHasWords, ReceiverHasWords, PartHasWords}
 use Rattle.meaning_sound.specs.Plain.{all_words, BlockHasWords, ProgramHasWords}
 

@@ -19,7 +19,7 @@ drop_nil : (a : ℕ) → drop {A = ℕ} a [] ≡ []
 drop_nil zero = refl
 drop_nil (suc a) = refl
 
--- the three parts, with their lengths told
+-- the three parts, with known lengths
 laid_is : (xs : List ℕ) (a : ℕ) (ws : List ℕ) (room skip : ℕ) → room ≡ length xs - a → skip ≡ a + length ws
     → laid xs a ws ≡ take a xs ++ take room ws ++ drop skip xs
 laid_is [] a ws zero skip r s = sym (ap (λ z. z ++ [] ++ drop skip []) (take_nil a) ∙ drop_nil skip)

@@ -4,14 +4,14 @@ use Rattle.std.proofs.Common.{◌++◌, map, length, Option, Some, None}
 use Rattle.std.proofs.lemmas.Bool.{eqb-true}
 use Rattle.std.specs.Prelude.{nat_eq, is_none, is_some, if◌then◌else◌}
 use Rattle.std.specs.Option.{option_map}
-use Rattle.buddy_book.specs.Book.{Book, take, give}
-use Rattle.buddy_book.specs.Place.{Taken, Given, Log, Placing, block_of, without_name, with_block, after_request, place}
-use Rattle.buddy_book.specs.Shown.{Shown, TakenBlocks, order_in, with_taken, without_taken}
-use Rattle.buddy_book.proofs.Table.{order_in-with}
-use Rattle.buddy_book.proofs.Orders.{take_took, give_gave}
-use Rattle.buddy_book.proofs.Kept.{none_taken, take_kept, given_back, give_kept}
-use Rattle.buddy_book.proofs.Requests.{order_in-with_other, order_in-without_other}
-use Rattle.buddy_book.proofs.Requests.{block_of_other}
+use Rattle.roopl_semantics.specs.buddy_book.Book.{Book, take, give}
+use Rattle.roopl_semantics.specs.buddy_book.Place.{Taken, Given, Log, Placing, block_of, without_name, with_block, after_request, place}
+use Rattle.roopl_semantics.specs.buddy_book.Shown.{Shown, TakenBlocks, order_in, with_taken, without_taken}
+use Rattle.roopl_semantics.proofs.buddy_book_laws.Table.{order_in-with}
+use Rattle.roopl_semantics.proofs.buddy_book_laws.Orders.{take_took, give_gave}
+use Rattle.roopl_semantics.proofs.buddy_book_laws.Kept.{none_taken, take_kept, given_back, give_kept}
+use Rattle.roopl_semantics.proofs.buddy_book_laws.Requests.{order_in-with_other, order_in-without_other}
+use Rattle.roopl_semantics.proofs.buddy_book_laws.Requests.{block_of_other}
 use Rattle.roopl_semantics.specs.Store.{Head, Object, Store, main_name, without}
 use Rattle.roopl_semantics.specs.Execution.{Setting, order_of_cells}
 use Rattle.roopl_semantics.specs.Laws.{block_in}

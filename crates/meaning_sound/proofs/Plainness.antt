@@ -6,13 +6,13 @@ use Rattle.std.specs.Prelude.{All, slice_index}
 use Rattle.std.specs.List.{flat_map}
 use Rattle.std.specs.Str.{bytes_eq}
 use Rattle.std.specs.Char.{is_ascii_alphabetic}
-use Rattle.rpp_tree.specs.declared.tree.Ident.{Ident}
-use Rattle.rpp_tree.specs.Tree.{Expression, Number, Null, Variable, Element, Binary, Lvalue, Whole, Item, Statement}
-use Rattle.rpp_tree.specs.Tree.{Statements, Update, If, From, Construct, Local, Call, End, Then, Source}
-use Rattle.rpp_tree.specs.Names.{IsName}
-use Rattle.rpp_tree.specs.Parts.{expression_names, receiver_names, var_names, statement_names, block_names}
-use Rattle.rpp_tree.specs.Parts.{procedure_names, parent_names, class_names}
-use Rattle.class_table.specs.Program.{IsAccepted}
+use Rattle.roopl_semantics.specs.rpp_tree.declared.tree.Ident.{Ident}
+use Rattle.roopl_semantics.specs.rpp_tree.Tree.{Expression, Number, Null, Variable, Element, Binary, Lvalue, Whole, Item, Statement}
+use Rattle.roopl_semantics.specs.rpp_tree.Tree.{Statements, Update, If, From, Construct, Local, Call, End, Then, Source}
+use Rattle.roopl_semantics.specs.rpp_tree.Names.{IsName}
+use Rattle.roopl_semantics.specs.rpp_tree.Parts.{expression_names, receiver_names, var_names, statement_names, block_names}
+use Rattle.roopl_semantics.specs.rpp_tree.Parts.{procedure_names, parent_names, class_names}
+use Rattle.roopl_semantics.specs.class_table.Program.{IsAccepted}
 use Rattle.meaning_sound.proofs.Numbered.{program_words}
 use Rattle.meaning_sound.specs.Plain.{IsNamed, HasNames, AreNamed, ReceiverIsPlain, StatementIsPlain, IsPlain}
 use Rattle.meaning_sound.specs.Plain.{ProgramIsPlain, ReceiverHasWords, StatementHasWords, BlockHasWords}

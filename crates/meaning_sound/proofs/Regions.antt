@@ -4,18 +4,18 @@ use Rattle.std.proofs.Common.{true, false, List, [], ◌∷◌, ◌++◌, map, l
 use Rattle.std.proofs.lemmas.Bool.{eqb-true, ltb-true, ltb-false}
 use Rattle.std.specs.Prelude.{nat_eq, nat_lt, is_some, if◌then◌else◌}
 use Rattle.std.specs.Option.{option_map}
-use Rattle.code_conventions.specs.declared.memory.TheConstants.{HEADER_WORDS}
-use Rattle.buddy_book.specs.Place.{block_of}
-use Rattle.buddy_book.specs.Shown.{Shown, order_in, without_taken, weight, taken_weight, IsKept, cover}
-use Rattle.buddy_book.proofs.Table.{taken_weight-without}
-use Rattle.buddy_book.proofs.Kept.{cover-additive, given_back}
-use Rattle.buddy_book.proofs.Orders.{pow_pos}
+use Rattle.roopl_semantics.specs.code_conventions.declared.memory.TheConstants.{HEADER_WORDS}
+use Rattle.roopl_semantics.specs.buddy_book.Place.{block_of}
+use Rattle.roopl_semantics.specs.buddy_book.Shown.{Shown, order_in, without_taken, weight, taken_weight, IsKept, cover}
+use Rattle.roopl_semantics.proofs.buddy_book_laws.Table.{taken_weight-without}
+use Rattle.roopl_semantics.proofs.buddy_book_laws.Kept.{cover-additive, given_back}
+use Rattle.roopl_semantics.proofs.buddy_book_laws.Orders.{pow_pos}
 use Rattle.roopl_semantics.specs.Store.{Head, Object, Store, main_name}
 use Rattle.roopl_semantics.specs.Execution.{Setting, order_of_cells}
 use Rattle.roopl_semantics.proofs.Orders.{has_room}
 use Rattle.meaning_sound.specs.Sound.{head_of, head_named, is_live, cell_kinds, Descending, entry_name, IsPlaced}
 use Rattle.meaning_sound.proofs.Stores.{other_number, same_number, here, there}
-use Rattle.buddy_book.proofs.Requests.{order_in-without_other}
+use Rattle.roopl_semantics.proofs.buddy_book_laws.Requests.{order_in-without_other}
 
 -- ---- two taken blocks
 
@@ -59,10 +59,8 @@ blocks_apart book a b k l kept ka kb apart = by (nat_lt a b) refl
 
 -- ---- the blocks of a sound state
 
-pub record HasRegion (setting : Setting) (store : Store) (blocks : List (ℕ × ℕ)) (name : ℕ) (head : Head) : Type 0 where
-  pub fits : block_of blocks name + (HEADER_WORDS + length (cell_kinds setting.program head)) ≤ 2 ^ setting.limits.heap
-
-module _ (setting : Setting) (store : Store) (log : Rattle.buddy_book.specs.Place.Log) (p : IsPlaced setting store log)
+module _ (setting : Setting) (store : Store) (log : Rattle.roopl_semantics.specs.buddy_book.Place.Log)
+    (p : IsPlaced setting store log)
   where
     abbrev size : Head → ℕ
     size head = HEADER_WORDS + length (cell_kinds setting.program head)
@@ -153,12 +151,13 @@ names_of_both bound ((m, o) ∷ store) ((n, b) ∷ blocks) d e =
         let l = d.0 in
         omega arith
 
-pub blocks_descend : (setting : Setting) (store : Store) (log : Rattle.buddy_book.specs.Place.Log) (bound : ℕ)
+pub blocks_descend : (setting : Setting) (store : Store) (log : Rattle.roopl_semantics.specs.buddy_book.Place.Log)
+    (bound : ℕ)
     (p : IsPlaced setting store log) → Descending bound store → BlocksDescend bound p.at.blocks
 blocks_descend setting store log bound p d = names_of_both bound store p.at.blocks d p.names
 
 -- the block of a live name is that of no entry of the names below it
-pub block_apart : (setting : Setting) (store : Store) (log : Rattle.buddy_book.specs.Place.Log)
+pub block_apart : (setting : Setting) (store : Store) (log : Rattle.roopl_semantics.specs.buddy_book.Place.Log)
     (p : IsPlaced setting store log) (n bound : ℕ) (rest : List (ℕ × ℕ)) → is_live store n ≡ true → main_name < n
     → bound ≤ n → BlocksDescend bound rest → EntriesAre store p.at.blocks rest
     → NotAt (block_of p.at.blocks n) rest
@@ -170,18 +169,10 @@ block_apart setting store log p n bound ((m, b) ∷ rest) live no_main l d e =
       block_apart setting store log p n m rest live no_main (omega arith) d.2 e.2,
     )
 
-not_below : (bound : ℕ) (blocks : List (ℕ × ℕ)) (n : ℕ) → BlocksDescend bound blocks → bound ≤ n
-    → has_entry n blocks ≡ false
-not_below bound [] n d h = refl
-not_below bound ((m, b) ∷ blocks) n d h =
-    let l = d.0 in
-    ap (λ t. if t then true else has_entry n blocks) (other_number m n (λ e. omega arith))
-    ∙ not_below m blocks n d.2 (omega arith)
-
 block_below : (n m b : ℕ) (blocks : List (ℕ × ℕ)) → m < n → block_of ((n, b) ∷ blocks) m ≡ block_of blocks m
 block_below n m b blocks h = ap (λ t. if t then b else block_of blocks m) (other_number n m (λ e. omega arith))
 
--- entries hold on in a longer list in front of which newer names stand
+-- entries remain in a longer list that begins with newer names
 entries_more : (store : Store) (n b bound : ℕ) (whole blocks : List (ℕ × ℕ)) → bound ≤ n → BlocksDescend bound blocks
     → EntriesAre store whole blocks → EntriesAre store ((n, b) ∷ whole) blocks
 entries_more store n b bound whole [] l d e = tt
@@ -226,7 +217,8 @@ all_live_of bound ((m, o) ∷ store) ((n, b) ∷ blocks) d e =
       live_more store m o m blocks (omega arith) descend r,
     )
 
-pub entries_are : (setting : Setting) (store : Store) (log : Rattle.buddy_book.specs.Place.Log) (bound : ℕ)
+pub entries_are : (setting : Setting) (store : Store) (log : Rattle.roopl_semantics.specs.buddy_book.Place.Log)
+    (bound : ℕ)
     (p : IsPlaced setting store log) → Descending bound store → EntriesAre store p.at.blocks p.at.blocks
 entries_are setting store log bound p d = entries_of store bound p.at.blocks
     (names_of_both bound store p.at.blocks d p.names) (all_live_of bound store p.at.blocks d p.names)

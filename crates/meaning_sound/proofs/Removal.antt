@@ -4,12 +4,12 @@ use Rattle.std.proofs.Common.{map, length, Some, None, arith, slice_get}
 use Rattle.std.proofs.lemmas.Bool.{eqb-true}
 use Rattle.std.specs.Prelude.{nat_eq, is_some, not, ◌&&◌, if◌then◌else◌}
 use Rattle.std.specs.Option.{unwrap_or, option_map}
-use Rattle.rpp_tree.specs.Tree.{Source}
-use Rattle.class_table.specs.declared.kind.Kind.{Kind}
-use Rattle.class_table.specs.declared.kind.Kind.TheVariants as kind
-use Rattle.class_table.specs.Expressions.{is_int}
-use Rattle.class_table.specs.Scope.{Locals}
-use Rattle.buddy_book.specs.Place.{Given, count_taken}
+use Rattle.roopl_semantics.specs.rpp_tree.Tree.{Source}
+use Rattle.roopl_semantics.specs.class_table.declared.kind.Kind.{Kind}
+use Rattle.roopl_semantics.specs.class_table.declared.kind.Kind.TheVariants as kind
+use Rattle.roopl_semantics.specs.class_table.Expressions.{is_int}
+use Rattle.roopl_semantics.specs.class_table.Scope.{Locals}
+use Rattle.roopl_semantics.specs.buddy_book.Place.{Given, count_taken}
 use Rattle.roopl_semantics.specs.Store.{Value, Word, Nil, Name, Head, Object, Store, State, main_name, is_nil, is_zero}
 use Rattle.roopl_semantics.specs.Store.{object_named, object_at, changed_at, without}
 use Rattle.roopl_semantics.specs.Value.{Cell, Slot, Part, read, written}
@@ -281,7 +281,7 @@ module _ (setting : Setting) (extra : ℕ → ℕ) (shape : Locals) (class : ℕ
     blocks_same = λ m p. refl;
   }
 
-  -- a name gets one holder more or less, and its count follows
+  -- an object id gets one reference more or less, and its reference count follows
   recounted : (st st1 : State) (n : ℕ) (o : Object) (f : ℕ → ℕ) → Sound setting extra shape class st
       → Stays setting extra st st1 → Typed setting extra shape class st1
       → ((m : ℕ) → count_named st1.store m ≡ count_named st.store m) → object_named st1.store n ≡ Some o

@@ -1,4 +1,4 @@
--- What holds of the result of a run that is done.
+-- What holds for the result of a run that is done.
 use Rattle.std.proofs.Common.{◌≡◌, refl, subst, ℕ, Bool, true, false}
 use Rattle.std.specs.Prelude.{Result, Ok, Err}
 use Rattle.roopl_semantics.specs.Run.{Run, Done, Fault, More, after_cost, given, ◌>>=◌, fault_if}

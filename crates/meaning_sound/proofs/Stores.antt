@@ -28,7 +28,7 @@ pub there : (n m : ℕ) (o : Object) (store : Store) → nat_eq n m ≡ false
     → object_named ((n, o) ∷ store) m ≡ object_named store m
 there n m o store e = ap (λ b. if b then Some o else object_named store m) e
 
--- what is found where an object changes
+-- what is found if an object changes
 pub changed_here : (store : Store) (n : ℕ) (f : Object → Object)
     → object_named (changed_at store n f) n ≡ option_map f (object_named store n)
 changed_here [] n f = refl
@@ -54,7 +54,7 @@ changed_other ((k, o) ∷ store) n m f h = by (changed_other store n m f h) (nat
     by rest true e = there k m (f o) store (other e) ∙ sym (there k m o store (other e))
     by rest false e = ap (λ z. if nat_eq k m then Some o else z) rest
 
--- what is found where an object is dropped
+-- what is found if an object is dropped
 pub without_other : (store : Store) (n m : ℕ) → n ≢ m → object_named (without store n) m ≡ object_named store m
 without_other [] n m h = refl
 without_other ((k, o) ∷ store) n m h = by (without_other store n m h) (nat_eq k n) refl
@@ -126,7 +126,7 @@ names_changed ((k, o) ∷ store) n f = by (names_changed store n f) (nat_eq k n)
     by rest true = refl
     by rest false = ap (λ z. k ∷ z) rest
 
--- ---- holders
+-- ---- references
 
 pub holders_changed : (m : ℕ) (store : Store) (n : ℕ) (f : Object → Object) (o : Object) → object_named store n ≡ Some o
     → holders m (changed_at store n f) + holders_among m o.cells ≡ holders m store + holders_among m (f o).cells

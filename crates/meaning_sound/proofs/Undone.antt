@@ -1,26 +1,26 @@
--- The inverse of a checked block is checked, and plain where the block is.
+-- The inverse of a checked block is checked, and plain if the block is.
 use Rattle.std.proofs.Common.{◌≡◌, ◌∙◌, sym, ap, subst, refl, ℕ, Bool, true, false, ◌∷◌}
 use Rattle.std.proofs.lemmas.Bool.{and_from}
 use Rattle.std.specs.Prelude.{not, ◌&&◌, ◌||◌, if◌then◌else◌}
 use Rattle.std.specs.Option.{is_none}
 use Rattle.std.specs.Str.{bytes_eq}
-use Rattle.rpp_tree.specs.declared.tree.Var.{Var}
-use Rattle.rpp_tree.specs.Tree.{Expression, Statement, Statements, Update, If, From, Construct, Local, End, Then}
-use Rattle.rpp_tree.specs.Tree.{joined}
-use Rattle.class_table.specs.declared.kind.Kind.{Kind}
-use Rattle.class_table.specs.Overrides.{is_type_int, same_type}
-use Rattle.class_table.specs.Refusal.{type_differs, redeclared, local_in_own_expression}
-use Rattle.class_table.specs.Scope.{Typing, Locals, local_kind, kind_of}
-use Rattle.class_table.specs.Expressions.{is_int, type_of, occurs, first_token}
-use Rattle.class_table.specs.Statements.{passed, required, in_turn, test_rules, type_known, is_nil_word, local_rules}
-use Rattle.class_table.specs.Statements.{construct_rules, with_local, with_object, check_statement, check_statements}
-use Rattle.stmt_inverter.specs.Inverse.{inverse_statement_as, inverse_as, inverse}
-use Rattle.stmt_inverter.proofs.InverseWalks.{IsTurned, block_turned as walk_block_turned}
-use Rattle.class_table.proofs.SameTypes.{types_same}
+use Rattle.roopl_semantics.specs.rpp_tree.declared.tree.Var.{Var}
+use Rattle.roopl_semantics.specs.rpp_tree.Tree.{Expression, Statement, Statements, Update, If, From, Construct, Local, End, Then}
+use Rattle.roopl_semantics.specs.rpp_tree.Tree.{joined}
+use Rattle.roopl_semantics.specs.class_table.declared.kind.Kind.{Kind}
+use Rattle.roopl_semantics.specs.class_table.Overrides.{is_type_int, same_type}
+use Rattle.roopl_semantics.specs.class_table.Refusal.{type_differs, redeclared, local_in_own_expression}
+use Rattle.roopl_semantics.specs.class_table.Scope.{Typing, Locals, local_kind, kind_of}
+use Rattle.roopl_semantics.specs.class_table.Expressions.{is_int, type_of, occurs, first_token}
+use Rattle.roopl_semantics.specs.class_table.Statements.{passed, required, in_turn, test_rules, type_known, is_nil_word, local_rules}
+use Rattle.roopl_semantics.specs.class_table.Statements.{construct_rules, with_local, with_object, check_statement, check_statements}
+use Rattle.roopl_semantics.specs.stmt_inverter.Inverse.{inverse_statement_as, inverse_as, inverse}
+use Rattle.roopl_semantics.proofs.stmt_inverter_laws.InverseWalks.{IsTurned, block_turned as walk_block_turned}
+use Rattle.roopl_semantics.proofs.class_table_laws.SameTypes.{types_same}
 use Rattle.meaning_sound.specs.Plain.{ReceiverIsPlain, words_and, IsPlain}
-use Rattle.class_table.proofs.PassedRules.{both_passed, in_turn_passes, held, required_passes, handed_on, hands_on}
-use Rattle.class_table.proofs.PassedRules.{both_true}
-use Rattle.class_table.proofs.FirstPlaces.{same_name, bytes_turned}
+use Rattle.roopl_semantics.proofs.class_table_laws.PassedRules.{both_passed, in_turn_passes, held, required_passes, handed_on, hands_on}
+use Rattle.roopl_semantics.proofs.class_table_laws.PassedRules.{both_true}
+use Rattle.roopl_semantics.proofs.class_table_laws.FirstPlaces.{same_name, bytes_turned}
 
 or_turned : (a b : Bool) → (a || b) ≡ (b || a)
 or_turned true true = refl
@@ -34,7 +34,7 @@ and_turned true false = refl
 and_turned false true = refl
 and_turned false false = refl
 
--- ---- blocks one behind the other
+-- ---- blocks one after the other
 
 pub check_joined : (setting : Typing) (locals : Locals) (a b : Statements) → check_statements setting locals a ≡ passed
     → check_statements setting locals b ≡ passed → check_statements setting locals (joined a b) ≡ passed

@@ -5,24 +5,27 @@ use Rattle.std.proofs.lemmas.Bool.{lt-ltb, ltb-true, eqb-true}
 use Rattle.std.proofs.lemmas.List.{length-replicate}
 use Rattle.std.proofs.lemmas.Nat.{or_lt, xor_lt}
 use Rattle.std.proofs.Math.Nat.{mod-lt}
-use Rattle.rpp_words.proofs.Ranges.{bit_and-lt}
+use Rattle.roopl_semantics.proofs.rpp_words_laws.Ranges.{bit_and-lt}
 use Rattle.std.specs.Prelude.{Result, Ok, Err, nat_lt, is_some, replicate, ◌&&◌, if◌then◌else◌}
 use Rattle.std.specs.Option.{option_map}
-use Rattle.rpp_tree.specs.declared.tree.Ident.{Ident}
-use Rattle.rpp_tree.specs.declared.tree.BinOp.{BinOp}
-use Rattle.rpp_tree.specs.declared.tree.BinOp.TheVariants as op
-use Rattle.rpp_tree.specs.declared.tree.UpdateOp.{UpdateOp}
-use Rattle.rpp_tree.specs.declared.tree.UpdateOp.TheVariants as update
-use Rattle.rpp_tree.specs.Tree.{Expression, Number, Null, Variable, Element, Binary, Lvalue, Whole, Item, Source}
-use Rattle.class_table.specs.declared.kind.Kind.{Kind}
-use Rattle.class_table.specs.declared.kind.Kind.TheVariants as kind
-use Rattle.class_table.specs.Table.{table_of}
-use Rattle.class_table.specs.Refusal.{type_differs, refused_operator}
-use Rattle.class_table.specs.Scope.{Typing, Locals, kind_in}
-use Rattle.class_table.specs.Expressions.{and_then, is_int, element_kind, element_of as element_type, index_is_int}
-use Rattle.class_table.specs.Expressions.{variable_type, type_of, place_type, is_comparison, is_refused, operands_fit}
-use Rattle.class_table.specs.Expressions.{operator_type, first_token}
-use Rattle.class_table.specs.Program.{setting_in}
+use Rattle.roopl_semantics.specs.rpp_tree.declared.tree.Ident.{Ident}
+use Rattle.roopl_semantics.specs.rpp_tree.declared.tree.BinOp.{BinOp}
+use Rattle.roopl_semantics.specs.rpp_tree.declared.tree.BinOp.TheVariants as op
+use Rattle.roopl_semantics.specs.rpp_tree.declared.tree.UpdateOp.{UpdateOp}
+use Rattle.roopl_semantics.specs.rpp_tree.declared.tree.UpdateOp.TheVariants as update
+use Rattle.roopl_semantics.specs.rpp_tree.Tree.{Expression, Number, Null, Variable, Element, Binary, Lvalue, Whole}
+use Rattle.roopl_semantics.specs.rpp_tree.Tree.{Item, Source}
+use Rattle.roopl_semantics.specs.class_table.declared.kind.Kind.{Kind}
+use Rattle.roopl_semantics.specs.class_table.declared.kind.Kind.TheVariants as kind
+use Rattle.roopl_semantics.specs.class_table.Table.{table_of}
+use Rattle.roopl_semantics.specs.class_table.Refusal.{type_differs, refused_operator}
+use Rattle.roopl_semantics.specs.class_table.Scope.{Typing, Locals, kind_in}
+use Rattle.roopl_semantics.specs.class_table.Expressions.{and_then, is_int, element_kind, element_of as element_type}
+use Rattle.roopl_semantics.specs.class_table.Expressions.{index_is_int}
+use Rattle.roopl_semantics.specs.class_table.Expressions.{variable_type, type_of, place_type, is_comparison, is_refused}
+use Rattle.roopl_semantics.specs.class_table.Expressions.{operands_fit}
+use Rattle.roopl_semantics.specs.class_table.Expressions.{operator_type, first_token}
+use Rattle.roopl_semantics.specs.class_table.Program.{setting_in}
 use Rattle.roopl_semantics.specs.Operators.{operated, updated, truth_word}
 use Rattle.roopl_semantics.specs.Store.{Value, Word, Nil, Name, Head, OfClass, OfInts, OfObjects, Object, Store, State}
 use Rattle.roopl_semantics.specs.Store.{number_of, object_named, object_at}
@@ -38,17 +41,13 @@ use Rattle.meaning_sound.proofs.Cells.{read_fits}
 use Rattle.meaning_sound.proofs.Classes.{KnowsClasses}
 use Rattle.meaning_sound.specs.Kept.{MeansSame}
 use Rattle.meaning_sound.proofs.Names.{cell_named_kind}
-use Rattle.class_table.proofs.PassedRules.{handed_on, some_of, both_true, int_kind}
+use Rattle.roopl_semantics.proofs.class_table_laws.PassedRules.{handed_on, some_of, both_true, int_kind}
 
 -- ---- operators give words
 
 truth_is_word : (b : Bool) → truth_word b < 2 ^ 32
 truth_is_word true = omega arith
 truth_is_word false = omega arith
-
--- the operands of an operator that is no comparison are words
-abbrev OperandsFit : BinOp → ℕ → ℕ → Type 0
-OperandsFit operator a b = is_comparison operator ≡ false → (a < 2 ^ 32) × (b < 2 ^ 32)
 
 pub operated_word : (operator : BinOp) (a b : ℕ) → (is_comparison operator ≡ false → (a < 2 ^ 32) × (b < 2 ^ 32))
     → operated operator a b < 2 ^ 32
@@ -120,7 +119,7 @@ same_elements k zero i h = absurd (omega arith)
 same_elements k (suc n) zero h = refl
 same_elements k (suc n) (suc i) h = same_elements k n i (omega arith)
 
--- an array's head tells its elements
+-- an array's head determines its elements
 pub record IsArray (program : Source) (k : Kind) (head : Head) : Type 0 where
   pub count : ℕ
   pub kinds : cell_kinds program head ≡ replicate count k
@@ -195,7 +194,7 @@ module _ (setting : Setting) (classes : KnowsClasses setting.program) (extra : �
   variable_fits st name k t h = cell_named_kind setting classes extra locals shape class inside means st name.text k t
       (some_of (kind_in typing locals name.text) _ k h)
 
-  -- an element's place, where its index was checked
+  -- an element's place, if its index was checked
   pub item_fits : (st : State) (name : Ident) (index : Expression) (k : Kind) → Typed setting extra shape class st
       → type_of typing locals (Element name index) ≡ Ok k → CellIs program shape st.store k
       (element_of program st name.text (value program st index))
@@ -248,7 +247,8 @@ module _ (setting : Setting) (classes : KnowsClasses setting.program) (extra : �
           → fits program st.store y b ≡ true → (number_of x < 2 ^ 32) × (number_of y < 2 ^ 32)
       words a b x y never q f g = ints (is_comparison operator) refl q
         where
-          ints : (c : Bool) → is_comparison operator ≡ c → (if c then Rattle.class_table.specs.Expressions.compares
+          ints : (c : Bool) → is_comparison operator ≡ c → (if c then
+              Rattle.roopl_semantics.specs.class_table.Expressions.compares
               typing.table a b else is_int a && is_int b) ≡ true → (number_of x < 2 ^ 32) × (number_of y < 2 ^ 32)
           ints true e z = absurd (never e)
           ints false e z =

@@ -1,9 +1,9 @@
 -- What stays in a write, and writes that keep a state sound.
 use Rattle.std.proofs.Common.{◌≡◌, ◌∙◌, sym, ap, refl, ℕ, ◌+◌, true, false, Some, arith}
 use Rattle.std.specs.Prelude.{not}
-use Rattle.class_table.specs.declared.kind.Kind.{Kind}
-use Rattle.class_table.specs.Scope.{Locals}
-use Rattle.buddy_book.specs.Place.{place}
+use Rattle.roopl_semantics.specs.class_table.declared.kind.Kind.{Kind}
+use Rattle.roopl_semantics.specs.class_table.Scope.{Locals}
+use Rattle.roopl_semantics.specs.buddy_book.Place.{place}
 use Rattle.roopl_semantics.specs.Store.{Value, Word, Nil, Name, State, main_name, is_nil}
 use Rattle.roopl_semantics.specs.Value.{Cell, Slot, Part, read, written}
 use Rattle.roopl_semantics.specs.Execution.{Setting}
@@ -62,7 +62,7 @@ module _ (setting : Setting) (extra : ℕ → ℕ) (shape : Locals) (class : ℕ
   fits_written st cell v w k h = fits_kept setting.program st.store (written st cell v).store w k
       (λ m p l. heads_written setting extra shape class st cell v m) h
 
-  -- counts go on where the cell holds as many names afterwards
+  -- counts go on if the cell holds as many names afterwards
   pub counted_same : (st end : State) → ((m : ℕ) → count_named end.store m ≡ count_named st.store m)
       → ((m : ℕ) → held m end ≡ held m st) → Sound setting extra shape class st → Counted extra end
   counted_same st end counts same s = record {

@@ -1,18 +1,18 @@
 -- The laws of what execution keeps.
 use Rattle.std.specs.Prelude.{◌≡◌, ◌<◌, ℕ, List, [], length}
-use Rattle.rpp_words.specs.declared.input.FieldWord.{FieldWord}
-use Rattle.rpp_words.specs.declared.input.Limits.{Limits}
-use Rattle.rpp_tree.specs.Tree.{Statements, Source}
-use Rattle.class_table.specs.Scope.{Locals, local_kind}
-use Rattle.class_table.specs.Table.{table_of}
-use Rattle.class_table.specs.Statements.{passed, check_statements}
-use Rattle.class_table.specs.Program.{IsAccepted, setting_in}
+use Rattle.roopl_semantics.specs.rpp_words.declared.input.FieldWord.{FieldWord}
+use Rattle.roopl_semantics.specs.rpp_words.declared.input.Limits.{Limits}
+use Rattle.roopl_semantics.specs.rpp_tree.Tree.{Statements, Source}
+use Rattle.roopl_semantics.specs.class_table.Scope.{Locals, local_kind}
+use Rattle.roopl_semantics.specs.class_table.Table.{table_of}
+use Rattle.roopl_semantics.specs.class_table.Statements.{passed, check_statements}
+use Rattle.roopl_semantics.specs.class_table.Program.{IsAccepted, setting_in}
 use Rattle.roopl_semantics.specs.Run.{Done}
 use Rattle.roopl_semantics.specs.Store.{State}
 use Rattle.roopl_semantics.specs.Execution.{exec}
 use Rattle.roopl_semantics.specs.Source.{IsValid, starting, source}
-use Rattle.class_table.specs.Classes.{main_of}
-use Rattle.rpp_words.specs.Limits.{IsLimits}
+use Rattle.roopl_semantics.specs.class_table.Classes.{main_of}
+use Rattle.roopl_semantics.specs.rpp_words.Limits.{IsLimits}
 use Rattle.meaning_sound.specs.Sound.{Sound, Keeps, main_alone}
 use Rattle.meaning_sound.specs.Plain.{IsPlain, ProgramIsPlain}
 

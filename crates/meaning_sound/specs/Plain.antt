@@ -3,11 +3,11 @@
 use Rattle.std.specs.Prelude.{◌≡◌, ◌^◌, ◌<◌, false, List, [], ◌∷◌, Option, Some, None}
 use Rattle.std.specs.List.{All}
 use Rattle.std.specs.Str.{bytes_eq}
-use Rattle.rpp_tree.specs.declared.tree.Ident.{Ident}
-use Rattle.rpp_tree.specs.Tree.{Expression, Number, Null, Variable, Element, Binary, Lvalue, Whole}
-use Rattle.rpp_tree.specs.Tree.{Item, Creation, Object, Ints, Objects, Statement, Statements}
-use Rattle.rpp_tree.specs.Tree.{Procedure, ClassText, Source, Part, Operand, Target, Typed, Creates}
-use Rattle.rpp_tree.specs.Tree.{Invokes, Walk, walk, walk_block, each_part}
+use Rattle.roopl_semantics.specs.rpp_tree.declared.tree.Ident.{Ident}
+use Rattle.roopl_semantics.specs.rpp_tree.Tree.{Expression, Number, Null, Variable, Element, Binary, Lvalue, Whole}
+use Rattle.roopl_semantics.specs.rpp_tree.Tree.{Item, Creation, Object, Ints, Objects, Statement, Statements}
+use Rattle.roopl_semantics.specs.rpp_tree.Tree.{Procedure, ClassText, Source, Part, Operand, Target, Typed, Creates}
+use Rattle.roopl_semantics.specs.rpp_tree.Tree.{Invokes, Walk, walk, walk_block, each_part}
 
 -- the literals of an expression are words
 abbrev pub HasWords : Expression → Type 0

@@ -4,15 +4,15 @@ use Rattle.std.specs.Prelude.{◌≡◌, ◌≢◌, ◌<◌, ◌^◌, ℕ, ◌+�
 use Rattle.std.specs.Prelude.{nat_lt, is_some, if◌then◌else◌, List, [], ◌∷◌, ◌++◌, map, length}
 use Rattle.std.specs.Prelude.{replicate, slice_get, Option, Some, None}
 use Rattle.std.specs.Option.{option_map}
-use Rattle.rpp_tree.specs.Tree.{Source}
-use Rattle.class_table.specs.declared.kind.Kind.{Kind}
-use Rattle.class_table.specs.declared.kind.Kind.TheVariants as kind
-use Rattle.class_table.specs.Classes.{class_fields}
-use Rattle.class_table.specs.Inheritance.{is_or_inherits, kind_of_var}
-use Rattle.class_table.specs.Scope.{Local, Locals}
-use Rattle.class_table.specs.Expressions.{is_int}
-use Rattle.buddy_book.specs.Place.{Log, Placing, count_taken, block_of, place}
-use Rattle.buddy_book.specs.Shown.{TakenBlocks, order_in, IsKept}
+use Rattle.roopl_semantics.specs.rpp_tree.Tree.{Source}
+use Rattle.roopl_semantics.specs.class_table.declared.kind.Kind.{Kind}
+use Rattle.roopl_semantics.specs.class_table.declared.kind.Kind.TheVariants as kind
+use Rattle.roopl_semantics.specs.class_table.Classes.{class_fields}
+use Rattle.roopl_semantics.specs.class_table.Inheritance.{is_or_inherits, kind_of_var}
+use Rattle.roopl_semantics.specs.class_table.Scope.{Local, Locals}
+use Rattle.roopl_semantics.specs.class_table.Expressions.{is_int}
+use Rattle.roopl_semantics.specs.buddy_book.Place.{Log, Placing, count_taken, block_of, place}
+use Rattle.roopl_semantics.specs.buddy_book.Shown.{TakenBlocks, order_in, IsKept}
 use Rattle.roopl_semantics.specs.Store.{Value, Word, Nil, Name, Head, OfClass, OfInts, OfObjects}
 use Rattle.roopl_semantics.specs.Store.{Object, Store, Binding, State, main_name, object_named}
 use Rattle.roopl_semantics.specs.Value.{Cell, Slot, Part}
@@ -40,11 +40,11 @@ named_fits program kind None = false
 abbrev pub head_of : Object → Head
 head_of object = object.head
 
--- the head of what a name names, where it is live
+-- the head of what a name names, if it is live
 abbrev pub head_named : Store → ℕ → Option Head
 head_named store name = option_map head_of (object_named store name)
 
--- the count of what a name names, where it is live
+-- the count of what a name names, if it is live
 abbrev pub count_of : Object → ℕ
 count_of object = object.count
 
@@ -60,7 +60,7 @@ fits program store (Word w) type = is_int type && nat_lt w (2 ^ 32)
 fits program store Nil type = not (is_int type)
 fits program store (Name n) type = named_fits program type (head_named store n)
 
--- the types of the cells behind a head
+-- the types of the cells after a head
 abbrev pub cell_kinds : Source → Head → List Kind
 cell_kinds program (OfClass class) = map (kind_of_var program) (class_fields program class)
 cell_kinds program (OfInts length) = replicate length kind.Int
@@ -86,7 +86,7 @@ local_name local = local.name
 abbrev pub local_type : Local → Kind
 local_type local = local.kind
 
--- how many cells of the store and of the open frame hold a name
+-- how many cells of the store and of the current frame hold a name
 abbrev pub held : ℕ → State → ℕ
 held name st = holders name st.store + holders_among name (map value_of st.frame)
 
@@ -98,8 +98,8 @@ Descending bound ((name, object) ∷ store) = (name < bound) × Descending name 
 abbrev pub entry_name : {A : Type 0} → ℕ × A → ℕ
 entry_name entry = entry.0
 
--- where the blocks stand: the book is in order, and each live object or array but the main object
--- has a block of its own, of the order that it needs
+-- where the blocks are: the free lists are in order, and each live object or array except the main
+-- object has a block of its own, of the order that it needs
 pub record IsPlaced (setting : Setting) (store : Store) (log : Log) : Type 0 where
   pub at : Placing
   pub placed : place setting.limits.heap log ≡ Some at
@@ -128,10 +128,9 @@ pub record Typed (setting : Setting) (extra : ℕ → ℕ) (shape : Locals) (cla
   pub fresh : Descending (2 + count_taken st.log) st.store
   pub placed : IsPlaced setting st.store st.log
 
--- What holds of a state inside a method of a class, with variables of these types, the innermost
--- first.
--- `extra` tells how often a name is held besides: by the frames of the calls below, and as a
--- receiver that moved into an open call.
+-- What holds for a state inside a method of a class, with variables of these types, the innermost
+-- first. `extra` says how many further references an object id has: from the frames of the calls
+-- below, and as a receiver that moved into an active call.
 pub record Sound (setting : Setting) (extra : ℕ → ℕ) (shape : Locals) (class : ℕ)
     (st : State) : Type 0 where
   pub names : map name_of st.frame ≡ map local_name shape
@@ -174,6 +173,6 @@ abbrev pub cell_kind : Source → Locals → Store → Cell → Option Kind
 cell_kind program shape store (Slot index) = slice_get (map local_type shape) index
 cell_kind program shape store (Part name index) = part_kind program (head_named store name) index
 
--- at the beginning and at the end of a run the main object alone is held besides, once
+-- at the beginning and at the end of a run only the main object is referenced from elsewhere, once
 abbrev pub main_alone : ℕ → ℕ
 main_alone name = if nat_eq name main_name then 1 else 0

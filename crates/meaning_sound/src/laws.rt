@@ -7,7 +7,8 @@ pub fn accepted_is_plain()
     ensures { AcceptedIsPlain }
 {}
 
-/// The state in which a run begins is sound; the main object alone is held besides, once.
+/// The state in which a run begins is sound; only the main object is referenced from elsewhere,
+/// once.
 pub fn start_is_sound()
     ensures { StartIsSound }
 {}

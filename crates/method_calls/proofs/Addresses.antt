@@ -1,15 +1,15 @@
 -- A base goes to the place of a variable, or to a word of the frame above, and back.
 use Rattle.std.proofs.Common.{◌≡◌, ℕ, ◌+◌, ◌^◌, ◌<◌, Bool, true, false, List, [], ◌∷◌, length, refl, ap, arith}
 use Rattle.std.specs.Prelude.{slice_index, slice_set}
-use Rattle.rpp_words.specs.declared.input.TheConstants.{FRAME_WORDS}
-use Rattle.code_conventions.specs.declared.memory.TheConstants.{HEADER_WORDS}
-use Rattle.rpp_words.specs.Words.{sum_of, difference_of, negated}
-use Rattle.pisa_isa.specs.Machine.{Memory}
-use Rattle.code_conventions.specs.declared.registers.TheConstants.{CONTENT, FRAME, MOVED, OBJECT}
-use Rattle.paired_code.specs.Machine.{Image}
-use Rattle.paired_code.specs.Pieces.{Done, Will}
-use Rattle.paired_code.specs.Rows.{line}
-use Rattle.code_conventions.specs.Cells.{exch, addi}
+use Rattle.refine_form.specs.rpp_words.declared.input.TheConstants.{FRAME_WORDS}
+use Rattle.refine_form.specs.code_conventions.declared.memory.TheConstants.{HEADER_WORDS}
+use Rattle.refine_form.specs.rpp_words.Words.{sum_of, difference_of, negated}
+use Rattle.refine_form.specs.pisa_isa.Machine.{Memory}
+use Rattle.refine_form.specs.code_conventions.declared.registers.TheConstants.{CONTENT, FRAME, MOVED, OBJECT}
+use Rattle.refine_form.specs.paired_code.Machine.{Image}
+use Rattle.refine_form.specs.paired_code.Pieces.{Done, Will}
+use Rattle.refine_form.specs.paired_code.Rows.{line}
+use Rattle.refine_form.specs.code_conventions.Cells.{exch, addi}
 use Rattle.refine_form.specs.declared.spot.Spot.{Spot}
 use Rattle.refine_form.specs.declared.spot.Spot.TheVariants.{Field, Frame}
 use Rattle.refine_form.specs.Form.{registers}
@@ -30,9 +30,9 @@ difference_is x y z e h = omega arith
 pub less_is : (x i z : ℕ) → x ≡ z + i → x < 2 ^ 32 → sum_of x (negated i) ≡ z
 less_is x i z e h = omega arith
 
--- ---- a spot
+-- ---- a storage slot
 
--- the two bases where that of a spot stands at it
+-- the two bases, if that of a storage slot is at it
 abbrev pub object_at : ℕ → ℕ → Spot → ℕ
 object_at o f (Field i) = address o f (Field i)
 object_at o f (Frame j) = o
@@ -64,7 +64,7 @@ module _ (im : Image) (o f b c g : ℕ) (cs : List ℕ) where
       will_row im true (addi FRAME j ∷ []) 1 _ _ (next refl (omega arith)
       (ap (λ v. Done (mk 0 o v 0 b c g 0 cs) 1) (less_is (f + j) j f refl h)) here)
 
-  -- MOVED changes places with the word of the spot
+  -- MOVED changes places with the word of the storage slot
   pub swaps_moved : (d : Bool) (sp : Spot) → address o f sp < length cs
       → Will im (line (exch MOVED (base_of sp) ∷ [])) d (at_spot o f sp b c g cs) (λ out. out ≡ Done
       (at_spot o f sp b (slice_index cs (address o f sp)) g (slice_set cs (address o f sp) c)) 1)

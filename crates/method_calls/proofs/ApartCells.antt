@@ -3,14 +3,15 @@ use Rattle.std.proofs.Common.{◌≡◌, ◌≢◌, ℕ, zero, suc, Bool, true, 
 use Rattle.std.proofs.Common.{subst, arith}
 use Rattle.std.specs.Prelude.{nat_eq, if◌then◌else◌, slice_get, slice_set}
 use Rattle.std.proofs.lemmas.Bool.Decides.{nat_tests}
-use Rattle.roopl_semantics.specs.Store.{Value, Binding, Object, Store, State, cleared, object_named, object_at}
-use Rattle.roopl_semantics.specs.Store.{changed_at}
-use Rattle.roopl_semantics.specs.Value.{Cell, Slot, Part, read, written, with_value, value_at}
-use Rattle.roopl_semantics.specs.Execution.{moved_out}
+use Rattle.refine_form.specs.roopl_semantics.Store.{Value, Binding, Object, Store, State, cleared, object_named}
+use Rattle.refine_form.specs.roopl_semantics.Store.{object_at}
+use Rattle.refine_form.specs.roopl_semantics.Store.{changed_at}
+use Rattle.refine_form.specs.roopl_semantics.Value.{Cell, Slot, Part, read, written, with_value, value_at}
+use Rattle.refine_form.specs.roopl_semantics.Execution.{moved_out}
 use Rattle.refine_form.specs.Form.{World, Scope}
 use Rattle.method_calls.specs.Facts.{Known, FrameFacts, out_from, vals_from}
 use Rattle.method_calls.specs.Laws.{NotAmong, AllApart}
-use Rattle.rpp_tree.specs.declared.tree.Ident.{Ident}
+use Rattle.refine_form.specs.rpp_tree.declared.tree.Ident.{Ident}
 use Rattle.method_calls.proofs.Moves.{cells_of}
 use Rattle.method_calls.proofs.OwnCalls.{MovesAlike}
 
@@ -140,20 +141,20 @@ get_same ((m, o) ∷ store) a i j v n = by (nat_eq m a) refl (get_same store a i
         ap (λ s. slice_get (object_at s a).cells j) (changed_here m o store a
         (λ object. record object { cells = slice_set object.cells i v }) e)
         ∙ ap (λ x. slice_get (package.Rattle.std.specs.Option.unwrap_or x
-        package.Rattle.roopl_semantics.specs.Store.no_object).cells j)
+        package.Rattle.refine_form.specs.roopl_semantics.Store.no_object).cells j)
         (named_here m (record o { cells = slice_set o.cells i v }) store a e)
         ∙ get_set o.cells i j v n
         ∙ sym (ap (λ x. slice_get (package.Rattle.std.specs.Option.unwrap_or x
-        package.Rattle.roopl_semantics.specs.Store.no_object).cells j) (named_here m o store a e))
+        package.Rattle.refine_form.specs.roopl_semantics.Store.no_object).cells j) (named_here m o store a e))
     by false e ih =
         ap (λ s. slice_get (object_at s a).cells j) (changed_there m o store a
         (λ object. record object { cells = slice_set object.cells i v }) e)
         ∙ ap (λ x. slice_get (package.Rattle.std.specs.Option.unwrap_or x
-        package.Rattle.roopl_semantics.specs.Store.no_object).cells j)
+        package.Rattle.refine_form.specs.roopl_semantics.Store.no_object).cells j)
         (named_there m o (changed_at store a (λ object. record object { cells = slice_set object.cells i v })) a e)
         ∙ ih
         ∙ sym (ap (λ x. slice_get (package.Rattle.std.specs.Option.unwrap_or x
-        package.Rattle.roopl_semantics.specs.Store.no_object).cells j) (named_there m o store a e))
+        package.Rattle.refine_form.specs.roopl_semantics.Store.no_object).cells j) (named_there m o store a e))
 
 -- ---- cells
 
@@ -161,7 +162,7 @@ same_name : (m n i j : ℕ) → (Part m i ≢ Part n j) → m ≡ n → i ≢ j
 same_name m n i j ne e q = ne (ap (λ z. Part z i) e ∙ ap (Part n) q)
 
 pub read_other : (st : State) (a b : Cell) (v : Value) → a ≢ b → read (written st a v) b ≡ read st b
-read_other st (Slot i) (Slot j) v ne = ap package.Rattle.roopl_semantics.specs.Value.binding_value
+read_other st (Slot i) (Slot j) v ne = ap package.Rattle.refine_form.specs.roopl_semantics.Value.binding_value
     (get_with st.frame i j v (λ e. ne (ap Slot e)))
 read_other st (Slot i) (Part n j) v ne = refl
 read_other st (Part m i) (Slot j) v ne = refl
@@ -170,15 +171,16 @@ read_other st (Part m i) (Part n j) v ne = by (nat_eq m n) refl
     by : (x : Bool) → nat_eq m n ≡ x → read (written st (Part m i) v) (Part n j) ≡ read st (Part n j)
     by true e =
         let q = is_same m n e in
-        ap (λ l. package.Rattle.std.specs.Option.unwrap_or l package.Rattle.roopl_semantics.specs.Store.Nil)
+        ap (λ l. package.Rattle.std.specs.Option.unwrap_or l package.Rattle.refine_form.specs.roopl_semantics.Store.Nil)
         (subst (λ z. slice_get (object_at (changed_at st.store m
         (λ object. record object { cells = slice_set object.cells i v })) z).cells j
         ≡ slice_get (object_at st.store z).cells j) q (get_same st.store m i j v (same_name m n i j ne q)))
     by false e =
         let far : m ≢ n = λ q. absurd (grind (arith, nat_tests, e, q)) in
         ap (λ o. package.Rattle.std.specs.Option.unwrap_or (slice_get
-        (package.Rattle.std.specs.Option.unwrap_or o package.Rattle.roopl_semantics.specs.Store.no_object).cells
-        j) package.Rattle.roopl_semantics.specs.Store.Nil)
+        (package.Rattle.std.specs.Option.unwrap_or o
+        package.Rattle.refine_form.specs.roopl_semantics.Store.no_object).cells
+        j) package.Rattle.refine_form.specs.roopl_semantics.Store.Nil)
         (named_other st.store m n (λ object. record object { cells = slice_set object.cells i v }) far)
 
 pub written_other : (st : State) (a b : Cell) (x y : Value) → a ≢ b

@@ -4,28 +4,28 @@ use Rattle.std.proofs.Common.{refl, sym, ap}
 use Rattle.std.proofs.Common.{◌∙◌, subst, arith, length-append}
 use Rattle.std.specs.Prelude.{None, Some}
 use Rattle.std.proofs.lemmas.List.{length-map}
-use Rattle.rpp_words.specs.declared.input.TheConstants.{FRAME_WORDS}
-use Rattle.rpp_tree.specs.declared.tree.Ident.{Ident}
-use Rattle.rpp_tree.specs.Tree.{Whole, Item, Local, Construct, Call}
-use Rattle.paired_code.specs.declared.part.Symbol.{Symbol}
-use Rattle.paired_code.specs.Layout.{mirror_cells, check_equal_cells, enter_at_cells, code_line, Stands}
-use Rattle.paired_code.specs.Pieces.{Will}
-use Rattle.paired_code.specs.Does.{Meets}
-use Rattle.paired_code.specs.Rows.{line}
-use Rattle.paired_code.proofs.Mirrored.{length_mirror}
-use Rattle.pisa_isa.specs.Loaded.{loaded}
-use Rattle.code_conventions.specs.declared.faults.TheConstants.{DELOCAL}
-use Rattle.code_conventions.specs.declared.registers.TheConstants.{FRAME, NOUGHT, VALUE}
-use Rattle.roopl_semantics.specs.Execution.{exec}
-use Rattle.roopl_semantics.specs.Source.{starting, main_body}
-use Rattle.roopl_semantics.specs.Layout.{layout}
+use Rattle.refine_form.specs.rpp_words.declared.input.TheConstants.{FRAME_WORDS}
+use Rattle.refine_form.specs.rpp_tree.declared.tree.Ident.{Ident}
+use Rattle.refine_form.specs.rpp_tree.Tree.{Whole, Item, Local, Construct, Call}
+use Rattle.refine_form.specs.paired_code.declared.part.Symbol.{Symbol}
+use Rattle.refine_form.specs.paired_code.Layout.{mirror_cells, check_equal_cells, enter_at_cells, code_line, Stands}
+use Rattle.refine_form.specs.paired_code.Pieces.{Will}
+use Rattle.refine_form.specs.paired_code.Does.{Meets}
+use Rattle.refine_form.specs.paired_code.Rows.{line}
+use Rattle.refine_form.proofs.paired_code_laws.Mirrored.{length_mirror}
+use Rattle.refine_form.specs.pisa_isa.Loaded.{loaded}
+use Rattle.refine_form.specs.code_conventions.declared.faults.TheConstants.{DELOCAL}
+use Rattle.refine_form.specs.code_conventions.declared.registers.TheConstants.{FRAME, NOUGHT, VALUE}
+use Rattle.refine_form.specs.roopl_semantics.Execution.{exec}
+use Rattle.refine_form.specs.roopl_semantics.Source.{starting, main_body}
+use Rattle.refine_form.specs.roopl_semantics.Layout.{layout}
 use Rattle.refine_form.specs.declared.spot.Spot.{Spot}
 use Rattle.refine_form.specs.declared.spot.Spot.TheVariants.{Field, Frame}
 use Rattle.refine_form.specs.Cells.{around}
 use Rattle.refine_form.specs.Form.{World, Scope, StmtLaw, told}
 use Rattle.refine_form.specs.Stands.{spot_in}
 use Rattle.refine_form.specs.Worlds.{world_of, rates_of}
-use Rattle.code_conventions.specs.Cells.{addi}
+use Rattle.refine_form.specs.code_conventions.Cells.{addi}
 use Rattle.method_calls.specs.CallCode.{fetch_row, depth_code, moves_code, move_code, moves_of, last_cells}
 use Rattle.method_calls.specs.CallCode.{behind_of, checked_of, front_on_of, call_code, call_on_code, own_cells}
 use Rattle.method_calls.specs.CallCode.{nil_code, take_code, onto_code, method_code, main_code, main_cells, local_open}
@@ -46,7 +46,7 @@ use Rattle.method_calls.proofs.MainEntry.{main_enters}
 some_counts : (n : ℕ) → 1 ≤ n + 64
 some_counts n = omega arith
 
--- ---- the cells by the spots
+-- ---- the cells by the storage slots
 
 moves_same : (spot : Ident → Spot) (args : List Ident) → moves_code spot args ≡ moves_of (map spot args)
 moves_same spot [] = refl

@@ -7,28 +7,28 @@ use Rattle.std.specs.Prelude.{not, nat_lt, slice_index, slice_set, bit_xor, int_
 use Rattle.std.proofs.lemmas.List.{get_or-set_same, get_or-set_other, set-get_or}
 use Rattle.std.proofs.Math.ListN.{length-set}
 use Rattle.std.proofs.lemmas.Bool.Decides.{nat_tests}
-use Rattle.rpp_words.specs.declared.input.TheConstants.{FRAME_WORDS}
-use Rattle.rpp_words.specs.Words.{sum_of, negated, is_less, signed}
-use Rattle.pisa_isa.specs.declared.cell.Cell.{Cell}
-use Rattle.pisa_isa.specs.Machine.{Memory}
-use Rattle.pisa_isa.specs.declared.fixed.TheConstants.{END_CELL}
-use Rattle.code_conventions.specs.declared.memory.TheConstants.{PLACE_WORD, TABLE_HEADER}
-use Rattle.code_conventions.specs.declared.faults.TheConstants.{TOO_DEEP}
-use Rattle.code_conventions.specs.declared.registers.TheConstants.{ADDRESS, CONTENT, FRAME, LINK, MOVED, OBJECT}
-use Rattle.code_conventions.specs.declared.registers.TheConstants.{VALUE}
-use Rattle.paired_code.specs.Machine.{Image}
-use Rattle.paired_code.specs.Layout.{check_differ_cells}
-use Rattle.paired_code.specs.Pieces.{Done, Trapped, Will}
-use Rattle.paired_code.proofs.Laws.{will_of}
-use Rattle.paired_code.proofs.Call.{set_set}
-use Rattle.paired_code.specs.Layout.{Differ}
-use Rattle.paired_code.proofs.Checks.{runs_passes, runs_fails}
-use Rattle.code_conventions.specs.Cells.{add, exch, addi}
+use Rattle.refine_form.specs.rpp_words.declared.input.TheConstants.{FRAME_WORDS}
+use Rattle.refine_form.specs.rpp_words.Words.{sum_of, negated, is_less, signed}
+use Rattle.refine_form.specs.pisa_isa.declared.cell.Cell.{Cell}
+use Rattle.refine_form.specs.pisa_isa.Machine.{Memory}
+use Rattle.refine_form.specs.pisa_isa.declared.fixed.TheConstants.{END_CELL}
+use Rattle.refine_form.specs.code_conventions.declared.memory.TheConstants.{PLACE_WORD, TABLE_HEADER}
+use Rattle.refine_form.specs.code_conventions.declared.faults.TheConstants.{TOO_DEEP}
+use Rattle.refine_form.specs.code_conventions.declared.registers.TheConstants.{ADDRESS, CONTENT, FRAME, LINK, MOVED, OBJECT}
+use Rattle.refine_form.specs.code_conventions.declared.registers.TheConstants.{VALUE}
+use Rattle.refine_form.specs.paired_code.Machine.{Image}
+use Rattle.refine_form.specs.paired_code.Layout.{check_differ_cells}
+use Rattle.refine_form.specs.paired_code.Pieces.{Done, Trapped, Will}
+use Rattle.refine_form.proofs.paired_code_laws.Laws.{will_of}
+use Rattle.refine_form.proofs.paired_code_laws.Call.{set_set}
+use Rattle.refine_form.specs.paired_code.Layout.{Differ}
+use Rattle.refine_form.proofs.paired_code_laws.Checks.{runs_passes, runs_fails}
+use Rattle.refine_form.specs.code_conventions.Cells.{add, exch, addi}
 use Rattle.method_calls.specs.CallCode.{end_row, depth_code, fetch_row, save_row}
 use Rattle.refine_form.proofs.Rows.{Ran, here, next, will_row}
 use Rattle.method_calls.proofs.Addresses.{mk, sum_is, difference_is, less_is}
 use Rattle.refine_form.proofs.Rules.{will_in, will_in_trap}
-use Rattle.paired_code.specs.Rows.{line}
+use Rattle.refine_form.specs.paired_code.Rows.{line}
 use Rattle.method_calls.proofs.Exchanges.{exchanges}
 
 more_is : (x i z : ℕ) → x + i ≡ z → i < 2 ^ 32 → z < 2 ^ 32 → sum_of x (negated (negated i)) ≡ z
@@ -97,7 +97,7 @@ module _ (im : Image) (ob fr : ℕ) (cs : List ℕ) (inside : END_CELL < length 
       ∙ ap (λ l. Done (depth_mem END_CELL 0 0 l) 1) (filled cs END_CELL))
       (next refl (omega arith) refl here)))
 
-  -- where one more call may be open, nothing happens
+  -- if one more call may be open, nothing happens
   pub depth_passes : (d : Bool) → fr + FRAME_WORDS < end → Will im depth_code d (depth_mem 0 0 0 cs)
       (λ o. o ≡ Done (depth_mem 0 0 0 cs) 8)
   depth_passes d h =
@@ -152,13 +152,13 @@ module _ (im : Image) (ob fr slot place : ℕ) (cs : List ℕ) (inside : ob < le
   same_entry = get_or-set_other cs ob at_entry 0 0 apart ∙ entry
 
   -- the table's address goes out, and the place is copied there
-  table_back : (d : Bool) (p : ℕ) → package.Rattle.paired_code.specs.Laws.outcome_of d (exch MOVED OBJECT)
+  table_back : (d : Bool) (p : ℕ) → package.Rattle.refine_form.specs.paired_code.Laws.outcome_of d (exch MOVED OBJECT)
       (fetch_mem 0 table p no_table) ≡ Done (fetch_mem 0 0 p cs) 1
   table_back d p = exchanges d MOVED OBJECT (fetch_mem 0 table p no_table) out_in
       ∙ ap (λ v. Done (fetch_mem 0 v p (slice_set no_table ob table)) 1) (emptied cs ob inside)
       ∙ ap (λ l. Done (fetch_mem 0 0 p l) 1) (filled cs ob)
 
-  entry_back : (d : Bool) (p : ℕ) → package.Rattle.paired_code.specs.Laws.outcome_of d (exch CONTENT MOVED)
+  entry_back : (d : Bool) (p : ℕ) → package.Rattle.refine_form.specs.paired_code.Laws.outcome_of d (exch CONTENT MOVED)
       (fetch_mem place at_entry p no_entry) ≡ Done (fetch_mem 0 at_entry p no_table) 1
   entry_back d p =
       exchanges d CONTENT MOVED (fetch_mem place at_entry p no_entry) entry_out

@@ -1,11 +1,11 @@
--- An exchange where there is the cell.
+-- An exchange if there is the cell.
 use Rattle.std.proofs.Common.{◌≡◌, ℕ, ◌<◌, Bool, true, false, length, refl, arith}
 use Rattle.std.specs.Prelude.{nat_lt, if◌then◌else◌, slice_index, slice_set}
 use Rattle.std.proofs.lemmas.Bool.Decides.{nat_tests}
-use Rattle.pisa_isa.specs.Machine.{Memory}
-use Rattle.paired_code.specs.Pieces.{Outcome, Done, Bad}
-use Rattle.paired_code.specs.Laws.{outcome_of}
-use Rattle.code_conventions.specs.Cells.{exch}
+use Rattle.refine_form.specs.pisa_isa.Machine.{Memory}
+use Rattle.refine_form.specs.paired_code.Pieces.{Outcome, Done, Bad}
+use Rattle.refine_form.specs.paired_code.Laws.{outcome_of}
+use Rattle.refine_form.specs.code_conventions.Cells.{exch}
 
 by_cell : (b : Bool) (o : Outcome) (x : ℕ) → b ≡ true → (if b then o else Bad x 0) ≡ o
 by_cell true o x e = refl

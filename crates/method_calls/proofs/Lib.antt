@@ -1,3 +1,10 @@
+pub use Rattle.refine_form.proofs.class_table_laws
+pub use Rattle.refine_form.proofs.stmt_inverter_laws
+pub use Rattle.refine_form.proofs.pisa_isa_laws
+pub use Rattle.refine_form.proofs.roopl_semantics_laws
+pub use Rattle.refine_form.proofs.meaning_sound_laws
+pub use Rattle.refine_form.proofs.refine_frame_laws
+pub use Rattle.refine_form.proofs as refine_form_laws
 pub mod Exchanges
 pub mod Addresses
 pub mod Moves

@@ -2,33 +2,33 @@
 use Rattle.std.proofs.Common.{◌≡◌, ℕ, suc, ◌+◌, ◌-◌, ◌^◌, ◌<◌, ◌≤◌, Bool, true, false, List, [], ◌∷◌, ◌++◌, length}
 use Rattle.std.proofs.Common.{refl, sym, ap, ◌∙◌, subst, arith, append-nil, append_assoc}
 use Rattle.std.specs.Prelude.{not, bit_xor, slice_index, slice_set, Some}
-use Rattle.rpp_tree.specs.declared.tree.Var.{Var}
-use Rattle.rpp_tree.specs.declared.tree.Ident.{Ident}
-use Rattle.rpp_tree.specs.Tree.{Expression, Null, Statement, Statements, Local, Construct, Call, New, Delete, Whole}
-use Rattle.rpp_tree.specs.Tree.{Item, Object as AnObject, End, Then, joined}
-use Rattle.stmt_inverter.specs.Inverse.{inverse, inverse_statement}
-use Rattle.pisa_isa.specs.Machine.{Memory}
-use Rattle.code_conventions.specs.declared.faults.TheConstants.{DELOCAL}
-use Rattle.code_conventions.specs.declared.registers.TheConstants.{FRAME, NOUGHT, VALUE}
-use Rattle.paired_code.specs.declared.part.Symbol.{Symbol}
-use Rattle.paired_code.specs.Machine.{Image}
-use Rattle.paired_code.specs.Layout.{check_equal_cells, mirror_cells}
-use Rattle.paired_code.specs.Pieces.{Done, Will}
-use Rattle.paired_code.specs.Does.{Told, Fine, Fault, More, plus, told_then, Meets, fine, faults, Does, in_order}
-use Rattle.paired_code.proofs.Laws.{will_of, will_more}
-use Rattle.paired_code.specs.Layout.{Equal}
-use Rattle.paired_code.proofs.Checks.{runs_passes, runs_fails}
-use Rattle.paired_code.proofs.Mirrored.{will_mirror}
-use Rattle.paired_code.proofs.Does.{will_last}
-use Rattle.roopl_semantics.specs.Run.{Run, ◌>>=◌, give, fault_if, after_cost}
-use Rattle.roopl_semantics.specs.Store.{Value, State, same_value}
-use Rattle.roopl_semantics.specs.Value.{Slot, read, evaluated}
-use Rattle.roopl_semantics.specs.Execution.{exec, statement, opened, closed, with_local, delocal_fault, constructed}
-use Rattle.roopl_semantics.specs.Execution.{element_call, element_name}
+use Rattle.refine_form.specs.rpp_tree.declared.tree.Var.{Var}
+use Rattle.refine_form.specs.rpp_tree.declared.tree.Ident.{Ident}
+use Rattle.refine_form.specs.rpp_tree.Tree.{Expression, Null, Statement, Statements, Local, Construct, Call, New, Delete, Whole}
+use Rattle.refine_form.specs.rpp_tree.Tree.{Item, Object as AnObject, End, Then, joined}
+use Rattle.refine_form.specs.stmt_inverter.Inverse.{inverse, inverse_statement}
+use Rattle.refine_form.specs.pisa_isa.Machine.{Memory}
+use Rattle.refine_form.specs.code_conventions.declared.faults.TheConstants.{DELOCAL}
+use Rattle.refine_form.specs.code_conventions.declared.registers.TheConstants.{FRAME, NOUGHT, VALUE}
+use Rattle.refine_form.specs.paired_code.declared.part.Symbol.{Symbol}
+use Rattle.refine_form.specs.paired_code.Machine.{Image}
+use Rattle.refine_form.specs.paired_code.Layout.{check_equal_cells, mirror_cells}
+use Rattle.refine_form.specs.paired_code.Pieces.{Done, Will}
+use Rattle.refine_form.specs.paired_code.Does.{Told, Fine, Fault, More, plus, told_then, Meets, fine, faults, Does, in_order}
+use Rattle.refine_form.proofs.paired_code_laws.Laws.{will_of, will_more}
+use Rattle.refine_form.specs.paired_code.Layout.{Equal}
+use Rattle.refine_form.proofs.paired_code_laws.Checks.{runs_passes, runs_fails}
+use Rattle.refine_form.proofs.paired_code_laws.Mirrored.{will_mirror}
+use Rattle.refine_form.proofs.paired_code_laws.Does.{will_last}
+use Rattle.refine_form.specs.roopl_semantics.Run.{Run, ◌>>=◌, give, fault_if, after_cost}
+use Rattle.refine_form.specs.roopl_semantics.Store.{Value, State, same_value}
+use Rattle.refine_form.specs.roopl_semantics.Value.{Slot, read, evaluated}
+use Rattle.refine_form.specs.roopl_semantics.Execution.{exec, statement, opened, closed, with_local, delocal_fault, constructed}
+use Rattle.refine_form.specs.roopl_semantics.Execution.{element_call, element_name}
 use Rattle.refine_form.specs.Form.{World, Scope, Moved, Open, holding, Owes, StmtLaw, BlockLaw, ValueLaw, with_var}
 use Rattle.refine_form.specs.Form.{told, one, turned}
 use Rattle.refine_form.specs.declared.spot.Spot.TheVariants.{Frame}
-use Rattle.code_conventions.specs.Cells.{exch}
+use Rattle.refine_form.specs.code_conventions.Cells.{exch}
 use Rattle.method_calls.specs.CallCode.{reach_row, store_code, local_open, local_code}
 use Rattle.method_calls.specs.Facts.{LocalFacts, new_word}
 use Rattle.refine_form.proofs.Told.{told_after, told_bind, same_then}
@@ -36,7 +36,7 @@ use Rattle.refine_form.proofs.Rules.{meets_rate, meets_told, meets_less, meets_t
 use Rattle.refine_form.proofs.Rules.{late_then, late_counts, as_known, will_in, will_two, will_two_back}
 use Rattle.refine_form.proofs.Rows.{here, next, will_row}
 use Rattle.method_calls.proofs.Addresses.{mk, will_find_word, will_leave_word}
-use Rattle.paired_code.specs.Rows.{line}
+use Rattle.refine_form.specs.paired_code.Rows.{line}
 use Rattle.method_calls.proofs.Exchanges.{exchanges}
 
 -- ---- a word changes places with a word of the frame
@@ -115,7 +115,7 @@ module _ (w : World) (IsInit : Scope → Var → Expression → Type 0) (f : Loc
       no_xor : (x : ℕ) → bit_xor 0 x ≡ x
       no_xor x = refl
 
-  -- the variable goes, where it has the closing value
+  -- the variable goes, if it has the closing value
   abbrev pub checked : State → Value → Told State
   checked st v = told (fault_if delocal_fault (not (same_value (read st (Slot 0)) v)) >>= λ z. give (closed st))
 

@@ -1,27 +1,27 @@
--- The run of the main piece up to the body of `main`, and from there on.
+-- The run of the main fragment up to the body of `main`, and from there on.
 use Rattle.std.proofs.Common.{◌≡◌, ◌≢◌, ℕ, ◌+◌, ◌^◌, ◌<◌, ◌≤◌, false, List, [], ◌∷◌, length, Some}
 use Rattle.std.proofs.Common.{refl, sym, ap, ◌∙◌, subst, arith}
 use Rattle.std.specs.Prelude.{pos}
-use Rattle.rpp_words.specs.declared.input.FieldWord.{FieldWord}
-use Rattle.pisa_isa.specs.Loaded.{loaded}
-use Rattle.pisa_isa.specs.Machine.{Memory, fetch}
-use Rattle.code_conventions.specs.declared.memory.TheConstants.{MAIN_OBJECT}
-use Rattle.code_conventions.specs.declared.registers.TheConstants.{LINK}
-use Rattle.code_conventions.specs.Cells.{bra}
-use Rattle.paired_code.specs.Cells.{swapbr}
-use Rattle.paired_code.specs.declared.part.Symbol.{Symbol}
-use Rattle.paired_code.specs.declared.part.Symbol.TheVariants.{Enter}
-use Rattle.paired_code.specs.Machine.{Image, reg, with_reg}
-use Rattle.paired_code.specs.Layout.{at, base, between, code_line, mirror_cells, Stands, Routine}
-use Rattle.paired_code.specs.Pieces.{Path, Done, Way, Ends, finishes, Will}
-use Rattle.paired_code.specs.Rows.{line}
-use Rattle.paired_code.proofs.Paths.{append, within_call}
-use Rattle.paired_code.proofs.Ways.{front, rest, and_then, from_to, way_wider}
-use Rattle.paired_code.proofs.Call.{on_line, negates, ends_jump, neg_between, between_positive, between_small}
-use Rattle.paired_code.proofs.Call.{apart, call_cell, enter_path, leave_path}
-use Rattle.paired_code.proofs.Mirrored.{will_mirror}
-use Rattle.roopl_semantics.specs.Store.{State}
-use Rattle.roopl_semantics.specs.Layout.{layout}
+use Rattle.refine_form.specs.rpp_words.declared.input.FieldWord.{FieldWord}
+use Rattle.refine_form.specs.pisa_isa.Loaded.{loaded}
+use Rattle.refine_form.specs.pisa_isa.Machine.{Memory, fetch}
+use Rattle.refine_form.specs.code_conventions.declared.memory.TheConstants.{MAIN_OBJECT}
+use Rattle.refine_form.specs.code_conventions.declared.registers.TheConstants.{LINK}
+use Rattle.refine_form.specs.code_conventions.Cells.{bra}
+use Rattle.refine_form.specs.paired_code.Cells.{swapbr}
+use Rattle.refine_form.specs.paired_code.declared.part.Symbol.{Symbol}
+use Rattle.refine_form.specs.paired_code.declared.part.Symbol.TheVariants.{Enter}
+use Rattle.refine_form.specs.paired_code.Machine.{Image, reg, with_reg}
+use Rattle.refine_form.specs.paired_code.Layout.{at, base, between, code_line, mirror_cells, Stands, Routine}
+use Rattle.refine_form.specs.paired_code.Pieces.{Path, Done, Way, Ends, finishes, Will}
+use Rattle.refine_form.specs.paired_code.Rows.{line}
+use Rattle.refine_form.proofs.paired_code_laws.Paths.{append, within_call}
+use Rattle.refine_form.proofs.paired_code_laws.Ways.{front, rest, and_then, from_to, way_wider}
+use Rattle.refine_form.proofs.paired_code_laws.Call.{on_line, negates, ends_jump, neg_between, between_positive, between_small}
+use Rattle.refine_form.proofs.paired_code_laws.Call.{apart, call_cell, enter_path, leave_path}
+use Rattle.refine_form.proofs.paired_code_laws.Mirrored.{will_mirror}
+use Rattle.refine_form.specs.roopl_semantics.Store.{State}
+use Rattle.refine_form.specs.roopl_semantics.Layout.{layout}
 use Rattle.refine_form.specs.Form.{World, Entered}
 use Rattle.refine_form.proofs.Rules.{as_known}
 use Rattle.method_calls.specs.CallCode.{main_row, main_code}
@@ -30,7 +30,7 @@ use Rattle.method_calls.specs.Laws.{EntersMain, main_start, body_start, body_end
 use Rattle.method_calls.proofs.Addresses.{mk}
 use Rattle.method_calls.proofs.MainPiece.{sets_out, comes_home}
 
--- where the outcome of a piece is known, it goes along to its end
+-- if the outcome of a fragment is known, it goes along to its end
 way_of : (im : Image) (p : List Symbol) (m m' : Memory) (k i : ℕ) → Will im p false m (λ o. o ≡ Done m' k)
     → i + length p < 2 ^ 30 → Stands im code_line i p → Way im code_line false i (i + length p) k i m (i + length p) m'
 way_of im p m m' k i h l st =
@@ -65,7 +65,7 @@ module _ (im : Image) (r top : ℕ) (body : List Symbol) (t : Routine im r top b
       (at code_line false (p + 1) (with_reg m LINK 0))
   go_out m z = leave_path im r top body t code_line false false a b p p lo hi (on_line p) caller ne hp false refl m z
 
--- ---- the main piece
+-- ---- the main fragment
 
 module _ (w : World) (knows : Known w) (f : FrameFacts w knows) (statics : List ℕ) (input : List FieldWord)
     (mf : MainFacts w statics input) where

@@ -1,35 +1,35 @@
--- The main piece, from the loaded memory.
+-- The main fragment, from the loaded memory.
 use Rattle.std.proofs.Common.{◌≡◌, ℕ, suc, ◌+◌, ◌-◌, ◌*◌, ◌^◌, ◌<◌, ◌≤◌, Bool, true, false, List, [], ◌∷◌, length, refl}
 use Rattle.std.proofs.Common.{sym, ap, ◌∙◌, subst, arith}
 use Rattle.std.specs.Prelude.{slice_index, slice_set}
 use Rattle.std.proofs.Math.ListN.{length-set}
-use Rattle.rpp_words.specs.Words.{negated}
-use Rattle.rpp_words.specs.declared.input.FieldWord.{FieldWord}
-use Rattle.rpp_words.specs.declared.input.Limits.{Limits}
-use Rattle.rpp_tree.specs.Tree.{Source}
-use Rattle.pisa_isa.specs.Loaded.{loaded}
-use Rattle.pisa_isa.specs.Machine.{Memory}
-use Rattle.pisa_isa.specs.declared.fixed.TheConstants.{STACK_CELL}
-use Rattle.code_conventions.specs.declared.memory.TheConstants.{MAIN_OBJECT}
-use Rattle.code_conventions.specs.declared.registers.TheConstants.{ADDRESS, CONTENT, FRAME, LINK, OBJECT}
-use Rattle.paired_code.specs.declared.part.Symbol.TheVariants.{Enter}
-use Rattle.paired_code.specs.Machine.{Image, reg, with_reg}
-use Rattle.paired_code.specs.Pieces.{Outcome, Done, Will}
-use Rattle.paired_code.specs.Does.{Told, Fine, Meets, fine, faults, more}
-use Rattle.paired_code.specs.Laws.{outcome_of}
-use Rattle.paired_code.specs.Rows.{line}
-use Rattle.paired_code.proofs.Laws.{will_more}
-use Rattle.paired_code.proofs.Call.{Returns, will_enter}
-use Rattle.roopl_semantics.specs.Store.{State}
-use Rattle.roopl_semantics.specs.Source.{starting, main_body}
-use Rattle.roopl_semantics.specs.Layout.{layout}
-use Rattle.roopl_semantics.specs.Execution.{exec}
+use Rattle.refine_form.specs.rpp_words.Words.{negated}
+use Rattle.refine_form.specs.rpp_words.declared.input.FieldWord.{FieldWord}
+use Rattle.refine_form.specs.rpp_words.declared.input.Limits.{Limits}
+use Rattle.refine_form.specs.rpp_tree.Tree.{Source}
+use Rattle.refine_form.specs.pisa_isa.Loaded.{loaded}
+use Rattle.refine_form.specs.pisa_isa.Machine.{Memory}
+use Rattle.refine_form.specs.pisa_isa.declared.fixed.TheConstants.{STACK_CELL}
+use Rattle.refine_form.specs.code_conventions.declared.memory.TheConstants.{MAIN_OBJECT}
+use Rattle.refine_form.specs.code_conventions.declared.registers.TheConstants.{ADDRESS, CONTENT, FRAME, LINK, OBJECT}
+use Rattle.refine_form.specs.paired_code.declared.part.Symbol.TheVariants.{Enter}
+use Rattle.refine_form.specs.paired_code.Machine.{Image, reg, with_reg}
+use Rattle.refine_form.specs.paired_code.Pieces.{Outcome, Done, Will}
+use Rattle.refine_form.specs.paired_code.Does.{Told, Fine, Meets, fine, faults, more}
+use Rattle.refine_form.specs.paired_code.Laws.{outcome_of}
+use Rattle.refine_form.specs.paired_code.Rows.{line}
+use Rattle.refine_form.proofs.paired_code_laws.Laws.{will_more}
+use Rattle.refine_form.proofs.paired_code_laws.Call.{Returns, will_enter}
+use Rattle.refine_form.specs.roopl_semantics.Store.{State}
+use Rattle.refine_form.specs.roopl_semantics.Source.{starting, main_body}
+use Rattle.refine_form.specs.roopl_semantics.Layout.{layout}
+use Rattle.refine_form.specs.roopl_semantics.Execution.{exec}
 use Rattle.refine_form.specs.Form.{World, Entered, AllMethods, registers, told}
 use Rattle.refine_form.proofs.Told.{alone}
 use Rattle.refine_form.proofs.Rules.{as_known, wraps, meets_told, meets_slack}
 use Rattle.refine_form.proofs.Rows.{here, next, will_row}
 use Rattle.refine_form.proofs.Blocks.{all_owe}
-use Rattle.code_conventions.specs.Cells.{add, exch, addi}
+use Rattle.refine_form.specs.code_conventions.Cells.{add, exch, addi}
 use Rattle.method_calls.specs.CallCode.{main_row, main_code}
 use Rattle.method_calls.specs.Facts.{Known, FrameFacts, MainFacts}
 use Rattle.method_calls.proofs.Exchanges.{exchanges}

@@ -1,15 +1,15 @@
--- A routine's body: the link and the place are put by round the code of its block.
+-- A routine's body: the link and the place are saved around the code of its block.
 use Rattle.std.proofs.Common.{◌≡◌, ℕ, ◌+◌, ◌-◌, ◌^◌, ◌<◌, Bool, true, List, [], refl, sym, ap, ◌∙◌, subst, arith}
 use Rattle.std.specs.Prelude.{slice_set}
-use Rattle.rpp_tree.specs.Tree.{Procedure}
-use Rattle.pisa_isa.specs.Machine.{Memory}
-use Rattle.code_conventions.specs.declared.memory.TheConstants.{PLACE_WORD}
-use Rattle.paired_code.specs.declared.part.Symbol.{Symbol}
-use Rattle.paired_code.specs.Pieces.{Will}
-use Rattle.paired_code.specs.Does.{Fine, told_then, Meets, fine}
-use Rattle.paired_code.proofs.Laws.{will_more}
-use Rattle.roopl_semantics.specs.Store.{State}
-use Rattle.roopl_semantics.specs.Execution.{exec, in_direction}
+use Rattle.refine_form.specs.rpp_tree.Tree.{Procedure}
+use Rattle.refine_form.specs.pisa_isa.Machine.{Memory}
+use Rattle.refine_form.specs.code_conventions.declared.memory.TheConstants.{PLACE_WORD}
+use Rattle.refine_form.specs.paired_code.declared.part.Symbol.{Symbol}
+use Rattle.refine_form.specs.paired_code.Pieces.{Will}
+use Rattle.refine_form.specs.paired_code.Does.{Fine, told_then, Meets, fine}
+use Rattle.refine_form.proofs.paired_code_laws.Laws.{will_more}
+use Rattle.refine_form.specs.roopl_semantics.Store.{State}
+use Rattle.refine_form.specs.roopl_semantics.Execution.{exec, in_direction}
 use Rattle.refine_form.specs.Form.{World, Scope, Open, Entered, Owes, BlockLaw, MethodLaw, registers, told}
 use Rattle.method_calls.specs.CallCode.{save_row, method_code}
 use Rattle.method_calls.specs.Facts.{Known, FrameFacts}
@@ -17,7 +17,7 @@ use Rattle.refine_form.proofs.Rules.{as_known, wraps, meets_told, meets_slack}
 use Rattle.refine_form.proofs.Told.{alone}
 use Rattle.method_calls.proofs.Addresses.{mk}
 use Rattle.method_calls.proofs.Depth.{will_save, will_restore}
-use Rattle.paired_code.specs.Rows.{line}
+use Rattle.refine_form.specs.paired_code.Rows.{line}
 
 module _ (w : World) (knows : Known w) (f : FrameFacts w knows) (s : Scope) (method : Procedure) (p : List Symbol)
     (hp : BlockLaw w s method.body p) where

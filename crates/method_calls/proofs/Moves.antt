@@ -4,18 +4,18 @@ use Rattle.std.proofs.Common.{map, refl, sym, ap, ◌∙◌, subst, arith}
 use Rattle.std.specs.Prelude.{not, nat_lt, slice_index, slice_set}
 use Rattle.std.proofs.lemmas.List.{get_or-set_other}
 use Rattle.std.proofs.Math.ListN.{length-set}
-use Rattle.rpp_words.specs.declared.input.TheConstants.{FRAME_WORDS}
-use Rattle.rpp_tree.specs.declared.tree.Ident.{Ident}
-use Rattle.pisa_isa.specs.Machine.{Memory}
-use Rattle.paired_code.specs.Machine.{Image}
-use Rattle.paired_code.specs.Pieces.{Outcome, Done, Trapped, Will, after}
-use Rattle.paired_code.specs.Does.{Fault, Meets, fine, faults}
-use Rattle.paired_code.proofs.Laws.{Next, will_of, will_more, will_seq_back}
-use Rattle.paired_code.proofs.Small.{runs_empty}
-use Rattle.roopl_semantics.specs.Run.{◌>>=◌, fault_if}
-use Rattle.roopl_semantics.specs.Store.{Value, State, is_zero}
-use Rattle.roopl_semantics.specs.Value.{Cell, read, written}
-use Rattle.roopl_semantics.specs.Execution.{moved_back, touched_fault}
+use Rattle.refine_form.specs.rpp_words.declared.input.TheConstants.{FRAME_WORDS}
+use Rattle.refine_form.specs.rpp_tree.declared.tree.Ident.{Ident}
+use Rattle.refine_form.specs.pisa_isa.Machine.{Memory}
+use Rattle.refine_form.specs.paired_code.Machine.{Image}
+use Rattle.refine_form.specs.paired_code.Pieces.{Outcome, Done, Trapped, Will, after}
+use Rattle.refine_form.specs.paired_code.Does.{Fault, Meets, fine, faults}
+use Rattle.refine_form.proofs.paired_code_laws.Laws.{Next, will_of, will_more, will_seq_back}
+use Rattle.refine_form.proofs.paired_code_laws.Small.{runs_empty}
+use Rattle.refine_form.specs.roopl_semantics.Run.{◌>>=◌, fault_if}
+use Rattle.refine_form.specs.roopl_semantics.Store.{Value, State, is_zero}
+use Rattle.refine_form.specs.roopl_semantics.Value.{Cell, read, written}
+use Rattle.refine_form.specs.roopl_semantics.Execution.{moved_back, touched_fault}
 use Rattle.refine_form.specs.Form.{World, Scope, Moved, pairs, registers, told}
 use Rattle.method_calls.specs.CallCode.{first_word, take_code, put_code, move_code, moves_code}
 use Rattle.refine_form.specs.declared.spot.Spot.{Spot}

@@ -4,26 +4,26 @@ use Rattle.std.proofs.Common.{map, refl, sym, ap, ◌∙◌, subst, arith}
 use Rattle.std.specs.Prelude.{not, nat_lt, slice_index, slice_set, Some}
 use Rattle.std.proofs.lemmas.List.{get_or-set_other}
 use Rattle.std.proofs.Math.ListN.{length-set}
-use Rattle.rpp_words.specs.declared.input.TheConstants.{FRAME_WORDS}
-use Rattle.rpp_tree.specs.declared.tree.Ident.{Ident}
-use Rattle.rpp_tree.specs.Tree.{Call, Whole, Procedure}
-use Rattle.class_table.specs.Classes.{method_named}
-use Rattle.pisa_isa.specs.Machine.{Memory}
-use Rattle.pisa_isa.specs.declared.fixed.TheConstants.{END_CELL}
-use Rattle.code_conventions.specs.declared.registers.TheConstants.{FRAME, VALUE}
-use Rattle.paired_code.specs.declared.part.Symbol.{Symbol}
-use Rattle.paired_code.specs.Layout.{xor, enter_at_cells}
-use Rattle.paired_code.specs.Pieces.{Outcome, Done, Trapped, Will, after}
-use Rattle.paired_code.specs.Does.{Told, Fine, Fault, plus, told_then, Meets, faults}
-use Rattle.paired_code.proofs.Laws.{Next, will_more, will_seq, will_seq_back}
-use Rattle.paired_code.proofs.Does.{Quiet, quiet, then_quiet}
-use Rattle.roopl_semantics.specs.Run.{Run, ◌>>=◌, after_cost, fault_if}
-use Rattle.roopl_semantics.specs.Store.{Value, Name, State, is_zero, is_nil, number_of, cleared}
-use Rattle.roopl_semantics.specs.Value.{Cell, read, written, cell_named, own_class, nil_fault}
-use Rattle.roopl_semantics.specs.Execution.{Setting, exec, in_direction, invoked, moved_out, moved_back, bound}
-use Rattle.roopl_semantics.specs.Execution.{cells_named, class_of, is_too_deep, too_deep_fault, touched_fault}
+use Rattle.refine_form.specs.rpp_words.declared.input.TheConstants.{FRAME_WORDS}
+use Rattle.refine_form.specs.rpp_tree.declared.tree.Ident.{Ident}
+use Rattle.refine_form.specs.rpp_tree.Tree.{Call, Whole, Procedure}
+use Rattle.refine_form.specs.class_table.Classes.{method_named}
+use Rattle.refine_form.specs.pisa_isa.Machine.{Memory}
+use Rattle.refine_form.specs.pisa_isa.declared.fixed.TheConstants.{END_CELL}
+use Rattle.refine_form.specs.code_conventions.declared.registers.TheConstants.{FRAME, VALUE}
+use Rattle.refine_form.specs.paired_code.declared.part.Symbol.{Symbol}
+use Rattle.refine_form.specs.paired_code.Layout.{xor, enter_at_cells}
+use Rattle.refine_form.specs.paired_code.Pieces.{Outcome, Done, Trapped, Will, after}
+use Rattle.refine_form.specs.paired_code.Does.{Told, Fine, Fault, plus, told_then, Meets, faults}
+use Rattle.refine_form.proofs.paired_code_laws.Laws.{Next, will_more, will_seq, will_seq_back}
+use Rattle.refine_form.proofs.paired_code_laws.Does.{Quiet, quiet, then_quiet}
+use Rattle.refine_form.specs.roopl_semantics.Run.{Run, ◌>>=◌, after_cost, fault_if}
+use Rattle.refine_form.specs.roopl_semantics.Store.{Value, Name, State, is_zero, is_nil, number_of, cleared}
+use Rattle.refine_form.specs.roopl_semantics.Value.{Cell, read, written, cell_named, own_class, nil_fault}
+use Rattle.refine_form.specs.roopl_semantics.Execution.{Setting, exec, in_direction, invoked, moved_out, moved_back, bound}
+use Rattle.refine_form.specs.roopl_semantics.Execution.{cells_named, class_of, is_too_deep, too_deep_fault, touched_fault}
 use Rattle.refine_form.specs.Form.{World, Scope, pairs, Open, Owes, StmtLaw, registers, told, one, turned}
-use Rattle.code_conventions.specs.Cells.{addi}
+use Rattle.refine_form.specs.code_conventions.Cells.{addi}
 use Rattle.method_calls.specs.CallCode.{depth_code, moves_code, fetch_row, nil_code, take_code, onto_code}
 use Rattle.method_calls.specs.CallCode.{front_on_code, call_on_code}
 use Rattle.method_calls.specs.Facts.{Known, FrameFacts, Receivers, ReceiverFacts, HasPlace, GoesOn, ComesBack, address}
@@ -40,9 +40,9 @@ use Rattle.method_calls.proofs.ApartCells.{out_reads, read_other, moves_out, sam
 use Rattle.method_calls.specs.Laws.{NotAmong, AllApart}
 use Rattle.method_calls.proofs.ReceiverParts.{nil_passes, nil_traps, takes, gives_back, finds_touched, turns_to}
 use Rattle.method_calls.proofs.ReceiverParts.{turns_from}
-use Rattle.paired_code.specs.Rows.{line}
+use Rattle.refine_form.specs.paired_code.Rows.{line}
 
--- values that move back leave the other cells alone
+-- values that move back do not change the other cells
 stays : (cells : List Cell) (values : List Value) (st end : State) (k : ℕ) (c : Cell) → NotAmong c cells
     → told (moved_back cells values st) ≡ Fine end k → read end c ≡ read st c
 stays [] values st end k c n e = let q : st ≡ end = cc in ap (λ z. read z c) (sym q)
@@ -165,7 +165,7 @@ module _ (setting : Setting) (n : ℕ) (back : Bool) (at : ℕ) (x name : Ident)
       (record caller { store = end.store; log = end.log }))
       )
 
--- ---- the piece
+-- ---- the fragment
 
 module _ (w : World) (knows : Known w) (f : FrameFacts w knows) (on : Receivers w) (g : ReceiverFacts w knows on)
     (s : Scope) (x name : Ident) (args : List Ident) (is : on.IsReceiver s x name args) (few : length args ≤ 32)
@@ -321,7 +321,7 @@ module _ (w : World) (knows : Known w) (f : FrameFacts w knows) (on : Receivers 
         (λ o. o ≡ Done (mk 0 word (fr + FRAME_WORDS) 0 0 0 0 0 in_cells) 1) =
         will_row w.im false (addi FRAME FRAME_WORDS ∷ []) 1 _ _ (next refl (omega arith)
         (ap (λ v. Done (mk 0 word v 0 0 0 0 0 in_cells) 1)
-        (let z : package.Rattle.rpp_words.specs.Words.sum_of fr FRAME_WORDS
+        (let z : package.Rattle.refine_form.specs.rpp_words.Words.sum_of fr FRAME_WORDS
         ≡ fr + FRAME_WORDS = (let t = frame_small in omega arith) in z)) here) in
         will_two w.im (nil_code sp) _ _ _ 6 _ (nil_passes w.im ob fr sp cs peeked.at_in low peeked.small false
         (peeked.name_word there))
@@ -626,7 +626,7 @@ module _ (w : World) (knows : Known w) (f : FrameFacts w knows) (on : Receivers 
       (same_depth c (out_from cells st) (cleared (read (out_from cells st) c))) in
       let el : caller.log ≡ (out_from cells st).log = same_log c (out_from cells st)
       (cleared (read (out_from cells st) c)) in
-      let run : ℕ → package.Rattle.buddy_book.specs.Place.Log
+      let run : ℕ → package.Rattle.refine_form.specs.buddy_book.Place.Log
       → Told State = λ deepness log. plus (1 + length args)
       (told_then (told (exec w.setting n (in_direction (xor back d) method.body)
       (record {
@@ -645,12 +645,12 @@ module _ (w : World) (knows : Known w) (f : FrameFacts w knows) (on : Receivers 
       (apart u st m.cells h.open_frame).0 st m.cells h.open_frame ez e n owes back d))
     where
       same_depth : (c : Cell) (st : State) (v : Value) → st.depth ≡ (written st c v).depth
-      same_depth (package.Rattle.roopl_semantics.specs.Value.Slot i) st v = refl
-      same_depth (package.Rattle.roopl_semantics.specs.Value.Part k i) st v = refl
+      same_depth (package.Rattle.refine_form.specs.roopl_semantics.Value.Slot i) st v = refl
+      same_depth (package.Rattle.refine_form.specs.roopl_semantics.Value.Part k i) st v = refl
 
       same_log : (c : Cell) (st : State) (v : Value) → (written st c v).log ≡ st.log
-      same_log (package.Rattle.roopl_semantics.specs.Value.Slot i) st v = refl
-      same_log (package.Rattle.roopl_semantics.specs.Value.Part k i) st v = refl
+      same_log (package.Rattle.refine_form.specs.roopl_semantics.Value.Slot i) st v = refl
+      same_log (package.Rattle.refine_form.specs.roopl_semantics.Value.Part k i) st v = refl
 
   -- the code of a call on the object of a variable
   pub call_on_law : StmtLaw w s (Call at back (Some (Whole x)) name args)

@@ -1,29 +1,29 @@
--- A call or uncall on the present object, in both directions.
+-- A call or uncall on the current object, in both directions.
 use Rattle.std.proofs.Common.{◌≡◌, ℕ, suc, ◌+◌, ◌-◌, ◌*◌, ◌^◌, ◌<◌, ◌≤◌, Bool, true, false, List, [], ◌∷◌, ◌++◌, length}
 use Rattle.std.proofs.Common.{map, refl, sym, ap, ◌∙◌, subst, arith}
 use Rattle.std.specs.Prelude.{not, nat_lt, slice_index, None}
-use Rattle.rpp_words.specs.declared.input.TheConstants.{FRAME_WORDS}
-use Rattle.rpp_tree.specs.declared.tree.Ident.{Ident}
-use Rattle.rpp_tree.specs.Tree.{Call, Procedure}
-use Rattle.class_table.specs.Classes.{method_named}
-use Rattle.pisa_isa.specs.Machine.{Memory}
-use Rattle.pisa_isa.specs.declared.fixed.TheConstants.{END_CELL}
-use Rattle.code_conventions.specs.declared.registers.TheConstants.{FRAME, LINK, VALUE}
-use Rattle.paired_code.specs.Machine.{reg, with_reg}
-use Rattle.paired_code.specs.Layout.{xor, Routine, Tidy, enter_at_cells}
-use Rattle.paired_code.specs.Pieces.{Outcome, Done, Trapped, Will, after}
-use Rattle.paired_code.specs.Does.{Told, Fault, plus, told_then, Meets, fine, faults, more}
-use Rattle.paired_code.proofs.Laws.{Next, will_more, will_seq}
-use Rattle.paired_code.proofs.EnterAt.{Returns_at, will_enter_at}
-use Rattle.paired_code.proofs.Does.{Quiet, quiet, then_quiet}
-use Rattle.roopl_semantics.specs.Run.{Run, ◌>>=◌, after_cost, fault_if}
-use Rattle.roopl_semantics.specs.Store.{Value, State}
-use Rattle.roopl_semantics.specs.Value.{Cell, read, own_class}
-use Rattle.roopl_semantics.specs.Execution.{Setting, exec, in_direction, invoked, moved_out, moved_back, bound}
-use Rattle.roopl_semantics.specs.Execution.{cells_named, is_too_deep, too_deep_fault}
+use Rattle.refine_form.specs.rpp_words.declared.input.TheConstants.{FRAME_WORDS}
+use Rattle.refine_form.specs.rpp_tree.declared.tree.Ident.{Ident}
+use Rattle.refine_form.specs.rpp_tree.Tree.{Call, Procedure}
+use Rattle.refine_form.specs.class_table.Classes.{method_named}
+use Rattle.refine_form.specs.pisa_isa.Machine.{Memory}
+use Rattle.refine_form.specs.pisa_isa.declared.fixed.TheConstants.{END_CELL}
+use Rattle.refine_form.specs.code_conventions.declared.registers.TheConstants.{FRAME, LINK, VALUE}
+use Rattle.refine_form.specs.paired_code.Machine.{reg, with_reg}
+use Rattle.refine_form.specs.paired_code.Layout.{xor, Routine, Tidy, enter_at_cells}
+use Rattle.refine_form.specs.paired_code.Pieces.{Outcome, Done, Trapped, Will, after}
+use Rattle.refine_form.specs.paired_code.Does.{Told, Fault, plus, told_then, Meets, fine, faults, more}
+use Rattle.refine_form.proofs.paired_code_laws.Laws.{Next, will_more, will_seq}
+use Rattle.refine_form.proofs.paired_code_laws.EnterAt.{Returns_at, will_enter_at}
+use Rattle.refine_form.proofs.paired_code_laws.Does.{Quiet, quiet, then_quiet}
+use Rattle.refine_form.specs.roopl_semantics.Run.{Run, ◌>>=◌, after_cost, fault_if}
+use Rattle.refine_form.specs.roopl_semantics.Store.{Value, State}
+use Rattle.refine_form.specs.roopl_semantics.Value.{Cell, read, own_class}
+use Rattle.refine_form.specs.roopl_semantics.Execution.{Setting, exec, in_direction, invoked, moved_out, moved_back, bound}
+use Rattle.refine_form.specs.roopl_semantics.Execution.{cells_named, is_too_deep, too_deep_fault}
 use Rattle.refine_form.specs.Form.{World, Scope, pairs, Open, Entered, Owes, StmtLaw, RunsBody, registers, told, one}
 use Rattle.refine_form.specs.Form.{turned}
-use Rattle.code_conventions.specs.Cells.{addi}
+use Rattle.refine_form.specs.code_conventions.Cells.{addi}
 use Rattle.method_calls.specs.CallCode.{depth_code, moves_code, fetch_row, front_code, call_code}
 use Rattle.method_calls.specs.Facts.{Known, FrameFacts, HasPlace, out_from, vals_from}
 use Rattle.refine_form.proofs.Told.{told_after, told_bind, plus_none, plus_plus}
@@ -33,12 +33,12 @@ use Rattle.refine_form.proofs.Rows.{here, next, will_row}
 use Rattle.method_calls.proofs.Addresses.{mk, less_is}
 use Rattle.method_calls.proofs.Moves.{cells_of, AllVariables, AllUp, all_up, all_back}
 use Rattle.method_calls.proofs.Depth.{depth_passes, depth_traps, will_fetch, will_unfetch}
-use Rattle.paired_code.specs.Rows.{line}
+use Rattle.refine_form.specs.paired_code.Rows.{line}
 
 -- ---- a routine by its place: its body as it is met from the call
 
 module _ (w : World) (s : Scope) (u : w.Under) (place : ℕ) where
-  -- in the call, round the body: $2 is 0, and the place stands in its register
+  -- in the call, around the body: $2 is 0, and the code address is in its register
   pub record InCall (st : State) (m : Memory) : Type 0 where
     pub regs_are : m.regs ≡ registers 0 (w.object_of u) (w.frame_of u) 0 0 0 0 place
     pub open_frame : w.opens s u [] st m.cells
@@ -150,7 +150,7 @@ module _ (setting : Setting) (n : ℕ) (back : Bool) (at : ℕ) (name : Ident) (
       (map (λ binding. binding.value) end.frame) (record caller { store = end.store; log = end.log }))
       )
 
--- ---- the piece
+-- ---- the fragment
 
 module _ (w : World) (knows : Known w) (f : FrameFacts w knows) (s : Scope) (name : Ident) (args : List Ident)
     (is : knows.IsMethod s name args) (few : length args ≤ 32) (u : w.Under) (vars : AllVariables w knows f s u args)
@@ -206,7 +206,7 @@ module _ (w : World) (knows : Known w) (f : FrameFacts w knows) (s : Scope) (nam
   object_small : ob < 2 ^ 23
   object_small = (f.steady s u [] st cs h).object_small
 
-  -- an open frame leaves room behind it, or ends the stack
+  -- a current frame has space after it, or ends the stack
   end_fits : (st : State) (cs : List ℕ) → w.opens s u [] st cs → (b : Bool) → is_full ≡ b
       → fr + FRAME_WORDS ≤ slice_index cs END_CELL
   end_fits st cs h true e = let t = (f.has_end s u st cs h).at_end e in omega arith
@@ -240,7 +240,7 @@ module _ (w : World) (knows : Known w) (f : FrameFacts w knows) (s : Scope) (nam
         (λ o. o ≡ Done (mk 0 ob (fr + FRAME_WORDS) 0 0 0 0 0 moved.cells) 1) =
         will_row w.im false (addi FRAME FRAME_WORDS ∷ []) 1 _ _ (next refl (omega arith)
         (ap (λ v. Done (mk 0 ob v 0 0 0 0 0 moved.cells) 1)
-        (let z : package.Rattle.rpp_words.specs.Words.sum_of fr FRAME_WORDS
+        (let z : package.Rattle.refine_form.specs.rpp_words.Words.sum_of fr FRAME_WORDS
         ≡ fr + FRAME_WORDS = (let t = frame_small in omega arith) in z)) here) in
         let fetched = will_fetch w.im ob (fr + FRAME_WORDS) slot place moved.cells p.object_in p.small
         (f.calls.slot_small s name args is) p.entry_in p.apart p.entry place_small in
@@ -335,7 +335,7 @@ module _ (w : World) (knows : Known w) (f : FrameFacts w knows) (s : Scope) (nam
             (1 + k) + 0
         enough steps k e few = let z : steps * (1 + k) ≡ 1000 * (1 + k) = ap (λ x. x * (1 + k)) e in omega (arith, z)
 
-  -- where too many calls are open
+  -- if too many calls are open
   refused : (n : ℕ) (kind d : Bool) → is_full ≡ true → Will w.im (call_code (knows.spot s) kind slot args) d
       (mk 0 ob fr 0 0 0 0 0 cs) (Meets (Open w s u) w.rates (suc n) 0 (Fault 14 (1 + length args)))
   refused n kind d e =
@@ -360,7 +360,7 @@ module _ (w : World) (knows : Known w) (f : FrameFacts w knows) (s : Scope) (nam
 
 -- ---- the law
 
--- the direction of the call that the piece is, run along or back
+-- the direction of the call that the fragment is, run forward or backward
 turned_call : (d back : Bool) (at : ℕ) (name : Ident) (args : List Ident)
     → turned d (Call at back None name args) ≡ Call at (xor d back) None name args
 turned_call false back at name args = refl
@@ -429,7 +429,7 @@ module _ (w : World) (knows : Known w) (f : FrameFacts w knows) (s : Scope) (at 
       (will_more w.im _ d _ _ _ (λ o q. meets_told _ _ (sym said) (meets_less (suc n) (omega arith) q))
       (called w knows f s name args is few u (vars u) st m.cells h.open_frame e n owes back d))
 
-  -- the code of a call on the present object
+  -- the code of a call on the current object
   pub call_law : StmtLaw w s (Call at back None name args) (call_code (knows.spot s) back (knows.slot s name) args)
   call_law n owes d u = record {
     does = λ st m h. law_by n owes d u st m h

@@ -3,19 +3,19 @@ use Rattle.std.proofs.Common.{◌≡◌, ◌≢◌, ℕ, ◌+◌, ◌^◌, ◌<�
 use Rattle.std.proofs.Common.{◌∙◌, arith}
 use Rattle.std.specs.Prelude.{slice_index, slice_set}
 use Rattle.std.proofs.Math.ListN.{length-set}
-use Rattle.rpp_words.specs.declared.input.TheConstants.{FRAME_WORDS}
-use Rattle.rpp_words.specs.Words.{is_less}
-use Rattle.pisa_isa.specs.Machine.{Memory}
-use Rattle.code_conventions.specs.declared.faults.TheConstants.{NIL, TOUCHED}
-use Rattle.code_conventions.specs.declared.registers.TheConstants.{CONTENT, FRAME, MOVED, NOUGHT, OBJECT}
-use Rattle.paired_code.specs.Machine.{Image}
-use Rattle.paired_code.specs.Layout.{check_equal_cells, check_positive_cells}
-use Rattle.paired_code.specs.Pieces.{Done, Trapped, Will, after}
-use Rattle.paired_code.specs.Rows.{line}
-use Rattle.paired_code.proofs.Laws.{will_of, will_more}
-use Rattle.paired_code.specs.Layout.{Equal, Positive}
-use Rattle.paired_code.proofs.Checks.{runs_passes, runs_fails}
-use Rattle.code_conventions.specs.Cells.{add, sub, exch}
+use Rattle.refine_form.specs.rpp_words.declared.input.TheConstants.{FRAME_WORDS}
+use Rattle.refine_form.specs.rpp_words.Words.{is_less}
+use Rattle.refine_form.specs.pisa_isa.Machine.{Memory}
+use Rattle.refine_form.specs.code_conventions.declared.faults.TheConstants.{NIL, TOUCHED}
+use Rattle.refine_form.specs.code_conventions.declared.registers.TheConstants.{CONTENT, FRAME, MOVED, NOUGHT, OBJECT}
+use Rattle.refine_form.specs.paired_code.Machine.{Image}
+use Rattle.refine_form.specs.paired_code.Layout.{check_equal_cells, check_positive_cells}
+use Rattle.refine_form.specs.paired_code.Pieces.{Done, Trapped, Will, after}
+use Rattle.refine_form.specs.paired_code.Rows.{line}
+use Rattle.refine_form.proofs.paired_code_laws.Laws.{will_of, will_more}
+use Rattle.refine_form.specs.paired_code.Layout.{Equal, Positive}
+use Rattle.refine_form.proofs.paired_code_laws.Checks.{runs_passes, runs_fails}
+use Rattle.refine_form.specs.code_conventions.Cells.{add, sub, exch}
 use Rattle.refine_form.specs.Cells.{around}
 use Rattle.refine_form.specs.declared.spot.Spot.{Spot}
 use Rattle.refine_form.proofs.Rows.{here, next, will_row}
@@ -39,7 +39,7 @@ module _ (im : Image) (ob fr : ℕ) (sp : Spot) (cs : List ℕ) (inside : addres
   abbrev gone : List ℕ
   gone = slice_set cs at 0
 
-  -- the base stands at the spot
+  -- the base is at the storage slot
   abbrev on_spot : (content moved flag : ℕ) → List ℕ → Memory
   on_spot b c g l = at_spot ob fr sp b c g l
 

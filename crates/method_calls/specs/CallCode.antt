@@ -1,33 +1,33 @@
 -- The code of calls, of methods and of blocks with a local variable.
 use Rattle.std.specs.Prelude.{ℕ, ◌+◌, Bool, false, List, [], ◌∷◌, ◌++◌, length}
-use Rattle.rpp_words.specs.Words.{negated}
-use Rattle.rpp_words.specs.declared.input.TheConstants.{FRAME_WORDS}
+use Rattle.refine_form.specs.rpp_words.Words.{negated}
+use Rattle.refine_form.specs.rpp_words.declared.input.TheConstants.{FRAME_WORDS}
 use Rattle.refine_form.specs.declared.spot.Spot.{Spot}
 use Rattle.refine_form.specs.declared.spot.Spot.TheVariants.{Field, Frame}
-use Rattle.rpp_tree.specs.declared.tree.Ident.{Ident}
-use Rattle.pisa_isa.specs.declared.cell.Cell.{Cell}
-use Rattle.pisa_isa.specs.declared.fixed.TheConstants.{STACK_CELL, END_CELL}
-use Rattle.code_conventions.specs.Cells.{add, sub, exch, addi}
-use Rattle.code_conventions.specs.declared.faults.TheConstants.{DELOCAL, NIL, TOO_DEEP, TOUCHED}
-use Rattle.code_conventions.specs.declared.memory.TheConstants.{FIRST_VARIABLE, HEADER_WORDS}
-use Rattle.code_conventions.specs.declared.memory.TheConstants.{MAIN_OBJECT}
-use Rattle.code_conventions.specs.declared.memory.TheConstants.{OBJECT_WORD, PLACE_WORD}
-use Rattle.code_conventions.specs.declared.memory.TheConstants.{TABLE_HEADER}
-use Rattle.code_conventions.specs.declared.registers.TheConstants.{ADDRESS, CONTENT, FRAME}
-use Rattle.code_conventions.specs.declared.registers.TheConstants.{LINK}
-use Rattle.code_conventions.specs.declared.registers.TheConstants.{MOVED, NOUGHT, OBJECT, VALUE}
-use Rattle.paired_code.specs.declared.part.Symbol.{Symbol}
-use Rattle.paired_code.specs.declared.part.Symbol.TheVariants.{Enter}
-use Rattle.paired_code.specs.Layout.{mirror_cells, check_equal_cells, check_differ_cells}
-use Rattle.paired_code.specs.Layout.{check_positive_cells, enter_at_cells}
-use Rattle.paired_code.specs.Rows.{line}
+use Rattle.refine_form.specs.rpp_tree.declared.tree.Ident.{Ident}
+use Rattle.refine_form.specs.pisa_isa.declared.cell.Cell.{Cell}
+use Rattle.refine_form.specs.pisa_isa.declared.fixed.TheConstants.{STACK_CELL, END_CELL}
+use Rattle.refine_form.specs.code_conventions.Cells.{add, sub, exch, addi}
+use Rattle.refine_form.specs.code_conventions.declared.faults.TheConstants.{DELOCAL, NIL, TOO_DEEP, TOUCHED}
+use Rattle.refine_form.specs.code_conventions.declared.memory.TheConstants.{FIRST_VARIABLE, HEADER_WORDS}
+use Rattle.refine_form.specs.code_conventions.declared.memory.TheConstants.{MAIN_OBJECT}
+use Rattle.refine_form.specs.code_conventions.declared.memory.TheConstants.{OBJECT_WORD, PLACE_WORD}
+use Rattle.refine_form.specs.code_conventions.declared.memory.TheConstants.{TABLE_HEADER}
+use Rattle.refine_form.specs.code_conventions.declared.registers.TheConstants.{ADDRESS, CONTENT, FRAME}
+use Rattle.refine_form.specs.code_conventions.declared.registers.TheConstants.{LINK}
+use Rattle.refine_form.specs.code_conventions.declared.registers.TheConstants.{MOVED, NOUGHT, OBJECT, VALUE}
+use Rattle.refine_form.specs.paired_code.declared.part.Symbol.{Symbol}
+use Rattle.refine_form.specs.paired_code.declared.part.Symbol.TheVariants.{Enter}
+use Rattle.refine_form.specs.paired_code.Layout.{mirror_cells, check_equal_cells, check_differ_cells}
+use Rattle.refine_form.specs.paired_code.Layout.{check_positive_cells, enter_at_cells}
+use Rattle.refine_form.specs.paired_code.Rows.{line}
 use Rattle.refine_form.specs.Cells.{around}
 
 -- the first variable's word in a frame
 abbrev pub first_word : ℕ
 first_word = FIRST_VARIABLE
 
--- the register from which a spot is reached, and how far it is
+-- the register from which a storage slot is reached, and how far it is
 abbrev pub base_of : Spot → ℕ
 base_of (Field i) = OBJECT
 base_of (Frame j) = FRAME
@@ -36,7 +36,7 @@ abbrev pub offset_of : Spot → ℕ
 offset_of (Field i) = HEADER_WORDS + i
 offset_of (Frame j) = j
 
--- the base goes to the spot
+-- the base goes to the storage slot
 abbrev pub reach_row : Spot → List Cell
 reach_row spot = addi (base_of spot) (offset_of spot) ∷ []
 
@@ -44,7 +44,7 @@ reach_row spot = addi (base_of spot) (offset_of spot) ∷ []
 abbrev pub above_row : ℕ → List Cell
 above_row word = addi FRAME (FRAME_WORDS + word) ∷ []
 
--- the word of a spot leaves its cell for MOVED; back, the cell is to be 0
+-- the word of a storage slot leaves its cell for MOVED; back, the cell is to be 0
 abbrev pub take_code : Spot → List Symbol
 take_code spot = around (line (reach_row spot))
     (check_equal_cells MOVED NOUGHT TOUCHED ++ line (exch MOVED (base_of spot) ∷ []))
@@ -68,28 +68,28 @@ abbrev pub end_row : List Cell
 end_row =
     addi ADDRESS END_CELL ∷ exch CONTENT ADDRESS ∷ addi CONTENT (negated FRAME_WORDS) ∷ []
 
--- the open frame is not the last one
+-- the current frame is not the last one
 abbrev pub depth_code : List Symbol
 depth_code = around (line end_row) (check_differ_cells FRAME CONTENT TOO_DEEP)
 
--- VALUE gets the place of the method in a slot, by the table of the present object's class, whose
--- word is out of the object meanwhile
+-- VALUE gets the code address of the method in a slot, by the table of the current object's class,
+-- whose word is out of the object during this
 abbrev pub fetch_row : ℕ → List Cell
 fetch_row slot =
     exch MOVED OBJECT ∷ addi MOVED (TABLE_HEADER + slot) ∷ exch CONTENT MOVED
     ∷ add VALUE CONTENT ∷ exch CONTENT MOVED ∷ addi MOVED (negated (TABLE_HEADER + slot))
     ∷ exch MOVED OBJECT ∷ []
 
--- before a call on the present object
+-- before a call on the current object
 abbrev pub front_code : (Ident → Spot) → ℕ → List Ident → List Symbol
 front_code spot slot args = depth_code ++ (moves_code spot args
     ++ line (addi FRAME FRAME_WORDS ∷ fetch_row slot))
 
--- a call or uncall on the present object
+-- a call or uncall on the current object
 abbrev pub call_code : (Ident → Spot) → Bool → ℕ → List Ident → List Symbol
 call_code spot back slot args = around (front_code spot slot args) (enter_at_cells VALUE back)
 
--- the link and the place are put by in words 0 and 2 of the frame
+-- the link and the place are saved in words 0 and 2 of the frame
 abbrev pub save_row : List Cell
 save_row =
     exch LINK FRAME ∷ addi FRAME PLACE_WORD ∷ exch VALUE FRAME ∷ addi FRAME (negated PLACE_WORD)
@@ -105,7 +105,7 @@ main_row =
     addi OBJECT MAIN_OBJECT ∷ addi ADDRESS STACK_CELL ∷ exch CONTENT ADDRESS ∷ add FRAME CONTENT
     ∷ exch CONTENT ADDRESS ∷ addi ADDRESS (negated STACK_CELL) ∷ []
 
--- the main piece runs the routine of `main`
+-- the main fragment runs the routine of `main`
 abbrev pub main_code : ℕ → List Symbol
 main_code routine = around (line main_row) (Enter routine false ∷ [])
 
@@ -122,7 +122,7 @@ abbrev pub local_code : ℕ → (value body last : List Symbol) → List Symbol
 local_code word value body last = local_open word value
     ++ (body ++ mirror_cells (local_open word last))
 
--- CONTENT gets the word of a spot, which is 0 meanwhile
+-- CONTENT gets the word of a storage slot, which is 0 during this
 abbrev pub peek_row : Spot → List Cell
 peek_row spot = addi (base_of spot) (offset_of spot) ∷ exch CONTENT (base_of spot) ∷ []
 
@@ -130,7 +130,7 @@ peek_row spot = addi (base_of spot) (offset_of spot) ∷ exch CONTENT (base_of s
 abbrev pub nil_code : Spot → List Symbol
 nil_code spot = around (line (peek_row spot)) (check_positive_cells CONTENT NIL)
 
--- OBJECT is put by in the frame above, and gets the receiver's word
+-- OBJECT is saved in the frame above, and gets the receiver's word
 abbrev pub onto_code : List Symbol
 onto_code = around (line (above_row OBJECT_WORD)) (line (exch OBJECT FRAME ∷ []))
     ++ line (add OBJECT MOVED ∷ sub MOVED OBJECT ∷ [])
@@ -147,7 +147,7 @@ abbrev pub call_on_code : (Ident → Spot) → Bool → Ident → ℕ → List I
 call_on_code spot back x slot args = around (front_on_code spot x slot args)
     (enter_at_cells VALUE back)
 
--- the moves of arguments that stand at these spots
+-- the moves of arguments that are in these storage slots
 abbrev pub moves_of : List Spot → List Symbol
 moves_of [] = []
 moves_of (spot ∷ spots) = moves_of spots ++ move_code spot (length spots)
@@ -156,7 +156,7 @@ moves_of (spot ∷ spots) = moves_of spots ++ move_code spot (length spots)
 unfoldable pub last_cells : ℕ → List Symbol
 last_cells slot = line (addi FRAME FRAME_WORDS ∷ fetch_row slot)
 
--- the cells behind the moves of the arguments, under one name
+-- the cells after the moves of the arguments, under one name
 unfoldable pub behind_of : Spot → ℕ → List Symbol
 behind_of x slot = take_code x ++ (onto_code ++ last_cells slot)
 
@@ -164,15 +164,15 @@ behind_of x slot = take_code x ++ (onto_code ++ last_cells slot)
 unfoldable pub checked_of : Spot → ℕ → List Spot → List Symbol
 checked_of x slot args = depth_code ++ (moves_of args ++ behind_of x slot)
 
--- what comes before a call on the object of a variable, by the spots
+-- what comes before a call on the object of a variable, by the storage slots
 unfoldable pub front_on_of : Spot → ℕ → List Spot → List Symbol
 front_on_of x slot args = nil_code x ++ checked_of x slot args
 
--- a call on the present object, by the spots of its arguments
+-- a call on the current object, by the storage slots of its arguments
 unfoldable pub own_cells : Bool → ℕ → List Spot → List Symbol
 own_cells back slot args = around (depth_code ++ (moves_of args ++ last_cells slot))
     (enter_at_cells VALUE back)
 
--- the main piece, under one name
+-- the main fragment, under one name
 unfoldable pub main_cells : ℕ → List Symbol
 main_cells routine = main_code routine

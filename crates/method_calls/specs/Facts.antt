@@ -1,30 +1,30 @@
--- What calls need of the layers below: the open frame, the class table, the image.
+-- What calls need of the layers below: the current frame, the class table, the image.
 use Rattle.std.specs.Prelude.{◌≡◌, ◌≢◌, ℕ, ◌+◌, ◌^◌, ◌<◌, ◌≤◌, Bool, true, false, not, nat_lt, List}
 use Rattle.std.specs.Prelude.{[], ◌∷◌, length, map, slice_index, slice_set, bit_xor}
-use Rattle.rpp_words.specs.declared.input.TheConstants.{FRAME_WORDS}
-use Rattle.rpp_tree.specs.declared.tree.Ident.{Ident}
-use Rattle.rpp_tree.specs.declared.tree.Var.{Var}
-use Rattle.paired_code.specs.Does.{Fine}
-use Rattle.rpp_tree.specs.Tree.{Expression}
-use Rattle.class_table.specs.Classes.{method_named}
-use Rattle.paired_code.specs.Layout.{Routine, Tidy}
-use Rattle.roopl_semantics.specs.Store.{Value, Name, Store, State, is_zero, is_nil, number_of, cleared}
-use Rattle.roopl_semantics.specs.Store.{same_value}
-use Rattle.roopl_semantics.specs.Value.{Cell, Slot, cell_named, own_class, read, written, evaluated}
-use Rattle.roopl_semantics.specs.Execution.{bound, opened, closed, class_of}
-use Rattle.rpp_words.specs.declared.input.FieldWord.{FieldWord}
-use Rattle.pisa_isa.specs.Loaded.{loaded}
-use Rattle.pisa_isa.specs.declared.fixed.TheConstants.{STACK_CELL, END_CELL}
-use Rattle.code_conventions.specs.declared.memory.TheConstants.{HEADER_WORDS, MAIN_OBJECT}
-use Rattle.code_conventions.specs.declared.memory.TheConstants.{OBJECT_WORD, PLACE_WORD, TABLE_HEADER}
-use Rattle.roopl_semantics.specs.Source.{starting, main_body}
-use Rattle.roopl_semantics.specs.Layout.{layout}
+use Rattle.refine_form.specs.rpp_words.declared.input.TheConstants.{FRAME_WORDS}
+use Rattle.refine_form.specs.rpp_tree.declared.tree.Ident.{Ident}
+use Rattle.refine_form.specs.rpp_tree.declared.tree.Var.{Var}
+use Rattle.refine_form.specs.paired_code.Does.{Fine}
+use Rattle.refine_form.specs.rpp_tree.Tree.{Expression}
+use Rattle.refine_form.specs.class_table.Classes.{method_named}
+use Rattle.refine_form.specs.paired_code.Layout.{Routine, Tidy}
+use Rattle.refine_form.specs.roopl_semantics.Store.{Value, Name, Store, State, is_zero, is_nil, number_of, cleared}
+use Rattle.refine_form.specs.roopl_semantics.Store.{same_value}
+use Rattle.refine_form.specs.roopl_semantics.Value.{Cell, Slot, cell_named, own_class, read, written, evaluated}
+use Rattle.refine_form.specs.roopl_semantics.Execution.{bound, opened, closed, class_of}
+use Rattle.refine_form.specs.rpp_words.declared.input.FieldWord.{FieldWord}
+use Rattle.refine_form.specs.pisa_isa.Loaded.{loaded}
+use Rattle.refine_form.specs.pisa_isa.declared.fixed.TheConstants.{STACK_CELL, END_CELL}
+use Rattle.refine_form.specs.code_conventions.declared.memory.TheConstants.{HEADER_WORDS, MAIN_OBJECT}
+use Rattle.refine_form.specs.code_conventions.declared.memory.TheConstants.{OBJECT_WORD, PLACE_WORD, TABLE_HEADER}
+use Rattle.refine_form.specs.roopl_semantics.Source.{starting, main_body}
+use Rattle.refine_form.specs.roopl_semantics.Layout.{layout}
 use Rattle.refine_form.specs.Form.{World, Scope, Moved, pairs, with_var, told}
 use Rattle.method_calls.specs.CallCode.{first_word}
 use Rattle.refine_form.specs.declared.spot.Spot.{Spot}
 use Rattle.refine_form.specs.declared.spot.Spot.TheVariants.{Field, Frame}
 
--- the address of a spot, where the object and the frame stand at these
+-- the address of a storage slot, if the object and the frame have these addresses
 abbrev pub address : ℕ → ℕ → Spot → ℕ
 address object frame (Field i) = object + (HEADER_WORDS + i)
 address object frame (Frame j) = frame + j
@@ -33,7 +33,7 @@ abbrev pub IsNear : Spot → Type 0
 IsNear (Field i) = i < 2 ^ 16
 IsNear (Frame j) = j < 2 ^ 16
 
--- a cell of an open frame and a word of the frame above
+-- a cell of a current frame and a word of the frame above
 pub record AreApart (cells : List ℕ) (at up : ℕ) : Type 0 where
   pub at_in : at < length cells
   pub up_in : up < length cells
@@ -44,28 +44,28 @@ pub record IsFree (cells : List ℕ) (at : ℕ) (free : Bool) : Type 0 where
   pub touched : free ≡ false → slice_index cells at ≢ 0
   pub untouched : free ≡ true → slice_index cells at ≡ 0
 
--- a value goes from a cell of an open frame to an empty word of the frame above
+-- a value goes from a cell of a current frame to an empty word of the frame above
 pub record MovesIn (cells : List ℕ) (at up : ℕ) (After : List ℕ → Type 0) : Type 0 where
   pub words : AreApart cells at up
   pub empty : slice_index cells up ≡ 0
   pub moved : After (slice_set (slice_set cells at 0) up (slice_index cells at))
 
--- and back, where the cell is free
+-- and back, if the cell is free
 pub record MovesBack (cells : List ℕ) (at up : ℕ) (free : Bool) (After : List ℕ → Type 0) : Type 0
   where
     pub words : AreApart cells at up
     pub cell : IsFree cells at free
     pub back : free ≡ true → After (slice_set (slice_set cells up 0) at (slice_index cells up))
 
--- the end of the stack stands in its cell: it tells whether one more call may be open
+-- the end of the stack is in its cell: it says whether one more call may be active
 pub record HasEnd (cells : List ℕ) (frame : ℕ) (full : Bool) : Type 0 where
   pub cell_in : END_CELL < length cells
   pub small : slice_index cells END_CELL < 2 ^ 31
   pub at_end : full ≡ true → frame + FRAME_WORDS ≡ slice_index cells END_CELL
   pub room : full ≡ false → frame + FRAME_WORDS < slice_index cells END_CELL
 
--- the table of an object's class, and the place that stands in a slot: not in the object's own first
--- word, which is 0 while the place is read
+-- the table of an object's class, and the code address in a slot: it is not in the object's own
+-- first word, which is 0 while the code address is read
 pub record HasPlace (cells : List ℕ) (object slot place : ℕ) : Type 0 where
   pub object_in : object < length cells
   pub small : slice_index cells object < 2 ^ 23
@@ -88,9 +88,9 @@ abbrev pub vals_from : List Cell → State → List Value
 vals_from [] st = []
 vals_from (c ∷ cs) st = read (out_from cs st) c ∷ vals_from cs st
 
--- what is known of names when code is made, and what stays while a frame is open
+-- what holds for names when code is made, and what stays while a frame is current
 pub record Known (w : World) : Type 1 where
-  -- a name is a variable or a field; where it stands; a method of the present object with these
+  -- a name is a variable or a field; its storage slot; a method of the current object with these
   -- arguments, and its slot
   pub IsVariable : Scope → Ident → Type 0
   pub spot : Scope → Ident → Spot
@@ -101,17 +101,17 @@ pub record Known (w : World) : Type 1 where
   pub depth_of : w.Under → ℕ
   pub self_of : w.Under → ℕ
   pub class_of : w.Under → ℕ
-  -- the same frame with a link and a place put by
+  -- the same frame with a link and a place saved
   pub put : w.Under → ℕ → ℕ → w.Under
-  -- what stays while a call on the present object is open, made from this state with its arguments
+  -- what stays while a call on the current object is open, made from this state with its arguments
   -- moved
   pub deeper : Scope → w.Under → State → w.Under
   -- the routine of a method in a class
   pub routine : ℕ → Ident → ℕ
 
--- ---- what an open frame tells
+-- ---- what a current frame says
 
--- where the word of a name stands
+-- the address of a name's word
 abbrev pub address_in : (w : World) → Known w → Scope → w.Under → Ident → ℕ
 address_in w knows s u name = address (w.object_of u) (w.frame_of u) (knows.spot s name)
 
@@ -119,7 +119,7 @@ address_in w knows s u name = address (w.object_of u) (w.frame_of u) (knows.spot
 abbrev pub argument_above : (w : World) → w.Under → ℕ → ℕ
 argument_above w u others = w.frame_of u + (FRAME_WORDS + (first_word + others))
 
--- the word of the frame above for the present object
+-- the word of the frame above for the current object
 abbrev pub object_above : (w : World) → w.Under → ℕ
 object_above w u = w.frame_of u + (FRAME_WORDS + OBJECT_WORD)
 
@@ -139,7 +139,7 @@ without w knows s u st name = with_value w knows s u st name (cleared (value_in 
 abbrev pub is_full : (w : World) → Known w → w.Under → Bool
 is_full w knows u = not (nat_lt (knows.depth_of u) w.setting.limits.deep)
 
--- an open frame is steady: its addresses are small, its depth, its object and the object's class
+-- a current frame is steady: its addresses are small, its depth, its object and the object's class
 -- stay, and a name means the same cell all the while
 pub record IsSteady (w : World) (knows : Known w) (s : Scope) (u : w.Under) (st : State) : Type 0
   where
@@ -151,7 +151,7 @@ pub record IsSteady (w : World) (knows : Known w) (s : Scope) (u : w.Under) (st 
     pub means : (name : Ident) → knows.IsVariable s name
         → cell_named w.setting.program st name.text ≡ knows.cell_of s u name
 
--- ---- what a call tells of the frame that it opens
+-- ---- what a call says about the frame that it opens
 
 -- a call: what stays while it is open, and of which class the method is, by its name
 pub record Callee (w : World) : Type 0 where
@@ -186,7 +186,7 @@ last_values end = map (λ binding. binding.value) end.frame
 abbrev pub resumed : State → State → State
 resumed st end = record st { store = end.store; log = end.log }
 
--- its frame is the next one, and nothing is put by in it
+-- its frame is the next one, and nothing is saved in it
 pub record IsNext (w : World) (u deeper : w.Under) : Type 0 where
   pub fresh : w.IsFresh deeper
   pub above : w.frame_of deeper ≡ w.frame_of u + FRAME_WORDS
@@ -204,10 +204,10 @@ pub record CalleeTells (w : World) (knows : Known w) (callee : Callee w) (object
   pub as_many : length (last_values end) ≡ length args
   pub has_place : HasPlace cells object slot (w.routines.top (routine_of w knows callee) + 1)
 
--- ---- what calls need of open frames, of the class table and of the image
+-- ---- what calls need of current frames, of the class table and of the image
 
--- each routine stands in the image, with one jump before its place; a step stands for a count at
--- least, and a count for a thousand steps
+-- each routine is in the image, with one jump before its code address; a step is worth at least one
+-- cost unit, and a cost unit a thousand steps
 pub record ImageFacts (w : World) : Type 0 where
   pub placed : (r : ℕ) → r < w.routines.count
       → Routine w.im (w.routines.number r) (w.routines.top r) (w.routines.body r)
@@ -232,7 +232,7 @@ pub record MoveFacts (w : World) (knows : Known w) : Type 0 where
       (is_zero (value_in w knows s u st name))
       (w.opens s u vals (with_value w knows s u st name v))
 
--- a call on the present object, of the method that the object's class has
+-- a call on the current object, of the method that the object's class has
 abbrev pub own_callee : (w : World) → Known w → Scope → w.Under → State → Ident → Callee w
 own_callee w knows s u st name = record {
   under = knows.deeper s u st;
@@ -240,8 +240,8 @@ own_callee w knows s u st name = record {
   name = name;
 }
 
--- a call on the present object has a routine; with all arguments in the frame above, that frame is
--- the callee's, and where the method has ended, its variables are the arguments that have moved
+-- a call on the current object has a routine; with all arguments in the frame above, that frame is
+-- the callee's, and if the method has ended, its variables are the arguments that have moved
 pub record OwnFacts (w : World) (knows : Known w) : Type 0 where
   pub slot_small : (s : Scope) (name : Ident) (args : List Ident) → knows.IsMethod s name args
       → knows.slot s name < 2 ^ 20
@@ -273,8 +273,8 @@ pub record OwnFacts (w : World) (knows : Known w) : Type 0 where
       → knows.IsMethod s name args
       → w.opens s u (pairs args (last_values end)) (resumed st end) cells
 
--- the words of a fresh frame for a link and a place are 0; with these put by, the same object and
--- frame are open, and where they are taken back, the frame is as before
+-- the words of a fresh frame for a link and a code address are 0; After these are stored, the
+-- object and frame are still the current ones. If they are removed, the frame is as before.
 pub record PutFacts (w : World) (knows : Known w) : Type 0 where
   pub saves : (s : Scope) (u : w.Under) (st : State) (cells : List ℕ) → w.opens s u [] st cells
       → w.IsFresh u
@@ -295,8 +295,8 @@ pub record PutFacts (w : World) (knows : Known w) : Type 0 where
   pub put_frame : (u : w.Under) (link place : ℕ)
       → w.frame_of (knows.put u link place) ≡ w.frame_of u
 
--- all of this; each variable stands near, each open frame is steady, and the stack's end tells its
--- depth
+-- all of this; each variable is near, each current frame is steady, and the stack's end determines
+-- its depth
 pub record FrameFacts (w : World) (knows : Known w) : Type 0 where
   pub image : ImageFacts w
   pub near : (s : Scope) (name : Ident) → knows.IsVariable s name → IsNear (knows.spot s name)
@@ -308,7 +308,7 @@ pub record FrameFacts (w : World) (knows : Known w) : Type 0 where
   pub calls : OwnFacts w knows
   pub puts : PutFacts w knows
 
--- what main needs of them, for an input: its frame is the first one, and where it is the only one,
+-- what main needs of them, for an input: its frame is the first one, and if it is the only one,
 -- the memory is the layout
 pub record MainFacts (w : World) (statics : List ℕ) (input : List FieldWord) : Type 0 where
   pub main : ℕ
@@ -331,9 +331,9 @@ pub record MainFacts (w : World) (statics : List ℕ) (input : List FieldWord) :
 abbrev pub new_word : Scope → ℕ
 new_word s = first_word + length s.vars
 
--- what a local variable needs of an open frame: its word is free, and tells its value
--- IsInit: the expression may be the value of this new variable: it is of its type, and does not
--- name it
+-- What a local variable needs of a current frame: its word is free, and determines its value.
+-- IsInit: the expression may be the value of this new variable: it has its type, and does not name
+-- it.
 pub record LocalFacts (w : World) (IsInit : Scope → Var → Expression → Type 0) : Type 0 where
   pub frame_small : (s : Scope) (u : w.Under) (vals : List Moved) (st : State) (cells : List ℕ)
       → w.opens s u vals st cells → w.frame_of u < 2 ^ 23
@@ -356,7 +356,7 @@ pub record LocalFacts (w : World) (IsInit : Scope → Var → Expression → Typ
       (e : Expression)
       → w.opens (with_var s var) u [] st cells → IsInit s var e
       → slice_index cells (w.frame_of u + new_word s) ≡ w.word_of u st (read st (Slot 0))
-  -- where its word is taken away, expressions can be read; and where the value is the closing one,
+  -- if its word is taken away, expressions can be read; and if the value is the closing one,
   -- the frame is open without it
   pub undeclares : (s : Scope) (u : w.Under) (st : State) (cells : List ℕ) (var : Var)
       (e : Expression)
@@ -385,14 +385,14 @@ pub record LocalFacts (w : World) (IsInit : Scope → Var → Expression → Typ
       → same_value (read st (Slot 0)) v ≡ false
       → bit_xor (w.word_of u st (read st (Slot 0))) (w.word_of u (closed st) v) ≢ 0
 
--- the receiver's word leaves its cell, and the caller's object is put by in the frame above
+-- the receiver's word leaves its cell, and the caller's object is saved in the frame above
 pub record GoesOn (cells : List ℕ) (at up object word : ℕ) (After : List ℕ → Type 0) : Type 0 where
   pub words : AreApart cells at up
   pub empty : slice_index cells up ≡ 0
   pub word_is : slice_index cells at ≡ word
   pub moved : After (slice_set (slice_set cells at 0) up object)
 
--- and back, where the cell is free
+-- and back, if the cell is free
 pub record ComesBack (cells : List ℕ) (at up object word : ℕ) (free : Bool)
     (After : List ℕ → Type 0) : Type 0 where
   pub words : AreApart cells at up
@@ -400,9 +400,9 @@ pub record ComesBack (cells : List ℕ) (at up object word : ℕ) (free : Bool)
   pub cell : IsFree cells at free
   pub back : free ≡ true → After (slice_set (slice_set cells up 0) at word)
 
--- what is known of receivers: a variable x whose class has the method, with so many arguments; the
--- method's slot; what stays while the call is open; and that an object of a class may stand in the
--- variable
+-- What holds for receivers: a variable x whose class has the method, with so many arguments; the
+-- method's slot; and what stays while the call is active. Also that the variable may hold an object
+-- of a class.
 pub record Receivers (w : World) : Type 1 where
   pub IsReceiver : Scope → Ident → Ident → List Ident → Type 0
   pub slot_on : Scope → Ident → Ident → ℕ
@@ -418,7 +418,7 @@ callee_on w knows on s u st n name = record {
   name = name;
 }
 
--- the word of a receiver x: 0 for nil, else an address, where x names an object
+-- the word of a receiver x: 0 for nil, else an address, if x names an object
 pub record ReceiverWord (w : World) (knows : Known w) (s : Scope) (u : w.Under) (st : State)
     (cells : List ℕ) (x : Ident) : Type 0 where
   pub at_in : address_in w knows s u x < length cells
@@ -430,14 +430,14 @@ pub record ReceiverWord (w : World) (knows : Known w) (s : Scope) (u : w.Under) 
   pub is_name : is_nil (value_in w knows s u st x) ≡ false
       → value_in w knows s u st x ≡ Name (number_of (value_in w knows s u st x))
 
--- an object n of the state may stand in the variable x, and its class has the method
+-- an object n of the state may be in the variable x, and its class has the method
 pub record FindsMethod (w : World) (knows : Known w) (on : Receivers w) (s : Scope) (st : State)
     (x : Ident) (n : ℕ) (callee : Callee w) : Type 0 where
   pub suits : on.IsFor s x callee.class
   pub class_is : class_of w.setting st n ≡ callee.class
   pub runs : RunsMethod w knows callee.class callee.name
 
--- a receiver is a variable whose word tells its object, and whose cell reads what was written
+-- a receiver is a variable whose word determines its object, and whose cell reads what was written
 pub record ReceiverWords (w : World) (knows : Known w) (on : Receivers w) : Type 0 where
   pub is_variable : (s : Scope) (x name : Ident) (args : List Ident) → on.IsReceiver s x name args
       → knows.IsVariable s x
@@ -450,7 +450,7 @@ pub record ReceiverWords (w : World) (knows : Known w) (on : Receivers w) : Type
       → value_in w knows s u (with_value w knows s u st x v) x ≡ v
 
 -- a call on its object has a routine; with all arguments and the caller's object in the frame
--- above, that frame is the callee's, and where the method has ended, the receiver comes back
+-- above, that frame is the callee's, and if the method has ended, the receiver comes back
 pub record OnFacts (w : World) (knows : Known w) (on : Receivers w) : Type 0 where
   pub slot_small : (s : Scope) (x name : Ident) (args : List Ident) → on.IsReceiver s x name args
       → on.slot_on s x name < 2 ^ 20
@@ -490,7 +490,7 @@ pub record OnFacts (w : World) (knows : Known w) (on : Receivers w) : Type 0 whe
       (w.opens s u (pairs args (last_values end))
       (with_value w knows s u (resumed st end) x (Name n)))
 
--- what a call on the object of a variable needs beside
+-- what a call on the object of a variable needs in addition
 pub record ReceiverFacts (w : World) (knows : Known w) (on : Receivers w) : Type 0 where
   pub words : ReceiverWords w knows on
   pub calls : OnFacts w knows on

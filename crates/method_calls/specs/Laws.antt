@@ -2,22 +2,22 @@
 -- parts do.
 use Rattle.std.specs.Prelude.{◌≡◌, ◌≢◌, ℕ, ◌+◌, ◌^◌, ◌<◌, Bool, false, List, [], ◌∷◌, length, map}
 use Rattle.std.specs.Prelude.{Some, None}
-use Rattle.rpp_words.specs.declared.input.FieldWord.{FieldWord}
-use Rattle.rpp_tree.specs.declared.tree.Ident.{Ident}
-use Rattle.rpp_tree.specs.declared.tree.Var.{Var}
-use Rattle.rpp_tree.specs.Tree.{Expression, Null, Whole, Item, Statements, Local, Construct, Call}
-use Rattle.rpp_tree.specs.Tree.{Procedure}
-use Rattle.pisa_isa.specs.Loaded.{loaded}
-use Rattle.pisa_isa.specs.Machine.{Memory}
-use Rattle.paired_code.specs.declared.part.Symbol.{Symbol}
-use Rattle.paired_code.specs.Layout.{at, code_line, Stands}
-use Rattle.paired_code.specs.Pieces.{Path, Way, Will}
-use Rattle.paired_code.specs.Does.{Meets}
-use Rattle.roopl_semantics.specs.Store.{State}
-use Rattle.roopl_semantics.specs.Value.{Cell}
-use Rattle.roopl_semantics.specs.Execution.{exec, constructed, element_call, element_name}
-use Rattle.roopl_semantics.specs.Source.{starting, main_body}
-use Rattle.roopl_semantics.specs.Layout.{layout}
+use Rattle.refine_form.specs.rpp_words.declared.input.FieldWord.{FieldWord}
+use Rattle.refine_form.specs.rpp_tree.declared.tree.Ident.{Ident}
+use Rattle.refine_form.specs.rpp_tree.declared.tree.Var.{Var}
+use Rattle.refine_form.specs.rpp_tree.Tree.{Expression, Null, Whole, Item, Statements, Local, Construct, Call}
+use Rattle.refine_form.specs.rpp_tree.Tree.{Procedure}
+use Rattle.refine_form.specs.pisa_isa.Loaded.{loaded}
+use Rattle.refine_form.specs.pisa_isa.Machine.{Memory}
+use Rattle.refine_form.specs.paired_code.declared.part.Symbol.{Symbol}
+use Rattle.refine_form.specs.paired_code.Layout.{at, code_line, Stands}
+use Rattle.refine_form.specs.paired_code.Pieces.{Path, Way, Will}
+use Rattle.refine_form.specs.paired_code.Does.{Meets}
+use Rattle.refine_form.specs.roopl_semantics.Store.{State}
+use Rattle.refine_form.specs.roopl_semantics.Value.{Cell}
+use Rattle.refine_form.specs.roopl_semantics.Execution.{exec, constructed, element_call, element_name}
+use Rattle.refine_form.specs.roopl_semantics.Source.{starting, main_body}
+use Rattle.refine_form.specs.roopl_semantics.Layout.{layout}
 use Rattle.refine_form.specs.declared.spot.Spot.{Spot}
 use Rattle.refine_form.specs.Form.{World, Scope, with_var, ValueLaw, BlockLaw, StmtLaw}
 use Rattle.refine_form.specs.Form.{Entered, MethodLaw, AllMethods, registers, told}
@@ -30,8 +30,8 @@ use Rattle.method_calls.specs.Names.{class_named}
 
 -- ---- blocks with a local variable
 
--- Its word takes the value and, behind the body, is to be the closing value, or it stops with fault
--- 3; back it is the inverse statement, where the two values change places. So are the blocks that
+-- Its word takes the value. After the body it must be the final value, or the code stops with fault
+-- 3. Backward it is the inverse statement, with the two values exchanged. So are the blocks that
 -- `construct` and calls on elements mean.
 pub record LocalCode (word : ℕ) (v p x all : List Symbol) : Type 0 where
   pub law : (place : Place) (s : Scope) (at : ℕ) (var : Var) (value : Expression)
@@ -69,7 +69,7 @@ abbrev pub AllApart : List Cell → Type 0
 AllApart [] = Unit {0}
 AllApart (c ∷ cells) = NotAmong c cells × AllApart cells
 
--- in every open frame of this scope the names are cells apart
+-- in every current frame of this scope the names are cells apart
 abbrev pub NamesApart : (w : World) → Known w → Scope → List Ident → Type 0
 NamesApart w knows s names =
     (u : w.Under) (st : State) (cells : List ℕ) → w.opens s u [] st cells
@@ -79,9 +79,9 @@ abbrev pub AreVariables : (w : World) → Known w → Scope → List Ident → T
 AreVariables w knows s [] = Unit {0}
 AreVariables w knows s (name ∷ names) = knows.IsVariable s name × AreVariables w knows s names
 
--- A call or uncall on the present object of the method in a slot, with arguments at these spots. It
--- stops with fault 14 where one more call may not be open, and with fault 15 where an argument does
--- not move back. Which method it is, the class of the object tells.
+-- A call or uncall on the current object of the method in a slot, with arguments at these storage
+-- slots. It stops with fault 14 if one more call may not be open, and with fault 15 if an argument
+-- does not move back. The class of the object determines which method it is.
 pub record OwnCallCode (back : Bool) (slot : ℕ) (spots : List Spot) (all : List Symbol) : Type 0
   where
     pub law : (place : Place) (routine : ℕ → Ident → ℕ) (s : Scope) (at : ℕ) (name : Ident)
@@ -94,8 +94,8 @@ pub record OwnCallCode (back : Bool) (slot : ℕ) (spots : List Spot) (all : Lis
         → NamesApart (world_of place) (known_of place routine) s args
         → StmtLaw (world_of place) s (Call at back None name args) all
 
--- A call or uncall on the object of a variable at a spot: fault 5 comes before fault 14, where the
--- variable is nil, and fault 15 where it does not move back.
+-- A call or uncall on the object of a variable at a storage slot: fault 5 comes before fault 14, if
+-- the variable is nil, and fault 15 if it does not move back.
 pub record CallOnCode (back : Bool) (spot : Spot) (slot : ℕ) (spots : List Spot)
     (all : List Symbol) : Type 0 where
   pub law : (place : Place) (routine : ℕ → Ident → ℕ) (s : Scope) (at : ℕ) (x name : Ident)
@@ -112,7 +112,7 @@ pub record CallOnCode (back : Bool) (spot : Spot) (slot : ℕ) (spots : List Spo
 
 -- ---- methods and main
 
--- a method's body: the link and the place are put by round its block
+-- a method's body: the link and the place are saved around its block
 pub record MethodCode (p all : List Symbol) : Type 0 where
   pub law : (place : Place) (routine : ℕ → Ident → ℕ) (s : Scope) (method : Procedure)
       → FrameFacts (world_of place) (known_of place routine)
@@ -122,7 +122,7 @@ pub record MethodCode (p all : List Symbol) : Type 0 where
 abbrev pub quiet : List ℕ → Memory
 quiet cells = record { regs = registers 0 0 0 0 0 0 0 0; cells = cells }
 
--- the main piece begins with the loaded memory
+-- the main fragment begins with the loaded memory
 abbrev pub main_start : World → List ℕ → List FieldWord → Memory
 main_start w statics input = quiet (loaded statics w.setting.limits input)
 
@@ -130,14 +130,14 @@ main_start w statics input = quiet (loaded statics w.setting.limits input)
 abbrev pub body_start : World → ℕ → ℕ
 body_start w r = w.routines.top r + 1 + 1 + 1
 
--- the place behind it
+-- the position after it
 abbrev pub body_end : World → ℕ → ℕ
 body_end w r = body_start w r + length (w.routines.body r)
 
--- The main piece, from cell i on: nine steps lead from its start to the first cell of main's body,
--- where the first frame is open in the state with which the source starts; and wherever the body
--- leaves that frame open behind it, ten more lead behind the piece, with the layout and zero
--- registers.
+-- The main fragment, from cell i on. Nine steps lead from its start to the first cell of main's
+-- body, where the first frame is current in the state with which the source starts. If the body
+-- leaves that frame current after it, ten more steps lead past the fragment, with the layout and
+-- zero registers.
 pub record EntersMain (w : World) (statics : List ℕ) (input : List FieldWord)
     (main : MainFacts w statics input) (i : ℕ) (all : List Symbol) : Type 0 where
   -- the word by which the body returns, and the memory in which it begins
@@ -158,8 +158,8 @@ pub record EntersMain (w : World) (statics : List ℕ) (input : List FieldWord)
       i (main_start w statics input) (i + length all)
       (quiet (layout w.setting.program w.setting.limits statics st.store st.log))
 
--- The main piece, from the loaded memory: it runs main's body in the first frame, so does what the
--- source says of `main`, and leaves the layout with zero registers.
+-- The main fragment, from the loaded memory: it runs main's body in the first frame, so does what
+-- the source says of `main`, and leaves the layout with zero registers.
 pub record MainCode (number : ℕ) (all : List Symbol) : Type 0 where
   pub enters : (place : Place) (routine : ℕ → Ident → ℕ) (input : List FieldWord)
       → FrameFacts (world_of place) (known_of place routine)

@@ -1,3 +1,10 @@
+pub use Rattle.refine_form.specs.rpp_tree
+pub use Rattle.refine_form.specs.class_table
+pub use Rattle.refine_form.specs.code_conventions
+pub use Rattle.refine_form.specs.roopl_semantics
+pub use Rattle.refine_form.specs.meaning_sound
+pub use Rattle.refine_form.specs.refine_frame
+pub use Rattle.refine_form.specs as refine_form
 pub mod CallCode
 pub mod Facts
 pub mod Names

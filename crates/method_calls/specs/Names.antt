@@ -1,31 +1,31 @@
--- What is known of names when code is made, and what stays while a call is open.
+-- What holds for names when code is made, and what stays while a call is active.
 use Rattle.std.specs.Prelude.{◌≡◌, ◌⊎◌, ℕ, ◌+◌, ◌<◌, ◌≤◌, ◌^◌, true, false, List, [], ◌∷◌, length}
 use Rattle.std.specs.Prelude.{map, replicate, slice_index, Some, Result, Ok, Err}
 use Rattle.std.specs.Option.{unwrap_or}
-use Rattle.rpp_tree.specs.declared.tree.Ident.{Ident}
-use Rattle.rpp_tree.specs.declared.tree.Var.{Var}
-use Rattle.rpp_tree.specs.Tree.{Expression, Null, Source}
-use Rattle.class_table.specs.declared.kind.Kind.{Kind}
-use Rattle.class_table.specs.declared.kind.Kind.TheVariants as kind
-use Rattle.class_table.specs.Table.{table_of, slot_in, dispatch_in}
-use Rattle.class_table.specs.Overrides.{parameters_of}
-use Rattle.class_table.specs.Inheritance.{is_or_inherits, kind_of_var}
-use Rattle.class_table.specs.Expressions.{is_int, type_of, variable_type, occurs}
-use Rattle.class_table.specs.Program.{setting_in}
-use Rattle.buddy_book.specs.Place.{place}
-use Rattle.roopl_semantics.specs.Store.{State, object_at, class_of_head}
-use Rattle.roopl_semantics.specs.Layout.{no_placing}
-use Rattle.meaning_sound.specs.Plain.{HasWords}
+use Rattle.refine_form.specs.rpp_tree.declared.tree.Ident.{Ident}
+use Rattle.refine_form.specs.rpp_tree.declared.tree.Var.{Var}
+use Rattle.refine_form.specs.rpp_tree.Tree.{Expression, Null, Source}
+use Rattle.refine_form.specs.class_table.declared.kind.Kind.{Kind}
+use Rattle.refine_form.specs.class_table.declared.kind.Kind.TheVariants as kind
+use Rattle.refine_form.specs.class_table.Table.{table_of, slot_in, dispatch_in}
+use Rattle.refine_form.specs.class_table.Overrides.{parameters_of}
+use Rattle.refine_form.specs.class_table.Inheritance.{is_or_inherits, kind_of_var}
+use Rattle.refine_form.specs.class_table.Expressions.{is_int, type_of, variable_type, occurs}
+use Rattle.refine_form.specs.class_table.Program.{setting_in}
+use Rattle.refine_form.specs.buddy_book.Place.{place}
+use Rattle.refine_form.specs.roopl_semantics.Store.{State, object_at, class_of_head}
+use Rattle.refine_form.specs.roopl_semantics.Layout.{no_placing}
+use Rattle.refine_form.specs.meaning_sound.Plain.{HasWords}
 use Rattle.refine_form.specs.Form.{Scope}
 use Rattle.refine_form.specs.Frames.{Caller, Under, cell_in, address_of}
 use Rattle.refine_form.specs.Stands.{shape_of, spot_in}
 use Rattle.refine_form.specs.Worlds.{Place, world_of}
 use Rattle.method_calls.specs.Facts.{IsNear, Known, Receivers}
-use Rattle.code_conventions.specs.declared.memory.TheConstants.{MOST_VARIABLES, FIRST_VARIABLE}
+use Rattle.refine_form.specs.code_conventions.declared.memory.TheConstants.{MOST_VARIABLES, FIRST_VARIABLE}
 
 -- ---- variables, methods, receivers
 
--- a name is a variable or a field, of a type, and stands near
+-- a name is a variable or a field, of a type, and is near
 pub record IsVariable (program : Source) (s : Scope) (name : Ident) : Type 0 where
   pub kind : Kind
   pub typed : variable_type (setting_in program (table_of program) s.class) (shape_of program s)
@@ -80,13 +80,13 @@ class_named program s x =
     class_found (variable_type (setting_in program (table_of program) s.class) (shape_of program s)
     x)
 
--- ---- open calls
+-- ---- active calls
 
--- the frame with a link and a place put by
+-- the frame with a link and a place saved
 abbrev pub put : Under → ℕ → ℕ → Under
 put u link place = record u { put_by = link ∷ slice_index u.put_by 1 ∷ place ∷ replicate 13 0 }
 
--- the open frame as a frame below
+-- the current frame as a frame below
 abbrev pub caller_of : Scope → Under → State → Caller
 caller_of s u st = record {
   scope = s;
@@ -97,7 +97,7 @@ caller_of s u st = record {
   put_by = u.put_by;
 }
 
--- while a call on the present object is open
+-- while a call on the current object is open
 abbrev pub deeper : Scope → Under → State → Under
 deeper s u st = record {
   callers = caller_of s u st ∷ u.callers;
@@ -107,7 +107,7 @@ deeper s u st = record {
   put_by = replicate FIRST_VARIABLE 0;
 }
 
--- while a call on the object of a name is open: the caller's object is put by in word 1
+-- while a call on the object of a name is open: the caller's object is saved in word 1
 abbrev pub deeper_on : Place → Scope → Under → State → ℕ → Under
 deeper_on p s u st name = record {
   callers = caller_of s u st ∷ u.callers;
@@ -118,7 +118,7 @@ deeper_on p s u st name = record {
   put_by = 0 ∷ u.object ∷ replicate 14 0;
 }
 
--- what is known at a place, where this is the routine of a method in a class
+-- what is known at a place, if this is the routine of a method in a class
 abbrev pub known_of : (p : Place) → (ℕ → Ident → ℕ) → Known (world_of p)
 known_of p routine = record {
   IsVariable = IsVariable p.setting.program;

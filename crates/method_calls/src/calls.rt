@@ -1,17 +1,17 @@
-// The cells of calls, of methods and of main, one piece after the other.
+// The cells of calls, of methods and of main, one fragment after the other.
 ghost use Rattle.std.specs.Prelude.{◌≡◌, ◌<◌, ◌≤◌, ◌^◌, ◌+◌, ◌*◌, ◌++◌, List, [], ◌∷◌, length, IsTrue, IfOk};
 ghost use Rattle.std.specs.List.{All};
-ghost use Rattle.rpp_words.specs.Words.{negated};
-ghost use Rattle.pisa_isa.specs.Table.{IsCell};
-ghost use Rattle.paired_code.specs.Machine.{is_single};
-ghost use Rattle.paired_code.specs.Code.{unmarked};
-ghost use Rattle.paired_code.specs.Layout.{check_equal_cells, enter_at_cells};
-ghost use Rattle.paired_code.specs.Rows.{line};
+ghost use Rattle.refine_form.specs.rpp_words.Words.{negated};
+ghost use Rattle.refine_form.specs.pisa_isa.Table.{IsCell};
+ghost use Rattle.refine_form.specs.paired_code.Machine.{is_single};
+ghost use Rattle.refine_form.specs.paired_code.Code.{unmarked};
+ghost use Rattle.refine_form.specs.paired_code.Layout.{check_equal_cells, enter_at_cells};
+ghost use Rattle.refine_form.specs.paired_code.Rows.{line};
 ghost use Rattle.refine_form.specs.Cells.{around};
 ghost use Rattle.refine_form.specs.Held.{Holds};
-ghost use Rattle.code_conventions.specs.Cells.{addi, exch};
-ghost use Rattle.code_conventions.specs.declared.faults.TheConstants.{TOUCHED};
-ghost use Rattle.code_conventions.specs.declared.registers.TheConstants.{MOVED, NOUGHT};
+ghost use Rattle.refine_form.specs.code_conventions.Cells.{addi, exch};
+ghost use Rattle.refine_form.specs.code_conventions.declared.faults.TheConstants.{TOUCHED};
+ghost use Rattle.refine_form.specs.code_conventions.declared.registers.TheConstants.{MOVED, NOUGHT};
 ghost use Rattle.method_calls.specs.CallCode.{base_of, offset_of, above_row, take_code, move_code, end_row, depth_code, last_cells, save_row, method_code, main_row, main_cells, moves_of, own_cells};
 ghost use Rattle.method_calls.specs.Facts.{IsNear};
 ghost use Rattle.method_calls.specs.Laws.{MethodCode, MainCode, OwnCallCode};
@@ -28,7 +28,7 @@ use refine_form::{Spot, around};
 use rpp_words::{FRAME_WORDS, NoMemory};
 use std::alloc::Global;
 
-// A piece and one instruction more.
+// A fragment and one instruction more.
 pub(crate) fn then(alloc: Global, piece: Piece, cell: Cell) -> Result<Piece, NoMemory>
     requires single { IsTrue (is_single cell) }
     requires cell { IsCell cell }
@@ -38,7 +38,7 @@ pub(crate) fn then(alloc: Global, piece: Piece, cell: Cell) -> Result<Piece, NoM
     seq(piece, plain(alloc, cell)?)
 }
 
-// A piece between another and its mirror, where neither has marks.
+// A fragment between another and its inverse, if neither has marks.
 pub(crate) fn bare_around(alloc: Global, outer: Piece, inner: Piece) -> Result<Piece, NoMemory>
     requires outer_none { outer.marks ≡ [] }
     requires inner_none { inner.marks ≡ [] }
@@ -48,7 +48,7 @@ pub(crate) fn bare_around(alloc: Global, outer: Piece, inner: Piece) -> Result<P
     seq(outer, seq(inner, back)?)
 }
 
-// The base goes to a spot.
+// The base goes to a storage slot.
 pub(crate) fn reach(spot: Spot) -> Cell
     requires near { IsNear spot }
     ensures row { result ≡ addi (base_of spot) (offset_of spot) }
@@ -71,7 +71,7 @@ fn moved_at(spot: Spot) -> Cell
     }
 }
 
-// The word of a spot leaves its cell, which is checked when the word comes back.
+// The word of a storage slot leaves its cell, which is checked when the word comes back.
 fn taken_piece(alloc: Global, spot: Spot) -> Result<Piece, NoMemory>
     ensures code { IfOk result (λ p. p
         ≡ unmarked (check_equal_cells MOVED NOUGHT TOUCHED ++ line (exch MOVED (base_of spot) ∷ []))) }
@@ -89,7 +89,7 @@ pub(crate) fn take_piece(alloc: Global, spot: Spot) -> Result<Piece, NoMemory>
     bare_around(alloc, plain(alloc, reach(spot))?, taken_piece(alloc, spot)?)
 }
 
-// A cell that runs while FRAME stands at a word of the frame above.
+// A cell that runs while FRAME is the address of a word of the frame above.
 pub(crate) fn above_piece(alloc: Global, word: u32, inner: Cell) -> Result<Piece, NoMemory>
     requires word { word < 2 ^ 16 }
     requires single { IsTrue (is_single inner) }
@@ -174,7 +174,8 @@ fn save_piece(alloc: Global) -> Result<Piece, NoMemory>
     then(alloc, save, addi(FRAME, negated(PLACE_WORD)))
 }
 
-/// The code of a method, over the piece of its block: the link and the place are put by round it.
+/// The code of a method, over the fragment of its block: the link and the place are saved around
+/// it.
 #[tactic(auto, using(crate::proofs::Clauses::method_clause, crate::proofs::Clauses::method_length))]
 pub fn method_code(alloc: Global, body: Piece) -> Result<Piece, NoMemory>
     ensures law { IfOk result (λ p. MethodCode body.cells p.cells) }
@@ -212,7 +213,7 @@ fn main_piece(alloc: Global, routine: u32) -> Result<Piece, NoMemory>
     bare_around(alloc, main_front(alloc)?, enter(alloc, routine, false)?)
 }
 
-/// The main piece: from the loaded memory it runs the routine of `main`, by its number.
+/// The main fragment: from the loaded memory it runs the routine of `main`, by its number.
 #[tactic(auto, using(crate::proofs::Clauses::main_clause, crate::proofs::Clauses::main_length))]
 pub fn main_code(alloc: Global, routine: u32) -> Result<Piece, NoMemory>
     ensures law { IfOk result (λ p. MainCode routine p.cells) }
@@ -270,8 +271,8 @@ fn own_piece(alloc: Global, back: bool, slot: u32, args: &[Spot]) -> Result<Piec
     )
 }
 
-/// A call or uncall on the present object of the method in a slot, with arguments that stand at
-/// these spots.
+/// A call or uncall on the current object of the method in a slot, with arguments in these storage
+/// slots.
 #[tactic(auto, using(crate::proofs::Clauses::own_clause, crate::proofs::Clauses::own_length))]
 pub fn own_call(alloc: Global, back: bool, slot: u32, args: &[Spot]) -> Result<Piece, NoMemory>
     requires near { All IsNear args.now }

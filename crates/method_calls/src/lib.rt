@@ -1,8 +1,8 @@
-//! The code of calls, of methods, of main and of blocks with a local variable, over the pieces of
-//! their parts. Each is the statement's row of the meaning wherever its parts do what theirs are to
-//! do, and the routines of the image what their methods do for less fuel, along and back, with
-//! every fault at its check. A body is run by its routine, entered by the place that the
-//! table of the object's class has for the method.
+//! The code of calls, of methods, of `main` and of blocks with a local variable. It is made over
+//! the fragments of their parts. Each simulates the rule of its statement in both directions, with
+//! every fault at its check. This needs that its parts do what theirs must do, and that the
+//! routines of the image do what their methods do for less fuel. A routine runs the body; it is
+//! entered at the code address that the table of the object's class has for the method.
 #![tactic(auto)]
 
 mod calls;

@@ -1,7 +1,7 @@
-// The cells of a block with a local variable, one piece after the other.
+// The cells of a block with a local variable, one fragment after the other.
 ghost use Rattle.std.specs.Prelude.{◌≡◌, ◌<◌, ◌^◌, ◌+◌, ◌++◌, [], length, IfOk};
-ghost use Rattle.paired_code.specs.Code.{unmarked};
-ghost use Rattle.paired_code.specs.Layout.{mirror_cells};
+ghost use Rattle.refine_form.specs.paired_code.Code.{unmarked};
+ghost use Rattle.refine_form.specs.paired_code.Layout.{mirror_cells};
 ghost use Rattle.refine_form.specs.Held.{Holds};
 ghost use Rattle.method_calls.specs.CallCode.{store_code, local_open, local_code};
 ghost use Rattle.method_calls.specs.Laws.{LocalCode};
@@ -77,7 +77,7 @@ fn local_piece(
     )
 }
 
-/// The code of a block with a local variable in this word of the frame, over the pieces of its
+/// The code of a block with a local variable in this word of the frame, over the fragments of its
 /// value, its block and the closing value.
 #[tactic(auto, using(crate::proofs::Clauses::local_clause, crate::proofs::Clauses::local_length))]
 pub fn local_block(

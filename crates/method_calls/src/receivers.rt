@@ -1,13 +1,13 @@
-// The cells of calls on the object of a variable, one piece after the other.
+// The cells of calls on the object of a variable, one fragment after the other.
 ghost use Rattle.std.specs.Prelude.{◌≡◌, ◌<◌, ◌≤◌, ◌^◌, ◌+◌, ◌*◌, ◌++◌, List, [], ◌∷◌, length, IfOk};
 ghost use Rattle.std.specs.List.{All};
-ghost use Rattle.paired_code.specs.Code.{unmarked};
-ghost use Rattle.paired_code.specs.Layout.{enter_at_cells};
-ghost use Rattle.paired_code.specs.Rows.{line};
+ghost use Rattle.refine_form.specs.paired_code.Code.{unmarked};
+ghost use Rattle.refine_form.specs.paired_code.Layout.{enter_at_cells};
+ghost use Rattle.refine_form.specs.paired_code.Rows.{line};
 ghost use Rattle.refine_form.specs.Cells.{around};
-ghost use Rattle.pisa_isa.specs.Table.{IsCell};
-ghost use Rattle.code_conventions.specs.Cells.{exch};
-ghost use Rattle.code_conventions.specs.declared.registers.TheConstants.{CONTENT, VALUE};
+ghost use Rattle.refine_form.specs.pisa_isa.Table.{IsCell};
+ghost use Rattle.refine_form.specs.code_conventions.Cells.{exch};
+ghost use Rattle.refine_form.specs.code_conventions.declared.registers.TheConstants.{CONTENT, VALUE};
 ghost use Rattle.method_calls.specs.CallCode.{base_of, peek_row, nil_code, onto_code, last_cells, depth_code, moves_of, behind_of, checked_of, front_on_of};
 ghost use Rattle.method_calls.specs.Facts.{IsNear};
 ghost use Rattle.method_calls.specs.Laws.{CallOnCode};
@@ -36,7 +36,7 @@ fn content_at(spot: Spot) -> Cell
     }
 }
 
-// CONTENT gets the word of a spot.
+// CONTENT gets the word of a storage slot.
 fn peek_piece(alloc: Global, spot: Spot) -> Result<Piece, NoMemory>
     requires near { IsNear spot }
     ensures code { IfOk result (λ p. p ≡ unmarked (line (peek_row spot))) }
@@ -131,8 +131,8 @@ fn on_piece(
     )
 }
 
-/// A call or uncall on the object of the variable at a spot, of the method in a slot, with
-/// arguments that stand at these spots.
+/// A call or uncall on the object of the variable in a storage slot, of the method in a slot, with
+/// arguments in these storage slots.
 #[tactic(auto, using(crate::proofs::Clauses::on_clause, crate::proofs::Clauses::on_length))]
 pub fn call_on(
     alloc: Global,

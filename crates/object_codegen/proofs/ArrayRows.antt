@@ -5,31 +5,31 @@ use Rattle.std.proofs.Common.{arith}
 use Rattle.std.specs.Prelude.{slice_index, nat_eq, not, replicate, Result, Ok, Err}
 use Rattle.std.proofs.lemmas.Bool.Decides.{nat_tests}
 use Rattle.std.proofs.lemmas.Int.{ints}
-use Rattle.code_conventions.specs.declared.memory.TheConstants.{HEADER_WORDS}
-use Rattle.rpp_words.specs.Words.{is_less}
+use Rattle.refine_heap.specs.code_conventions.declared.memory.TheConstants.{HEADER_WORDS}
+use Rattle.refine_heap.specs.rpp_words.Words.{is_less}
 use Rattle.rpp_tree.specs.declared.tree.Ident.{Ident}
 use Rattle.rpp_tree.specs.Tree.{Expression, Whole, Ints, Objects, New, Delete, nodes}
-use Rattle.buddy_pisa.specs.Promise.{most_steps}
-use Rattle.pisa_isa.specs.Machine.{Memory}
-use Rattle.paired_code.specs.declared.part.Symbol.{Symbol}
-use Rattle.paired_code.specs.Machine.{Image}
-use Rattle.paired_code.specs.Layout.{mirror_cells}
-use Rattle.paired_code.specs.Pieces.{Outcome, Will}
-use Rattle.paired_code.specs.Does.{Rates, Fine, Fault, Meets, fine, Does}
-use Rattle.paired_code.proofs.Laws.{will_more}
-use Rattle.paired_code.proofs.Mirrored.{will_mirror}
-use Rattle.roopl_semantics.specs.Run.{Run, after_cost, given, give, spend, fault_if, ◌>>=◌}
-use Rattle.roopl_semantics.specs.Store.{Value, Word, Nil, Name, Head, OfInts, OfObjects, State, number_of, is_nil}
-use Rattle.roopl_semantics.specs.Value.{Cell, cell_named, read, value, nil_fault}
-use Rattle.roopl_semantics.specs.Execution.{Setting, Runner, statement, freed, not_nil_fault, count_fault}
-use Rattle.roopl_semantics.specs.Execution.{not_empty_fault, heap_full_fault, length_differs_fault, length_fault}
-use Rattle.refine_form.specs.declared.spot.Spot.{Spot}
-use Rattle.refine_form.specs.Form.{told, turned as facing}
-use Rattle.register_expressions.specs.Code.{words}
+use Rattle.refine_heap.specs.buddy_pisa.Promise.{most_steps}
+use Rattle.refine_heap.specs.pisa_isa.Machine.{Memory}
+use Rattle.refine_heap.specs.paired_code.declared.part.Symbol.{Symbol}
+use Rattle.refine_heap.specs.paired_code.Machine.{Image}
+use Rattle.refine_heap.specs.paired_code.Layout.{mirror_cells}
+use Rattle.refine_heap.specs.paired_code.Pieces.{Outcome, Will}
+use Rattle.refine_heap.specs.paired_code.Does.{Rates, Fine, Fault, Meets, fine, Does}
+use Rattle.refine_heap.proofs.paired_code_laws.Laws.{will_more}
+use Rattle.refine_heap.proofs.paired_code_laws.Mirrored.{will_mirror}
+use Rattle.static_layout.specs.roopl_semantics.Run.{Run, after_cost, given, give, spend, fault_if, ◌>>=◌}
+use Rattle.static_layout.specs.roopl_semantics.Store.{Value, Word, Nil, Name, Head, OfInts, OfObjects, State, number_of, is_nil}
+use Rattle.static_layout.specs.roopl_semantics.Value.{Cell, cell_named, read, value, nil_fault}
+use Rattle.static_layout.specs.roopl_semantics.Execution.{Setting, Runner, statement, freed, not_nil_fault, count_fault}
+use Rattle.static_layout.specs.roopl_semantics.Execution.{not_empty_fault, heap_full_fault, length_differs_fault, length_fault}
+use Rattle.expr_uncompute.specs.refine_form.declared.spot.Spot.{Spot}
+use Rattle.expr_uncompute.specs.refine_form.Form.{told, turned as facing}
+use Rattle.expr_uncompute.specs.register_expressions.Code.{words}
 use Rattle.expr_uncompute.specs.Code.{place_words}
-use Rattle.register_expressions.specs.Number.{number, place_address}
+use Rattle.expr_uncompute.specs.register_expressions.Number.{number, place_address}
 use Rattle.expr_uncompute.specs.Steps.{place_steps, fetch_steps}
-use Rattle.register_expressions.specs.Laws.{bases_of}
+use Rattle.expr_uncompute.specs.register_expressions.Laws.{bases_of}
 use Rattle.expr_uncompute.specs.Laws.{Stays}
 use Rattle.expr_uncompute.specs.Promises.{free_at}
 use Rattle.expr_uncompute.specs.Found.{LeavesWithin, leaves_within, TrapsWithin, found_value_steps}
@@ -37,7 +37,7 @@ use Rattle.expr_uncompute.specs.Means.{shown, shown_result, cell_address, SameVa
 use Rattle.expr_uncompute.proofs.Bounds.{fetch_most, found_value_most, found_value_least}
 use Rattle.expr_uncompute.proofs.Meaning.{number_is}
 use Rattle.object_codegen.specs.declared.shape.Shape.TheVariants.{Lengthy}
-use Rattle.buddy_book.specs.Book.{order_for}
+use Rattle.refine_heap.specs.buddy_book.Book.{order_for}
 use Rattle.object_codegen.specs.News.{filled, whole_steps, Makes, ArrayLaw}
 use Rattle.expr_uncompute.proofs.Rated.{rated, less, trap_meets, stop_meets}
 use Rattle.object_codegen.proofs.CopyRows.{Refers}
@@ -277,7 +277,8 @@ module _ (setting : Setting) (address slot : State → ℕ → ℕ) (R : State �
     ints_are false here n run st = refl
     ints_are true here n run st = refl
 
-    -- the piece of a new does what the source says of it, and run back what it says of its inverse
+    -- the fragment of a new does what the source says of it, and run backward what it says of its
+    -- inverse
     pub new_ints_does : (d : Bool) (here n : ℕ) (run : Runner)
         → Does im p d R R rates n0 0 (λ st. told (after_cost 1
         (statement setting n run (facing d (New here (Ints size) (Whole name))) st)))
@@ -292,7 +293,7 @@ module _ (setting : Setting) (address slot : State → ℕ → ℕ) (R : State �
     delete_ints_is false here = refl
     delete_ints_is true here = refl
 
-    -- and its mirror that of a delete
+    -- and its inverse that of a delete
     pub delete_ints_does : (d : Bool) (here n : ℕ) (run : Runner)
         → Does im (mirror_cells p) d R R rates n0 0 (λ st. told
         (after_cost 1 (statement setting n run (facing d (Delete here (Ints size) (Whole name))) st)))

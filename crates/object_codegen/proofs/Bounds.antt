@@ -4,16 +4,16 @@ use Rattle.std.proofs.Common.{ap}
 use Rattle.std.proofs.Common.{◌∙◌, arith, length-append}
 use Rattle.std.specs.Prelude.{nat_le, if◌then◌else◌}
 use Rattle.std.proofs.lemmas.Bool.Decides.{nat_tests}
-use Rattle.paired_code.specs.Layout.{mirror_cells}
-use Rattle.paired_code.proofs.Mirrored.{length_mirror}
-use Rattle.register_expressions.specs.Code.{xori}
+use Rattle.refine_heap.specs.paired_code.Layout.{mirror_cells}
+use Rattle.refine_heap.proofs.paired_code_laws.Mirrored.{length_mirror}
+use Rattle.expr_uncompute.specs.register_expressions.Code.{xori}
 use Rattle.object_codegen.specs.declared.news.TheConstants.{FEW_FIELDS}
 use Rattle.object_codegen.specs.declared.shape.Shape.TheVariants.{Fixed, Lengthy}
 use Rattle.object_codegen.specs.Code.{order, copy_mid, order_cells, new_mid, new_checks, new_alter, delete_checks}
 use Rattle.object_codegen.specs.Code.{load_cells, some_reference, same_mark, single, zeros_cells, fields_cells}
 use Rattle.object_codegen.specs.Code.{field_cells, walked_cells}
 use Rattle.object_codegen.specs.News.{zeros_steps}
-use Rattle.code_conventions.specs.declared.registers.TheConstants.{PLACE}
+use Rattle.refine_heap.specs.code_conventions.declared.registers.TheConstants.{PLACE}
 
 pub copy_cells_are : length copy_mid ≡ 47
 copy_cells_are = refl

@@ -1,9 +1,9 @@
 -- The order of the block of an object.
 use Rattle.std.proofs.Common.{◌≡◌, ◌∙◌, sym, ap, ℕ, ◌+◌, ◌≤◌, arith}
-use Rattle.code_conventions.specs.declared.memory.TheConstants.{HEADER_WORDS}
-use Rattle.rpp_words.specs.Order.{IsOrderFor}
-use Rattle.buddy_book.specs.Book.{order_for}
-use Rattle.buddy_book.proofs.LeastOrder.{order_for-only}
+use Rattle.refine_heap.specs.code_conventions.declared.memory.TheConstants.{HEADER_WORDS}
+use Rattle.refine_heap.specs.rpp_words.Order.{IsOrderFor}
+use Rattle.refine_heap.specs.buddy_book.Book.{order_for}
+use Rattle.refine_heap.proofs.buddy_book_laws.LeastOrder.{order_for-only}
 
 -- the order of a block for so many fields
 pub order_is : (fields k : ℕ) → fields ≤ 64 → IsOrderFor (fields + HEADER_WORDS) k

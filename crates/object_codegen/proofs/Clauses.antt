@@ -1,12 +1,12 @@
--- What the calls of a middle give where places are found around it.
+-- What the calls of a middle give if places are found around it.
 use Rattle.std.proofs.Common.{◌≡◌, ℕ, ◌+◌, ◌*◌, ◌^◌, ◌<◌, ◌≤◌, List, [], ◌∷◌, ◌++◌, length, ap, ◌∙◌, subst, arith}
 use Rattle.std.specs.Prelude.{Result, Ok, Err, IfOk}
 use Rattle.rpp_tree.specs.Tree.{Expression, Lvalue, index_nodes}
-use Rattle.paired_code.specs.declared.part.Symbol.{Symbol}
-use Rattle.paired_code.specs.Code.{Code, unmarked}
-use Rattle.roopl_semantics.specs.Elements.{index_elements, own_element, read_cost}
-use Rattle.refine_form.specs.declared.spot.Spot.{Spot}
-use Rattle.register_expressions.specs.Code.{xori}
+use Rattle.refine_heap.specs.paired_code.declared.part.Symbol.{Symbol}
+use Rattle.refine_heap.specs.paired_code.Code.{Code, unmarked}
+use Rattle.static_layout.specs.roopl_semantics.Elements.{index_elements, own_element, read_cost}
+use Rattle.expr_uncompute.specs.refine_form.declared.spot.Spot.{Spot}
+use Rattle.expr_uncompute.specs.register_expressions.Code.{xori}
 use Rattle.expr_uncompute.specs.Found.{PlaceAroundLaw, ValueAroundLaw, PlacesAroundLaw}
 use Rattle.expr_uncompute.proofs.Bounds.{found_places_most}
 use Rattle.object_codegen.specs.declared.shape.Shape.TheVariants.{Fixed, Lengthy}

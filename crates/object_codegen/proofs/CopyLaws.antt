@@ -3,20 +3,20 @@ use Rattle.std.proofs.Common.{◌≡◌, ◌≢◌, ℕ, ◌+◌, ◌^◌, ◌<�
 use Rattle.std.proofs.Common.{◌∙◌, subst, arith}
 use Rattle.std.specs.Prelude.{slice_index}
 use Rattle.rpp_tree.specs.Tree.{Lvalue}
-use Rattle.pisa_isa.specs.Machine.{Memory}
-use Rattle.paired_code.specs.declared.part.Symbol.{Symbol}
-use Rattle.paired_code.specs.Machine.{Image, reg}
-use Rattle.paired_code.specs.Layout.{mirror_cells}
-use Rattle.paired_code.specs.Pieces.{Done, Will}
-use Rattle.paired_code.proofs.Laws.{will_of}
-use Rattle.refine_form.specs.declared.spot.Spot.{Spot}
+use Rattle.refine_heap.specs.pisa_isa.Machine.{Memory}
+use Rattle.refine_heap.specs.paired_code.declared.part.Symbol.{Symbol}
+use Rattle.refine_heap.specs.paired_code.Machine.{Image, reg}
+use Rattle.refine_heap.specs.paired_code.Layout.{mirror_cells}
+use Rattle.refine_heap.specs.paired_code.Pieces.{Done, Will}
+use Rattle.refine_heap.proofs.paired_code_laws.Laws.{will_of}
+use Rattle.expr_uncompute.specs.refine_form.declared.spot.Spot.{Spot}
 use Rattle.expr_uncompute.specs.Code.{place_words}
-use Rattle.register_expressions.specs.Laws.{bases_of}
+use Rattle.expr_uncompute.specs.register_expressions.Laws.{bases_of}
 use Rattle.expr_uncompute.specs.Promises.{free_at}
 use Rattle.expr_uncompute.specs.Found.{found, Filled, PlacesStay, PlacesAroundLaw, Encloses, LeavesWithin}
 use Rattle.expr_uncompute.specs.Found.{leaves_within, TrapsWithin, found_places_steps}
-use Rattle.register_expressions.proofs.Goes.{Traps, goes_to}
-use Rattle.register_expressions.proofs.Scratch.{keeping, mem}
+use Rattle.expr_uncompute.proofs.register_expressions_laws.Goes.{Traps, goes_to}
+use Rattle.expr_uncompute.proofs.register_expressions_laws.Scratch.{keeping, mem}
 use Rattle.expr_uncompute.proofs.Updates.{place_low}
 use Rattle.expr_uncompute.proofs.FoundLaws.{shown_as}
 use Rattle.object_codegen.specs.Code.{copy_checks, uncopy_checks, copy_alter, copy_mid}
@@ -26,7 +26,7 @@ use Rattle.object_codegen.proofs.Over.{over_two, changes_two}
 use Rattle.object_codegen.proofs.Uncopied.{uncopied, copied_again}
 use Rattle.object_codegen.proofs.Copying.{copy_goes, copy_nil, copy_not_nil, uncopy_nil, uncopy_other, uncopy_one}
 
--- what a copy needs below the free words stands there when they are filled
+-- what a copy needs below the free words is there when they are filled
 copies_filled : (low n p q x c : ℕ) (cells ys : List ℕ) → Filled low n cells ys → Copies low p q x c cells
     → Copies low p q x c ys
 copies_filled low n p q x c cells ys f h = record {

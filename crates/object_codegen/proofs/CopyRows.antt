@@ -4,29 +4,28 @@ use Rattle.std.proofs.Common.{◌≡◌, ◌≢◌, ℕ, suc, ◌+◌, ◌-◌, 
 use Rattle.std.proofs.Common.{refl, sym, ap, ◌∙◌, subst, arith}
 use Rattle.std.specs.Prelude.{slice_index, nat_eq, not, ◌||◌, Result, Ok, Err}
 use Rattle.std.proofs.lemmas.Bool.Decides.{nat_tests}
-use Rattle.code_conventions.specs.declared.memory.TheConstants.{HEADER_WORDS}
 use Rattle.rpp_tree.specs.declared.tree.VarType.{VarType}
-use Rattle.rpp_tree.specs.Tree.{Lvalue, Whole, Item, Source, Copy, Uncopy, index_nodes}
-use Rattle.pisa_isa.specs.Machine.{Memory}
-use Rattle.paired_code.specs.declared.part.Symbol.{Symbol}
-use Rattle.paired_code.specs.Machine.{Image}
-use Rattle.paired_code.specs.Layout.{mirror_cells}
-use Rattle.paired_code.specs.Pieces.{Outcome, Will}
-use Rattle.paired_code.specs.Does.{Rates, Fine, Fault, Meets, fine, Does}
-use Rattle.paired_code.proofs.Laws.{will_more}
-use Rattle.paired_code.proofs.Mirrored.{will_mirror}
-use Rattle.roopl_semantics.specs.Run.{Run, after_cost, given, give, spend, fault_if, ◌>>=◌}
-use Rattle.roopl_semantics.specs.Store.{Value, Word, Nil, Name, State, number_of, is_nil, same_value, object_at}
-use Rattle.roopl_semantics.specs.Value.{Cell, Slot, Part, read, written, cell_of, nil_fault}
-use Rattle.roopl_semantics.specs.Elements.{index_elements, own_element, share_array, read_cost, shared_array_fault}
-use Rattle.roopl_semantics.specs.Execution.{Setting, Runner, statement, counted, one_less, same_cell, not_nil_fault}
-use Rattle.roopl_semantics.specs.Execution.{not_same_fault}
-use Rattle.refine_form.specs.declared.spot.Spot.{Spot}
-use Rattle.refine_form.specs.Form.{told, turned as facing}
+use Rattle.rpp_tree.specs.Tree.{Lvalue, Copy, Uncopy, index_nodes}
+use Rattle.refine_heap.specs.pisa_isa.Machine.{Memory}
+use Rattle.refine_heap.specs.paired_code.declared.part.Symbol.{Symbol}
+use Rattle.refine_heap.specs.paired_code.Machine.{Image}
+use Rattle.refine_heap.specs.paired_code.Layout.{mirror_cells}
+use Rattle.refine_heap.specs.paired_code.Pieces.{Outcome, Will}
+use Rattle.refine_heap.specs.paired_code.Does.{Rates, Fine, Fault, Meets, fine, Does}
+use Rattle.refine_heap.proofs.paired_code_laws.Laws.{will_more}
+use Rattle.refine_heap.proofs.paired_code_laws.Mirrored.{will_mirror}
+use Rattle.static_layout.specs.roopl_semantics.Run.{Run, after_cost, given, give, spend, fault_if, ◌>>=◌}
+use Rattle.static_layout.specs.roopl_semantics.Store.{Value, Word, Nil, Name, State, number_of, is_nil, same_value, object_at}
+use Rattle.static_layout.specs.roopl_semantics.Value.{Cell, read, written, cell_of, nil_fault}
+use Rattle.static_layout.specs.roopl_semantics.Elements.{index_elements, own_element, share_array, read_cost, shared_array_fault}
+use Rattle.static_layout.specs.roopl_semantics.Execution.{Setting, Runner, statement, counted, one_less, same_cell, not_nil_fault}
+use Rattle.static_layout.specs.roopl_semantics.Execution.{not_same_fault}
+use Rattle.expr_uncompute.specs.refine_form.declared.spot.Spot.{Spot}
+use Rattle.expr_uncompute.specs.refine_form.Form.{told, turned as facing}
 use Rattle.expr_uncompute.specs.Code.{place_words}
-use Rattle.register_expressions.specs.Number.{place_address, read_of, index_of, shares}
+use Rattle.expr_uncompute.specs.register_expressions.Number.{place_address, read_of, index_of, shares}
 use Rattle.expr_uncompute.specs.Steps.{place_steps}
-use Rattle.register_expressions.specs.Laws.{bases_of}
+use Rattle.expr_uncompute.specs.register_expressions.Laws.{bases_of}
 use Rattle.expr_uncompute.specs.Promises.{free_at, CanRun}
 use Rattle.expr_uncompute.specs.Found.{LeavesWithin, leaves_within, TrapsWithin, PlacesStay, found_places_steps}
 use Rattle.expr_uncompute.specs.Means.{shown, cell_address, cell_result, MeansPlace, TellsShares, SameCells}
@@ -39,7 +38,7 @@ use Rattle.expr_uncompute.proofs.Transport.{place_means_by}
 use Rattle.expr_uncompute.proofs.Updates.{place_low}
 use Rattle.object_codegen.specs.Promises.{referring, unreferring, Places, CopyLaw, copy_steps}
 
--- a value of a class or an array type: nil, or a name that stands somewhere
+-- a value of a class or an array type: nil, or an object id that has an address
 abbrev pub Refers : (ℕ → ℕ) → Value → Type 0
 Refers address (Word w) = ⊥
 Refers address Nil = Unit {0}
@@ -67,16 +66,6 @@ abbrev pair_row : (source target : Lvalue) → (rx ry : Result Cell ℕ) → (Ce
 pair_row source target rx ry next = after_cost 1 (after_cost (index_nodes source) (given rx) >>= λ a.
     (after_cost (index_nodes target) (given ry) >>= λ b. next a b))
 
-cell_by : (address slot address' slot' : ℕ → ℕ) → ((n : ℕ) → address n ≡ address' n) → ((i : ℕ) → slot i ≡ slot' i)
-    → (cell : Cell) → cell_address address slot cell ≡ cell_address address' slot' cell
-cell_by address slot address' slot' sa ss (Slot i) = ss i
-cell_by address slot address' slot' sa ss (Part n i) = ap (λ a. a + i + HEADER_WORDS) (sa n)
-
-same_cell_of : (program : Source) (st st' : State) (t : Lvalue) → SameCells program st st' t
-    → cell_of program st' t ≡ cell_of program st t
-same_cell_of program st st' (Whole name) h = ap Ok h
-same_cell_of program st st' (Item name index) h = h.0
-
 module _ (setting : Setting) (address slot : State → ℕ → ℕ) (R : State → Memory → Type 0) (spot : List ℕ → Spot)
     (free : ℕ) (source target : Lvalue) where
   abbrev at : State → Cell → ℕ
@@ -97,7 +86,7 @@ module _ (setting : Setting) (address slot : State → ℕ → ℕ) (R : State �
   abbrev reads : ℕ
   reads = read_cost (own_element target) (index_elements source ++ index_elements target)
 
-  -- where an object stands that a place refers to
+  -- the address of an object to which an lvalue refers
   pub record StandsAt (st : State) (m : Memory) (a b : Cell) (n : ℕ) : Type 0 where
     pub inside : address st n + 1 < free_at free m
     pub source_apart : at st a ≢ address st n + 1
@@ -346,7 +335,7 @@ module _ (setting : Setting) (address slot : State → ℕ → ℕ) (R : State �
           (target_is Nil eb) (name_small n ea) (name_some n ea) (name_some n ea))
       uncopy_by (Name n) (Name n') ea eb sh = names_by n n' (nat_eq n n') (same_cell a b) refl refl ea eb sh
 
-      -- where no array is shared, or one is
+      -- if no array is shared, or one is
       ends_by : (d shared : Bool) → sharing st ≡ shared → Will im p d m
           (Meets R rates n0 0 (told (pair_row source target (Ok a) (Ok b)
           (λ a b. kept_by reads shared (end_of d st a b (read st a) (read st b))))))
@@ -381,7 +370,8 @@ module _ (setting : Setting) (address slot : State → ℕ → ℕ) (R : State �
     copy_is false here n kind run st = refl
     copy_is true here n kind run st = refl
 
-    -- the piece of a copy does what the source says of it, and run back what it says of its inverse
+    -- the fragment of a copy does what the source says of it, and run backward what it says of its
+    -- inverse
     pub copy_does : (d : Bool) (here n : ℕ) (kind : VarType) (run : Runner)
         → Does im p d R R rates n0 0 (λ st. told (after_cost 1
         (statement setting n run (facing d (Copy here kind source target)) st)))
@@ -395,7 +385,7 @@ module _ (setting : Setting) (address slot : State → ℕ → ℕ) (R : State �
     uncopy_is false here kind = refl
     uncopy_is true here kind = refl
 
-    -- and its mirror that of an uncopy
+    -- and its inverse that of an uncopy
     pub uncopy_does : (d : Bool) (here n : ℕ) (kind : VarType) (run : Runner)
         → Does im (mirror_cells p) d R R rates n0 0 (λ st. told
         (after_cost 1 (statement setting n run (facing d (Uncopy here kind source target)) st)))

@@ -4,14 +4,14 @@ use Rattle.std.proofs.Common.{refl, sym, ap, ◌∙◌, arith}
 use Rattle.std.specs.Prelude.{slice_index, slice_set, bit_xor}
 use Rattle.std.proofs.lemmas.List.{get_or-set_same, get_or-set_other}
 use Rattle.std.specs.Int.Bits.{xor_zero_l}
-use Rattle.pisa_isa.specs.Machine.{Memory}
-use Rattle.rpp_words.proofs.Laws.{xor-twice}
-use Rattle.code_conventions.specs.declared.registers.TheConstants.{FIRST_WORD, OTHER_PLACE, PLACE}
-use Rattle.register_expressions.specs.Code.{addi}
-use Rattle.register_expressions.specs.Number.{Bases}
-use Rattle.register_expressions.proofs.Goes.{Goes, Traps, goes_seq, goes_around, goes_mirror}
-use Rattle.register_expressions.proofs.Goes.{goes_xor_to, goes_addi, traps_mid, traps_then, traps_first}
-use Rattle.register_expressions.proofs.Scratch.{keeping}
+use Rattle.refine_heap.specs.pisa_isa.Machine.{Memory}
+use Rattle.refine_heap.proofs.rpp_words_laws.Laws.{xor-twice}
+use Rattle.refine_heap.specs.code_conventions.declared.registers.TheConstants.{FIRST_WORD, OTHER_PLACE, PLACE}
+use Rattle.expr_uncompute.specs.register_expressions.Code.{addi}
+use Rattle.expr_uncompute.specs.register_expressions.Number.{Bases}
+use Rattle.expr_uncompute.proofs.register_expressions_laws.Goes.{Goes, Traps, goes_seq, goes_around, goes_mirror}
+use Rattle.expr_uncompute.proofs.register_expressions_laws.Goes.{goes_xor_to, goes_addi, traps_mid, traps_then, traps_first}
+use Rattle.expr_uncompute.proofs.register_expressions_laws.Scratch.{keeping}
 use Rattle.object_codegen.specs.Code.{same_words, two_places, copy_checks, uncopy_checks, refer_cells, count_cells}
 use Rattle.object_codegen.specs.Code.{copy_mid}
 use Rattle.object_codegen.specs.Promises.{referring, Copies}

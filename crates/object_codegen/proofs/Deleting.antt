@@ -4,20 +4,20 @@ use Rattle.std.proofs.Common.{List, [], ◌∷◌, ◌++◌, length, refl, sym, 
 use Rattle.std.specs.Prelude.{slice_index, slice_set, bit_xor, nat_le, if◌then◌else◌}
 use Rattle.std.specs.Int.Bits.{xor_zero_l}
 use Rattle.std.proofs.lemmas.Bool.{cases_lt, cases_eq}
-use Rattle.code_conventions.specs.declared.memory.TheConstants.{HEADER_WORDS}
-use Rattle.rpp_words.specs.Words.{is_less, sum_of}
-use Rattle.rpp_words.proofs.Laws.{xor-twice}
-use Rattle.pisa_isa.specs.Machine.{Memory}
-use Rattle.code_conventions.specs.declared.registers.TheConstants.{AMOUNT, CONTENT, FIRST_WORD, OUTCOME, PLACE}
-use Rattle.code_conventions.specs.declared.registers.TheConstants.{RIGHT_TRUTH}
-use Rattle.paired_code.specs.Layout.{mirror_cells}
-use Rattle.register_expressions.specs.Code.{exch, addi, xori}
-use Rattle.register_expressions.specs.Number.{Bases}
-use Rattle.register_expressions.proofs.Comparing.{above, not_above}
-use Rattle.register_expressions.proofs.Goes.{Goes, Traps, nothing, goes_cons, goes_seq, goes_around, goes_mirror}
-use Rattle.register_expressions.proofs.Goes.{goes_to, goes_set, goes_xor_to, goes_add, goes_addi, traps_mid, traps_then}
-use Rattle.register_expressions.proofs.Goes.{traps_first, traps_more}
-use Rattle.register_expressions.proofs.Scratch.{keeping, mem}
+use Rattle.refine_heap.specs.code_conventions.declared.memory.TheConstants.{HEADER_WORDS}
+use Rattle.refine_heap.specs.rpp_words.Words.{is_less, sum_of}
+use Rattle.refine_heap.proofs.rpp_words_laws.Laws.{xor-twice}
+use Rattle.refine_heap.specs.pisa_isa.Machine.{Memory}
+use Rattle.refine_heap.specs.code_conventions.declared.registers.TheConstants.{AMOUNT, CONTENT, FIRST_WORD, OUTCOME, PLACE}
+use Rattle.refine_heap.specs.code_conventions.declared.registers.TheConstants.{RIGHT_TRUTH}
+use Rattle.refine_heap.specs.paired_code.Layout.{mirror_cells}
+use Rattle.expr_uncompute.specs.register_expressions.Code.{exch, addi, xori}
+use Rattle.expr_uncompute.specs.register_expressions.Number.{Bases}
+use Rattle.expr_uncompute.proofs.register_expressions_laws.Comparing.{above, not_above}
+use Rattle.expr_uncompute.proofs.register_expressions_laws.Goes.{Goes, Traps, nothing, goes_cons, goes_seq, goes_around, goes_mirror}
+use Rattle.expr_uncompute.proofs.register_expressions_laws.Goes.{goes_to, goes_set, goes_xor_to, goes_add, goes_addi, traps_mid, traps_then}
+use Rattle.expr_uncompute.proofs.register_expressions_laws.Goes.{traps_first, traps_more}
+use Rattle.expr_uncompute.proofs.register_expressions_laws.Scratch.{keeping, mem}
 use Rattle.object_codegen.specs.declared.news.TheConstants.{FEW_FIELDS}
 use Rattle.object_codegen.specs.declared.shape.Shape.{Shape}
 use Rattle.object_codegen.specs.declared.shape.Shape.TheVariants.{Fixed, Lengthy}

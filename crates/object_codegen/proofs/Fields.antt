@@ -2,12 +2,12 @@
 use Rattle.std.proofs.Common.{◌≡◌, ◌≢◌, ℕ, zero, suc, ◌<◌, ◌≤◌, Bool, true, false, List, ◌++◌, refl, ap, arith}
 use Rattle.std.specs.Prelude.{◌-◌, nat_le, if◌then◌else◌}
 use Rattle.std.proofs.lemmas.Bool.Decides.{nat_tests}
-use Rattle.paired_code.specs.declared.part.Symbol.{Symbol}
+use Rattle.refine_heap.specs.paired_code.declared.part.Symbol.{Symbol}
 use Rattle.object_codegen.specs.declared.news.TheConstants.{FEW_FIELDS}
 use Rattle.object_codegen.specs.declared.shape.Shape.TheVariants.{Fixed}
 use Rattle.object_codegen.specs.Code.{zeros_cells, walked_cells, field_cells, fields_cells}
 
--- the last field is tried behind the others
+-- the last field is tried after the others
 pub last_field : (n : ℕ) → n ≢ 0 → fields_cells n ≡ fields_cells (n - 1) ++ field_cells (n - 1)
 last_field zero h = absurd (h refl)
 last_field (suc n) h = let e : n ≡ suc n - 1 = omega arith in ap (λ k. fields_cells k ++ field_cells k) e

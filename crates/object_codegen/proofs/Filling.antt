@@ -4,19 +4,19 @@ use Rattle.std.proofs.Common.{◌∙◌, arith}
 use Rattle.std.specs.Prelude.{slice_index, slice_set, bit_xor}
 use Rattle.std.specs.Int.Bits.{xor_zero_l}
 use Rattle.std.proofs.lemmas.List.{get_or-set_other}
-use Rattle.rpp_words.proofs.Laws.{xor-twice}
-use Rattle.pisa_isa.specs.Machine.{Memory}
-use Rattle.code_conventions.specs.declared.registers.TheConstants.{AT_LENGTH}
-use Rattle.paired_code.specs.declared.part.Symbol.{Symbol}
-use Rattle.paired_code.specs.declared.part.Symbol.TheVariants.{Enter}
-use Rattle.paired_code.specs.Machine.{Image}
-use Rattle.paired_code.specs.Pieces.{Will}
-use Rattle.register_expressions.specs.Code.{addi}
-use Rattle.register_expressions.specs.Number.{Bases}
+use Rattle.refine_heap.proofs.rpp_words_laws.Laws.{xor-twice}
+use Rattle.refine_heap.specs.pisa_isa.Machine.{Memory}
+use Rattle.refine_heap.specs.code_conventions.declared.registers.TheConstants.{AT_LENGTH}
+use Rattle.refine_heap.specs.paired_code.declared.part.Symbol.{Symbol}
+use Rattle.refine_heap.specs.paired_code.declared.part.Symbol.TheVariants.{Enter}
+use Rattle.refine_heap.specs.paired_code.Machine.{Image}
+use Rattle.refine_heap.specs.paired_code.Pieces.{Will}
+use Rattle.expr_uncompute.specs.register_expressions.Code.{addi}
+use Rattle.expr_uncompute.specs.register_expressions.Number.{Bases}
 use Rattle.expr_uncompute.specs.Found.{TrapsWithin}
-use Rattle.register_expressions.proofs.Goes.{Goes, goes_cons, goes_seq, goes_around, goes_to, goes_set, goes_xor_to}
-use Rattle.register_expressions.proofs.Goes.{goes_exch, goes_addi}
-use Rattle.register_expressions.proofs.Scratch.{keeping, mem}
+use Rattle.expr_uncompute.proofs.register_expressions_laws.Goes.{Goes, goes_cons, goes_seq, goes_around, goes_to, goes_set, goes_xor_to}
+use Rattle.expr_uncompute.proofs.register_expressions_laws.Goes.{goes_exch, goes_addi}
+use Rattle.expr_uncompute.proofs.register_expressions_laws.Scratch.{keeping, mem}
 use Rattle.object_codegen.specs.declared.shape.Shape.{Shape}
 use Rattle.object_codegen.specs.declared.shape.Shape.TheVariants.{Fixed, Lengthy}
 use Rattle.object_codegen.specs.Code.{mark_cell, mark_of, block, move_cells, fill_cells, new_alter}
@@ -110,7 +110,7 @@ module _ (b : Bases) (p v : ℕ) where
         (goes_exch _ (λ z zs. filling 0 z zs) p x (slice_set (slice_set zt x (mark_of v shape)) (x + 1) 1)
         (let h = blank.p_in in omega arith) refl (omega arith) (λ z zs. refl) (λ z zs. refl)))))
 
-    -- the whole change, where the order is found in n steps
+    -- the whole change, if the order is found in n steps
     pub alter_leads : (im : Image) (lo hi n : ℕ) (orders : List Symbol) (zs : List ℕ)
         → ((ys : List ℕ) → Goes orders n (calling b 0 0 p v shape ys) (calling b o 0 p v shape ys))
         → Called im b lo hi o x p v shape zs zt

@@ -1,16 +1,16 @@
--- A piece that leads from one memory to another and back, in an image, within so many steps; and
+-- A fragment that leads from one memory to another and back, in an image, within so many steps; and
 -- one that traps.
 use Rattle.std.proofs.Common.{ℕ, ◌+◌, ◌≤◌, true, false, List, ◌++◌, arith}
-use Rattle.pisa_isa.specs.Machine.{Memory}
-use Rattle.paired_code.specs.declared.part.Symbol.{Symbol}
-use Rattle.paired_code.specs.Machine.{Image}
-use Rattle.paired_code.specs.Layout.{mirror_cells}
-use Rattle.paired_code.specs.Pieces.{Outcome, Trapped, Will, after}
-use Rattle.paired_code.proofs.Laws.{Next, will_of, will_more, will_seq, will_seq_back}
-use Rattle.paired_code.proofs.Mirrored.{will_mirror}
-use Rattle.register_expressions.specs.Code.{around}
+use Rattle.refine_heap.specs.pisa_isa.Machine.{Memory}
+use Rattle.refine_heap.specs.paired_code.declared.part.Symbol.{Symbol}
+use Rattle.refine_heap.specs.paired_code.Machine.{Image}
+use Rattle.refine_heap.specs.paired_code.Layout.{mirror_cells}
+use Rattle.refine_heap.specs.paired_code.Pieces.{Outcome, Trapped, Will, after}
+use Rattle.refine_heap.proofs.paired_code_laws.Laws.{Next, will_of, will_more, will_seq, will_seq_back}
+use Rattle.refine_heap.proofs.paired_code_laws.Mirrored.{will_mirror}
+use Rattle.expr_uncompute.specs.register_expressions.Code.{around}
 use Rattle.expr_uncompute.specs.Found.{LeavesWithin, leaves_within, TrapsWithin, traps_within}
-use Rattle.register_expressions.proofs.Goes.{Goes, Traps}
+use Rattle.expr_uncompute.proofs.register_expressions_laws.Goes.{Goes, Traps}
 
 pub record Leads (im : Image) (p : List Symbol) (lo hi : ℕ) (m m' : Memory) : Type 0 where
   pub ahead : Will im p false m (LeavesWithin m' lo hi)
@@ -42,13 +42,6 @@ joined_back {im = im} {q = q} {m1 = m1} {m2 = m2} {a = a} {b = b} {c = c} {d = d
 
 wider : (m : Memory) (a b c d : ℕ) → c ≤ a → b ≤ d → (o : Outcome) → LeavesWithin m a b o → LeavesWithin m c d o
 wider m a b c d l h _ (leaves_within k lo hi) = leaves_within k (omega arith) (omega arith)
-
-pub leads_wider : {im : Image} {p : List Symbol} {a b : ℕ} {m m' : Memory} (c d : ℕ) → c ≤ a → b ≤ d
-    → Leads im p a b m m' → Leads im p c d m m'
-leads_wider {im = im} {p = p} {a = a} {b = b} {m = m} {m' = m'} c d l h g = record {
-  ahead = will_more im p false m _ _ (wider m' a b c d l h) g.ahead;
-  back = will_more im p true m' _ _ (wider m a b c d l h) g.back;
-}
 
 pub leads_seq : {im : Image} {p q : List Symbol} {a b c d : ℕ} {m m1 m2 : Memory} → Leads im p a b m m1
     → Leads im q c d m1 m2 → Leads im (p ++ q) (a + c) (b + d) m m2

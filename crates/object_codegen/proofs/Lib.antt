@@ -1,3 +1,15 @@
+pub use Rattle.rpp_tree.proofs as rpp_tree_laws
+pub use Rattle.refine_heap.proofs.class_table_laws
+pub use Rattle.refine_heap.proofs.buddy_book_laws
+pub use Rattle.static_layout.proofs.roopl_semantics_laws
+pub use Rattle.expr_uncompute.proofs.meaning_sound_laws
+pub use Rattle.static_layout.proofs as static_layout_laws
+pub use Rattle.refine_heap.proofs.paired_code_laws
+pub use Rattle.expr_uncompute.proofs.refine_frame_laws
+pub use Rattle.expr_uncompute.proofs.refine_form_laws
+pub use Rattle.expr_uncompute.proofs.code_scope_laws
+pub use Rattle.expr_uncompute.proofs as expr_uncompute_laws
+pub use Rattle.refine_heap.proofs as refine_heap_laws
 pub mod Leading
 pub mod Over
 pub mod Touching

@@ -2,25 +2,25 @@
 use Rattle.std.proofs.Common.{◌≡◌, ◌≢◌, ℕ, ◌+◌, ◌^◌, ◌<◌, ◌≤◌, Bool, true, false, List, ◌∷◌, length}
 use Rattle.std.specs.Prelude.{slice_index, nat_lt, ◌||◌, is_none, replicate, Ok}
 use Rattle.std.specs.Option.{unwrap_or}
-use Rattle.code_conventions.specs.declared.memory.TheConstants.{HEADER_WORDS}
-use Rattle.rpp_words.specs.Words.{is_less}
+use Rattle.refine_heap.specs.code_conventions.declared.memory.TheConstants.{HEADER_WORDS}
+use Rattle.refine_heap.specs.rpp_words.Words.{is_less}
 use Rattle.rpp_tree.specs.declared.tree.Ident.{Ident}
 use Rattle.rpp_tree.specs.Tree.{Expression, Null, Lvalue, Whole}
-use Rattle.class_table.specs.Classes.{class_number, class_fields}
-use Rattle.buddy_book.specs.Place.{Log, Taken, count_taken, place as place_log}
-use Rattle.buddy_pisa.specs.Promise.{most_steps}
-use Rattle.pisa_isa.specs.Machine.{Memory}
-use Rattle.paired_code.specs.Machine.{Image}
-use Rattle.roopl_semantics.specs.Store.{Value, Nil, Name, Head, OfClass, State, number_of, zero_values, object_at}
-use Rattle.roopl_semantics.specs.Value.{Cell, cell_named, read, written, value, cell_of}
-use Rattle.roopl_semantics.specs.Elements.{index_elements, own_element, share_array}
-use Rattle.roopl_semantics.specs.Execution.{Setting, new_object, order_of_cells, is_of_class, all_zero, freed}
-use Rattle.refine_form.specs.Form.{registers}
-use Rattle.refine_form.specs.declared.spot.Spot.{Spot}
-use Rattle.register_expressions.specs.Code.{words}
+use Rattle.refine_heap.specs.class_table.Classes.{class_number, class_fields}
+use Rattle.refine_heap.specs.buddy_book.Place.{Log, Taken, count_taken, place as place_log}
+use Rattle.refine_heap.specs.buddy_pisa.Promise.{most_steps}
+use Rattle.refine_heap.specs.pisa_isa.Machine.{Memory}
+use Rattle.refine_heap.specs.paired_code.Machine.{Image}
+use Rattle.static_layout.specs.roopl_semantics.Store.{Value, Nil, Name, Head, OfClass, State, number_of, zero_values, object_at}
+use Rattle.static_layout.specs.roopl_semantics.Value.{Cell, cell_named, read, written, value, cell_of}
+use Rattle.static_layout.specs.roopl_semantics.Elements.{index_elements, own_element, share_array}
+use Rattle.static_layout.specs.roopl_semantics.Execution.{Setting, new_object, order_of_cells, is_of_class, all_zero, freed}
+use Rattle.expr_uncompute.specs.refine_form.Form.{registers}
+use Rattle.expr_uncompute.specs.refine_form.declared.spot.Spot.{Spot}
+use Rattle.expr_uncompute.specs.register_expressions.Code.{words}
 use Rattle.expr_uncompute.specs.Code.{place_words}
-use Rattle.register_expressions.specs.Number.{read_of, index_of}
-use Rattle.register_expressions.specs.Laws.{bases_of}
+use Rattle.expr_uncompute.specs.register_expressions.Number.{read_of, index_of}
+use Rattle.expr_uncompute.specs.register_expressions.Laws.{bases_of}
 use Rattle.expr_uncompute.specs.Promises.{free_at, CanRun}
 use Rattle.expr_uncompute.specs.Found.{Changes}
 use Rattle.expr_uncompute.specs.Means.{shown, cell_address, Means, MeansPlace, TellsShares, SameValues, SameCells}
@@ -74,12 +74,12 @@ module _ (setting : Setting) (address slot : State → ℕ → ℕ) (R : State �
 
   -- ---- what is common to objects and arrays
 
-  -- a name that a cell holds before and one after stands where it stood
+  -- an object id that a cell holds before and one after has the address that it had
   abbrev pub KeepsNames : (st st' : State) → Type 0
   KeepsNames st st' = (a a' : Cell) (n : ℕ) → read st a ≡ Name n → read st' a' ≡ Name n → address st' n ≡ address st n
 
-  -- the object or array of a name stands in the cells, with its count, and a word that is not 0
-  -- where not all are
+  -- the object or array of an object id is in the cells, with its reference count, and a word that
+  -- is not 0 if not all are
   pub record StandsThere (st : State) (m : Memory) (name : ℕ) : Type 0 where
     pub inside : address st name + HEADER_WORDS + length_at st name ≤ free_at free m
     pub small : address st name + HEADER_WORDS + length_at st name < 2 ^ 31

@@ -1,15 +1,15 @@
--- Where values stay and the names that they are stand where they stood, the same numbers are found,
+-- If values stay and the object ids among them keep their addresses, the same numbers are found,
 -- whatever else is made or freed.
 use Rattle.std.proofs.Common.{◌≡◌, ℕ, ◌+◌, Bool, true, false, List, length, refl, sym, ap, ◌∙◌}
 use Rattle.std.specs.Prelude.{nat_lt, if◌then◌else◌, Result, Ok, Err}
-use Rattle.code_conventions.specs.declared.memory.TheConstants.{HEADER_WORDS}
+use Rattle.refine_heap.specs.code_conventions.declared.memory.TheConstants.{HEADER_WORDS}
 use Rattle.rpp_tree.specs.declared.tree.BinOp.{BinOp}
 use Rattle.rpp_tree.specs.Tree.{Expression, Number, Null, Variable, Element, Binary, Lvalue, Whole, Item, Source}
-use Rattle.roopl_semantics.specs.Store.{Value, Word, Nil, Name, State, number_of, object_at}
-use Rattle.roopl_semantics.specs.Value.{Cell, Slot, Part, cell_named, variable_value, read, read_cell, element_cell}
-use Rattle.roopl_semantics.specs.Value.{element_of, combined, value}
-use Rattle.refine_form.specs.declared.spot.Spot.{Spot}
-use Rattle.register_expressions.specs.Number.{Bases, number, Same, SamePlace}
+use Rattle.static_layout.specs.roopl_semantics.Store.{Value, Word, Nil, Name, State, number_of, object_at}
+use Rattle.static_layout.specs.roopl_semantics.Value.{Cell, Slot, Part, cell_named, variable_value, read, read_cell, element_cell}
+use Rattle.static_layout.specs.roopl_semantics.Value.{element_of, combined, value}
+use Rattle.expr_uncompute.specs.refine_form.declared.spot.Spot.{Spot}
+use Rattle.expr_uncompute.specs.register_expressions.Number.{Bases, number, Same, SamePlace}
 use Rattle.expr_uncompute.specs.Means.{shown, shown_result, cell_result, Means, MeansPlace, SameValues, SameCells}
 use Rattle.expr_uncompute.proofs.Meaning.{number_is, place_is}
 

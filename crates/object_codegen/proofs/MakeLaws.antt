@@ -2,25 +2,25 @@
 use Rattle.std.proofs.Common.{◌≡◌, ◌≢◌, ℕ, ◌+◌, ◌*◌, ◌^◌, ◌<◌, ◌≤◌, Bool, true, false, List, [], ◌∷◌, length, refl, sym}
 use Rattle.std.proofs.Common.{ap, ◌∙◌, subst, arith}
 use Rattle.std.specs.Prelude.{slice_index}
-use Rattle.code_conventions.specs.declared.memory.TheConstants.{HEADER_WORDS}
-use Rattle.buddy_book.specs.Book.{order_for}
+use Rattle.refine_heap.specs.code_conventions.declared.memory.TheConstants.{HEADER_WORDS}
+use Rattle.refine_heap.specs.buddy_book.Book.{order_for}
 use Rattle.rpp_tree.specs.Tree.{Expression, Null, Lvalue}
-use Rattle.pisa_isa.specs.Machine.{Memory}
-use Rattle.paired_code.specs.declared.part.Symbol.{Symbol}
-use Rattle.paired_code.specs.Machine.{Image}
-use Rattle.paired_code.specs.Pieces.{Will}
-use Rattle.refine_form.specs.Form.{registers}
-use Rattle.refine_form.specs.declared.spot.Spot.{Spot}
-use Rattle.register_expressions.specs.Code.{words, xori}
+use Rattle.refine_heap.specs.pisa_isa.Machine.{Memory}
+use Rattle.refine_heap.specs.paired_code.declared.part.Symbol.{Symbol}
+use Rattle.refine_heap.specs.paired_code.Machine.{Image}
+use Rattle.refine_heap.specs.paired_code.Pieces.{Will}
+use Rattle.expr_uncompute.specs.refine_form.Form.{registers}
+use Rattle.expr_uncompute.specs.refine_form.declared.spot.Spot.{Spot}
+use Rattle.expr_uncompute.specs.register_expressions.Code.{words, xori}
 use Rattle.expr_uncompute.specs.Code.{place_words}
-use Rattle.register_expressions.specs.Number.{Bases}
-use Rattle.register_expressions.specs.Laws.{bases_of}
+use Rattle.expr_uncompute.specs.register_expressions.Number.{Bases}
+use Rattle.expr_uncompute.specs.register_expressions.Laws.{bases_of}
 use Rattle.expr_uncompute.specs.Laws.{Stays}
 use Rattle.expr_uncompute.specs.Promises.{free_at}
 use Rattle.expr_uncompute.specs.Found.{found, Filled, Changes, Encloses, PlaceAroundLaw, ValueAroundLaw, LeavesWithin}
 use Rattle.expr_uncompute.specs.Found.{TrapsWithin, found_place_steps, found_value_steps}
-use Rattle.register_expressions.proofs.Goes.{Goes, goes_set}
-use Rattle.register_expressions.proofs.Scratch.{keeping, mem}
+use Rattle.expr_uncompute.proofs.register_expressions_laws.Goes.{Goes, goes_set}
+use Rattle.expr_uncompute.proofs.register_expressions_laws.Scratch.{keeping, mem}
 use Rattle.expr_uncompute.proofs.Updates.{place_low}
 use Rattle.object_codegen.specs.declared.shape.Shape.{Shape}
 use Rattle.object_codegen.specs.declared.shape.Shape.TheVariants.{Fixed, Lengthy}
@@ -61,7 +61,7 @@ module _ (im : Image) (m : Memory) (object frame low n steps a v o : ℕ) (shape
   same : (ys : List ℕ) → at ys ≡ found v a 0 ys m
   same ys = found_is m object frame v a ys regs_are
 
-  -- the room of a block
+  -- the space of a block
   roomy : (x : ℕ) (cells taken zs : List ℕ) → length cells ≡ length m.cells
       → Takes low (size_of v shape) a x cells taken → Filled low n taken zs → Room b a v x (size_of v shape) zs
   roomy x cells taken zs e t f =

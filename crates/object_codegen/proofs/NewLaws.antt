@@ -3,20 +3,20 @@ use Rattle.std.proofs.Common.{◌≡◌, ◌≢◌, ℕ, ◌+◌, ◌*◌, ◌^�
 use Rattle.std.proofs.Common.{length-set, sym, ◌∙◌, arith}
 use Rattle.std.specs.Prelude.{slice_index, slice_set}
 use Rattle.std.proofs.lemmas.List.{get_or-set_same, get_or-set_other}
-use Rattle.code_conventions.specs.declared.memory.TheConstants.{HEADER_WORDS}
-use Rattle.rpp_words.specs.Words.{is_less}
-use Rattle.pisa_isa.specs.Machine.{Memory}
-use Rattle.code_conventions.specs.declared.registers.TheConstants.{AMOUNT}
-use Rattle.paired_code.specs.declared.part.Symbol.{Symbol}
-use Rattle.paired_code.specs.declared.part.Symbol.TheVariants.{Enter}
-use Rattle.paired_code.specs.Machine.{Image}
-use Rattle.paired_code.specs.Layout.{mirror_cells}
-use Rattle.paired_code.specs.Pieces.{Will}
-use Rattle.register_expressions.specs.Number.{Bases}
+use Rattle.refine_heap.specs.code_conventions.declared.memory.TheConstants.{HEADER_WORDS}
+use Rattle.refine_heap.specs.rpp_words.Words.{is_less}
+use Rattle.refine_heap.specs.pisa_isa.Machine.{Memory}
+use Rattle.refine_heap.specs.code_conventions.declared.registers.TheConstants.{AMOUNT}
+use Rattle.refine_heap.specs.paired_code.declared.part.Symbol.{Symbol}
+use Rattle.refine_heap.specs.paired_code.declared.part.Symbol.TheVariants.{Enter}
+use Rattle.refine_heap.specs.paired_code.Machine.{Image}
+use Rattle.refine_heap.specs.paired_code.Layout.{mirror_cells}
+use Rattle.refine_heap.specs.paired_code.Pieces.{Will}
+use Rattle.expr_uncompute.specs.register_expressions.Number.{Bases}
 use Rattle.expr_uncompute.specs.Found.{TrapsWithin}
-use Rattle.register_expressions.proofs.Comparing.{above}
-use Rattle.register_expressions.proofs.Goes.{Goes, Traps, goes_seq, goes_mirror, traps_then, traps_first}
-use Rattle.register_expressions.proofs.Scratch.{keeping, mem}
+use Rattle.expr_uncompute.proofs.register_expressions_laws.Comparing.{above}
+use Rattle.expr_uncompute.proofs.register_expressions_laws.Goes.{Goes, Traps, goes_seq, goes_mirror, traps_then, traps_first}
+use Rattle.expr_uncompute.proofs.register_expressions_laws.Scratch.{keeping, mem}
 use Rattle.object_codegen.specs.declared.shape.Shape.{Shape}
 use Rattle.object_codegen.specs.declared.shape.Shape.TheVariants.{Fixed, Lengthy}
 use Rattle.object_codegen.specs.Code.{mark_of, mark_fault, size_of, positive, new_checks, delete_checks, new_alter}
@@ -28,7 +28,7 @@ use Rattle.object_codegen.proofs.Leading.{Leads, goes_leads, leads_seq, falls_fi
 use Rattle.object_codegen.proofs.Leading.{fault_back}
 use Rattle.object_codegen.proofs.Filling.{nothing_else, calling, Called, Blank, alter_leads, alter_falls}
 
--- what the middle costs, where the allocator makes t steps
+-- what the middle costs, if the allocator makes t steps
 abbrev pub mid_steps : Shape → (n orders t : ℕ) → ℕ
 mid_steps shape n orders t = check_steps shape + (((move_steps shape + orders) +
     ((t + 7) + (move_steps shape + orders))) + (22 + zeros_steps shape n))

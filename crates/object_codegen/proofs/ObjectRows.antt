@@ -4,30 +4,30 @@ use Rattle.std.proofs.Common.{◌≡◌, ◌≢◌, ℕ, ◌+◌, ◌*◌, ◌�
 use Rattle.std.proofs.Common.{arith, append-nil}
 use Rattle.std.specs.Prelude.{slice_index, nat_eq, not, Result, Ok, Err}
 use Rattle.std.proofs.lemmas.Bool.Decides.{nat_tests}
-use Rattle.code_conventions.specs.declared.memory.TheConstants.{HEADER_WORDS}
+use Rattle.refine_heap.specs.code_conventions.declared.memory.TheConstants.{HEADER_WORDS}
 use Rattle.rpp_tree.specs.declared.tree.Ident.{Ident}
 use Rattle.rpp_tree.specs.Tree.{Null, Lvalue, Object as AnObject, New, Delete, index_nodes}
-use Rattle.buddy_pisa.specs.Promise.{most_steps}
-use Rattle.pisa_isa.specs.Machine.{Memory}
-use Rattle.paired_code.specs.declared.part.Symbol.{Symbol}
-use Rattle.paired_code.specs.Machine.{Image}
-use Rattle.paired_code.specs.Layout.{mirror_cells}
-use Rattle.paired_code.specs.Pieces.{Outcome, Will}
-use Rattle.paired_code.specs.Does.{Rates, Fine, Fault, Meets, fine, Does}
-use Rattle.paired_code.proofs.Laws.{will_more}
-use Rattle.paired_code.proofs.Mirrored.{will_mirror}
-use Rattle.roopl_semantics.specs.Run.{Run, after_cost, given, give, spend, fault_if, ◌>>=◌}
-use Rattle.roopl_semantics.specs.Store.{Value, Word, Nil, Name, OfClass, State, number_of, is_nil}
-use Rattle.roopl_semantics.specs.Value.{Cell, read, cell_of, nil_fault}
-use Rattle.roopl_semantics.specs.Elements.{index_elements, own_element, share_array, read_cost, shared_array_fault}
-use Rattle.roopl_semantics.specs.Execution.{Setting, Runner, statement, freed, not_nil_fault, count_fault}
-use Rattle.roopl_semantics.specs.Execution.{not_empty_fault, heap_full_fault, class_differs_fault}
-use Rattle.refine_form.specs.declared.spot.Spot.{Spot}
-use Rattle.refine_form.specs.Form.{told, turned as facing}
+use Rattle.refine_heap.specs.buddy_pisa.Promise.{most_steps}
+use Rattle.refine_heap.specs.pisa_isa.Machine.{Memory}
+use Rattle.refine_heap.specs.paired_code.declared.part.Symbol.{Symbol}
+use Rattle.refine_heap.specs.paired_code.Machine.{Image}
+use Rattle.refine_heap.specs.paired_code.Layout.{mirror_cells}
+use Rattle.refine_heap.specs.paired_code.Pieces.{Outcome, Will}
+use Rattle.refine_heap.specs.paired_code.Does.{Rates, Fine, Fault, Meets, fine, Does}
+use Rattle.refine_heap.proofs.paired_code_laws.Laws.{will_more}
+use Rattle.refine_heap.proofs.paired_code_laws.Mirrored.{will_mirror}
+use Rattle.static_layout.specs.roopl_semantics.Run.{Run, after_cost, given, give, spend, fault_if, ◌>>=◌}
+use Rattle.static_layout.specs.roopl_semantics.Store.{Value, Word, Nil, Name, OfClass, State, number_of, is_nil}
+use Rattle.static_layout.specs.roopl_semantics.Value.{Cell, read, cell_of, nil_fault}
+use Rattle.static_layout.specs.roopl_semantics.Elements.{index_elements, own_element, share_array, read_cost, shared_array_fault}
+use Rattle.static_layout.specs.roopl_semantics.Execution.{Setting, Runner, statement, freed, not_nil_fault, count_fault}
+use Rattle.static_layout.specs.roopl_semantics.Execution.{not_empty_fault, heap_full_fault, class_differs_fault}
+use Rattle.expr_uncompute.specs.refine_form.declared.spot.Spot.{Spot}
+use Rattle.expr_uncompute.specs.refine_form.Form.{told, turned as facing}
 use Rattle.expr_uncompute.specs.Code.{place_words}
-use Rattle.register_expressions.specs.Number.{place_address, update_shares}
+use Rattle.expr_uncompute.specs.register_expressions.Number.{place_address, update_shares}
 use Rattle.expr_uncompute.specs.Steps.{place_steps}
-use Rattle.register_expressions.specs.Laws.{bases_of}
+use Rattle.expr_uncompute.specs.register_expressions.Laws.{bases_of}
 use Rattle.expr_uncompute.specs.Laws.{Stays}
 use Rattle.expr_uncompute.specs.Promises.{free_at}
 use Rattle.expr_uncompute.specs.Found.{LeavesWithin, leaves_within, TrapsWithin, found_place_steps}
@@ -236,7 +236,7 @@ module _ (setting : Setting) (address slot : State → ℕ → ℕ) (R : State �
                 h.taken tt h.was h.takes h.allocates
                 (stay st (freed setting cell name st) m h.given r h.after h.keeps k.0 k.1) h.changes)
 
-        -- where no array is shared, or one is
+        -- if no array is shared, or one is
         ends_by : (d shared : Bool) → sharing st ≡ shared → Will im p d m
             (Meets R rates n0 0 (told (one_row target (Ok cell)
             (λ c. kept_by reads shared (end_of setting class d st c (read st c))))))
@@ -267,7 +267,8 @@ module _ (setting : Setting) (address slot : State → ℕ → ℕ) (R : State �
     new_is false here n run st = refl
     new_is true here n run st = refl
 
-    -- the piece of a new does what the source says of it, and run back what it says of its inverse
+    -- the fragment of a new does what the source says of it, and run backward what it says of its
+    -- inverse
     pub new_does : (d : Bool) (here n : ℕ) (run : Runner) → Does im p d R R rates n0 0
         (λ st. told (after_cost 1 (statement setting n run (facing d (New here (AnObject class) target)) st)))
     new_does d here n run = record {
@@ -280,7 +281,7 @@ module _ (setting : Setting) (address slot : State → ℕ → ℕ) (R : State �
     delete_is false here = refl
     delete_is true here = refl
 
-    -- and its mirror that of a delete
+    -- and its inverse that of a delete
     pub delete_does : (d : Bool) (here n : ℕ) (run : Runner)
         → Does im (mirror_cells p) d R R rates n0 0 (λ st. told
         (after_cost 1 (statement setting n run (facing d (Delete here (AnObject class) target)) st)))

@@ -4,7 +4,7 @@ use Rattle.std.specs.Prelude.{slice_index, slice_set}
 use Rattle.std.proofs.lemmas.List.{get_or-set_other, ext_get_or}
 use Rattle.std.proofs.lemmas.Bool.{cases_lt}
 use Rattle.expr_uncompute.specs.Found.{Filled, Changes}
-use Rattle.register_expressions.proofs.Numbers.{AllWords, words_set}
+use Rattle.expr_uncompute.proofs.register_expressions_laws.Numbers.{AllWords, words_set}
 use Rattle.expr_uncompute.proofs.Written.{set_lifts}
 
 module _ (low n : ℕ) (cells ys : List ℕ) (f : Filled low n cells ys) where

@@ -10,23 +10,23 @@ use Rattle.std.proofs.lemmas.List.{length-take, length-drop, length-append}
 use Rattle.std.proofs.Math.Seq.{get_or-append_right}
 use Rattle.std.proofs.lemmas.Bool.{cases_lt}
 use Rattle.std.proofs.lemmas.List.Elements.{All-cons, All-from_get_or}
-use Rattle.rpp_words.specs.Words.{IsWord}
-use Rattle.rpp_words.specs.declared.input.Limits.{Limits}
+use Rattle.refine_heap.specs.rpp_words.Words.{IsWord}
+use Rattle.refine_heap.specs.rpp_words.declared.input.Limits.{Limits}
 use Rattle.rpp_tree.specs.Tree.{Source}
-use Rattle.pisa_isa.specs.Loaded.{statics_at, heap_base, fixed_cells}
-use Rattle.buddy_book.specs.Book.{Book, take, give}
-use Rattle.buddy_book.specs.Shown.{TakenBlocks, order_in}
-use Rattle.buddy_book.specs.Place.{Placing}
-use Rattle.pisa_isa.specs.Machine.{Memory}
-use Rattle.paired_code.specs.declared.part.Symbol.{Symbol}
-use Rattle.paired_code.specs.declared.part.Symbol.TheVariants.{Enter}
-use Rattle.paired_code.specs.Machine.{Image, reg}
-use Rattle.paired_code.specs.Layout.{Routine, Tidy}
-use Rattle.paired_code.specs.Pieces.{Outcome, Will}
-use Rattle.paired_code.proofs.Laws.{will_more}
-use Rattle.roopl_semantics.specs.Store.{Store}
-use Rattle.roopl_semantics.specs.Layout.{first_address, static_words, heap_words, laid}
-use Rattle.buddy_pisa.specs.Promise.{Enters, AllocatorLaw, most_steps}
+use Rattle.refine_heap.specs.pisa_isa.Loaded.{statics_at, heap_base, fixed_cells}
+use Rattle.refine_heap.specs.buddy_book.Book.{Book, take, give}
+use Rattle.refine_heap.specs.buddy_book.Shown.{TakenBlocks, order_in}
+use Rattle.refine_heap.specs.buddy_book.Place.{Placing}
+use Rattle.refine_heap.specs.pisa_isa.Machine.{Memory}
+use Rattle.refine_heap.specs.paired_code.declared.part.Symbol.{Symbol}
+use Rattle.refine_heap.specs.paired_code.declared.part.Symbol.TheVariants.{Enter}
+use Rattle.refine_heap.specs.paired_code.Machine.{Image, reg}
+use Rattle.refine_heap.specs.paired_code.Layout.{Routine, Tidy}
+use Rattle.refine_heap.specs.paired_code.Pieces.{Outcome, Will}
+use Rattle.refine_heap.proofs.paired_code_laws.Laws.{will_more}
+use Rattle.static_layout.specs.roopl_semantics.Store.{Store}
+use Rattle.static_layout.specs.roopl_semantics.Layout.{first_address, static_words, heap_words, laid}
+use Rattle.refine_heap.specs.buddy_pisa.Promise.{Enters, AllocatorLaw, most_steps}
 use Rattle.refine_heap.specs.Laid.{StandsBeside, IsPlaced}
 use Rattle.refine_heap.specs.Calls.{LeavesIn, leaves_in, TrapsFull, traps_full, Calls}
 use Rattle.refine_heap.proofs.Called.{laid_calls_law}
@@ -49,7 +49,7 @@ module _ (low n : ℕ) (front stack : List ℕ) (fits : length front ≤ low) wh
       → ys ≡ front ++ drop (length front) ys
   over_front ys h f = sym (take-append-drop (length front) ys) ∙ ap (λ z. z ++ drop (length front) ys) (front_is ys h f)
 
--- the same words behind two fronts
+-- the same words after two prefixes
 pub same_behind : (low n : ℕ) (front front' stack ys zs : List ℕ) → length front ≤ low → length front' ≡ length front
     → Filled low n (front ++ stack) ys → Filled low n (front' ++ stack) zs → Changes low ys zs
     → drop (length front) zs ≡ drop (length front) ys
@@ -76,7 +76,7 @@ word_at [] h r = omega arith
 word_at (x ∷ l) h zero = h.0
 word_at (x ∷ l) h (suc r) = word_at l h.1 r
 
--- no length is left where the allocator has its temporaries
+-- no length is left if the allocator has its temporaries
 abbrev pub IsLeft : ℕ → Shape → Type 0
 IsLeft v (Fixed table fields) = v ≡ 0
 IsLeft v Lengthy = Unit {0}

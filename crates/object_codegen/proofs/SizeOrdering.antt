@@ -1,20 +1,20 @@
--- The order of a block for an array is put into its register, where the allocator is about to be called.
+-- The order of an array's block is put into its register, before the allocator is called.
 use Rattle.std.proofs.Common.{◌≡◌, ◌≢◌, ℕ, zero, suc, ◌+◌, ◌^◌, ◌≤◌, ◌<◌, ◌⊎◌, inl, inr, true, false, nat_le, List, []}
 use Rattle.std.proofs.Common.{◌∷◌, refl, sym, ap, subst, arith, le_antisymm, if◌then◌else◌, eq-or-lt_of_le, ◌-◌}
 use Rattle.std.specs.Prelude.{slice_index}
 use Rattle.std.proofs.lemmas.Bool.Decides.{leb_tells}
-use Rattle.code_conventions.specs.declared.memory.TheConstants.{HEADER_WORDS}
-use Rattle.rpp_words.specs.Order.{IsOrderFor}
-use Rattle.buddy_book.specs.Book.{order_from, order_for}
-use Rattle.register_expressions.specs.Number.{Bases}
-use Rattle.register_expressions.proofs.Goes.{Goes, goes_to}
+use Rattle.refine_heap.specs.code_conventions.declared.memory.TheConstants.{HEADER_WORDS}
+use Rattle.refine_heap.specs.rpp_words.Order.{IsOrderFor}
+use Rattle.refine_heap.specs.buddy_book.Book.{order_from, order_for}
+use Rattle.expr_uncompute.specs.register_expressions.Number.{Bases}
+use Rattle.expr_uncompute.proofs.register_expressions_laws.Goes.{Goes, goes_to}
 use Rattle.object_codegen.specs.declared.shape.Shape.TheVariants.{Lengthy}
 use Rattle.object_codegen.specs.Code.{order_cells}
 use Rattle.object_codegen.proofs.SizeOrders.{log_of, size_order}
 use Rattle.object_codegen.proofs.SizeRows.{order_goes}
 use Rattle.object_codegen.proofs.Filling.{calling}
 
--- ---- the order of a request is the least with room, and nothing else is
+-- ---- the order of a request is the least that has space, and nothing else is
 
 abbrev IsBelow : ℕ → ℕ → Type 0
 IsBelow words k = (j : ℕ) → 1 ≤ j → words ≤ 2 ^ j → k ≤ j

@@ -8,14 +8,14 @@ use Rattle.std.proofs.lemmas.Nat.Bits.{and_pow}
 use Rattle.std.proofs.Math.Nat.{div-lt_iff_lt-mul, mul-le-mul_left}
 use Rattle.std.proofs.Math.Pow.{pow_mono}
 use Rattle.std.specs.Int.Bits.{xor_self}
-use Rattle.pisa_isa.specs.Machine.{Memory}
-use Rattle.rpp_words.specs.Words.{shifted_right, turned_left, turned_right, is_less, sum_of}
-use Rattle.pisa_isa.specs.Table.{word_of}
-use Rattle.code_conventions.specs.declared.memory.TheConstants.{HEADER_WORDS}
-use Rattle.code_conventions.specs.declared.registers.TheConstants.{NOUGHT, AT_LENGTH as size}
-use Rattle.register_expressions.proofs.Goes.{Goes, goes_cons, goes_seq, goes_around, goes_to, goes_mirror, goes_set}
-use Rattle.register_expressions.proofs.Goes.{goes_xor_to, goes_addi, goes_add, goes_cell}
-use Rattle.register_expressions.specs.Code.{add, addi, sltx}
+use Rattle.refine_heap.specs.pisa_isa.Machine.{Memory}
+use Rattle.refine_heap.specs.rpp_words.Words.{shifted_right, turned_left, turned_right, is_less, sum_of}
+use Rattle.refine_heap.specs.pisa_isa.Table.{word_of}
+use Rattle.refine_heap.specs.code_conventions.declared.memory.TheConstants.{HEADER_WORDS}
+use Rattle.refine_heap.specs.code_conventions.declared.registers.TheConstants.{NOUGHT, AT_LENGTH as size}
+use Rattle.expr_uncompute.proofs.register_expressions_laws.Goes.{Goes, goes_cons, goes_seq, goes_around, goes_to, goes_mirror, goes_set}
+use Rattle.expr_uncompute.proofs.register_expressions_laws.Goes.{goes_xor_to, goes_addi, goes_add, goes_cell}
+use Rattle.expr_uncompute.specs.register_expressions.Code.{add, addi, sltx}
 use Rattle.object_codegen.specs.Code.{srlvx, andix, turn_left, shifted as start, one_bit as end}
 use Rattle.object_codegen.specs.Code.{order, order_bit, order_cells as order_of_size}
 use Rattle.object_codegen.proofs.SizeOrders.{has_bit, with_bit, log_of, bit_small}
@@ -66,11 +66,11 @@ module _ (g : ℕ → ℕ) (cells : List ℕ) where
 
     turns : (t : Bool) → Goes (turn_left end k ∷ []) 1 (sizing x r 0 (word_of t)) (sizing x r 0 (placed t))
     turns true = let b = known.number in goes_cell _ _ _ refl (omega (arith, b))
-        (ap (λ z. package.Rattle.paired_code.specs.Pieces.Done (sizing x r 0 z) 1) known.turned_1)
-        (ap (λ z. package.Rattle.paired_code.specs.Pieces.Done (sizing x r 0 z) 1) known.back_1)
+        (ap (λ z. package.Rattle.refine_heap.specs.paired_code.Pieces.Done (sizing x r 0 z) 1) known.turned_1)
+        (ap (λ z. package.Rattle.refine_heap.specs.paired_code.Pieces.Done (sizing x r 0 z) 1) known.back_1)
     turns false = let b = known.number in goes_cell _ _ _ refl (omega (arith, b))
-        (ap (λ z. package.Rattle.paired_code.specs.Pieces.Done (sizing x r 0 z) 1) known.turned_0)
-        (ap (λ z. package.Rattle.paired_code.specs.Pieces.Done (sizing x r 0 z) 1) known.back_0)
+        (ap (λ z. package.Rattle.refine_heap.specs.paired_code.Pieces.Done (sizing x r 0 z) 1) known.turned_0)
+        (ap (λ z. package.Rattle.refine_heap.specs.paired_code.Pieces.Done (sizing x r 0 z) 1) known.back_0)
 
     adds : (t : Bool) → Goes (add order end ∷ []) 1 (sizing x r 0 (placed t))
         (sizing x (if t then r + 2 ^ k else r) 0 (placed t))
@@ -160,7 +160,7 @@ module _ (g : ℕ → ℕ) (cells : List ℕ) where
     back_1 = refl;
   }
 
-  -- a multiple of twice the bit has it not, and has it where it is added
+  -- a multiple of twice the bit has it not, and has it if it is added
   has_not : (r k : ℕ) → r / 2 ^ k % 2 ≡ 0 → bit_and r (2 ^ k) ≡ 0
   has_not r k e = and_pow r k ∙ ap (λ z. z * 2 ^ k) e ∙ (let q : 0 * 2 ^ k ≡ 0 = omega arith in q)
 

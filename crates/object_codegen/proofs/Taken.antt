@@ -3,7 +3,7 @@ use Rattle.std.proofs.Common.{◌≡◌, ◌≢◌, ℕ, ◌+◌, ◌^◌, ◌<�
 use Rattle.std.specs.Prelude.{slice_index, slice_set}
 use Rattle.std.proofs.lemmas.List.{get_or-set_same, get_or-set_other, set-set, set-get_or}
 use Rattle.expr_uncompute.specs.Found.{Filled, Changes}
-use Rattle.register_expressions.proofs.Numbers.{words_set}
+use Rattle.expr_uncompute.proofs.register_expressions_laws.Numbers.{words_set}
 use Rattle.expr_uncompute.proofs.Written.{set_lifts}
 use Rattle.object_codegen.specs.News.{Takes, filled}
 

@@ -3,18 +3,20 @@ use Rattle.std.proofs.Common.{◌≡◌, ◌≢◌, ℕ, ◌+◌, ◌^◌, ◌<�
 use Rattle.std.proofs.Common.{ap, arith}
 use Rattle.std.specs.Prelude.{slice_index, slice_set, bit_xor}
 use Rattle.std.proofs.lemmas.List.{get_or-set_same, set-set}
-use Rattle.pisa_isa.specs.Machine.{Memory}
-use Rattle.rpp_words.specs.Words.{is_less}
-use Rattle.code_conventions.specs.declared.registers.TheConstants.{CONTENT, FIRST_WORD, NOUGHT, OTHER_PLACE, PLACE}
-use Rattle.paired_code.specs.Machine.{reg}
-use Rattle.paired_code.specs.Layout.{check_equal_cells, check_differ_cells, check_positive_cells}
-use Rattle.paired_code.specs.Layout.{Equal, Differ, Positive}
-use Rattle.paired_code.proofs.Checks.{runs_passes, runs_fails}
-use Rattle.register_expressions.specs.Code.{xor, exch}
-use Rattle.register_expressions.specs.Number.{Bases}
-use Rattle.register_expressions.proofs.Comparing.{above, not_above}
-use Rattle.register_expressions.proofs.Goes.{Goes, Traps, goes_around, goes_to, goes_xor_to, goes_exch, traps_mid}
-use Rattle.register_expressions.proofs.Scratch.{Scratch, mem}
+use Rattle.refine_heap.specs.pisa_isa.Machine.{Memory}
+use Rattle.refine_heap.specs.rpp_words.Words.{is_less}
+use Rattle.refine_heap.specs.code_conventions.declared.registers.TheConstants.{CONTENT, FIRST_WORD, NOUGHT, OTHER_PLACE}
+use Rattle.refine_heap.specs.code_conventions.declared.registers.TheConstants.{PLACE}
+use Rattle.refine_heap.specs.paired_code.Machine.{reg}
+use Rattle.refine_heap.specs.paired_code.Layout.{check_equal_cells, check_differ_cells, check_positive_cells}
+use Rattle.refine_heap.specs.paired_code.Layout.{Equal, Differ, Positive}
+use Rattle.refine_heap.proofs.paired_code_laws.Checks.{runs_passes, runs_fails}
+use Rattle.expr_uncompute.specs.register_expressions.Code.{xor, exch}
+use Rattle.expr_uncompute.specs.register_expressions.Number.{Bases}
+use Rattle.expr_uncompute.proofs.register_expressions_laws.Comparing.{above, not_above}
+use Rattle.expr_uncompute.proofs.register_expressions_laws.Goes.{Goes, Traps, goes_around, goes_to, goes_xor_to}
+use Rattle.expr_uncompute.proofs.register_expressions_laws.Goes.{goes_exch, traps_mid}
+use Rattle.expr_uncompute.proofs.register_expressions_laws.Scratch.{Scratch, mem}
 use Rattle.object_codegen.specs.Code.{nil_place, some_place, load_cells}
 
 -- ---- checks
@@ -75,16 +77,18 @@ module _ (b : Bases) (f : ℕ → ℕ) (s : Scratch) where
         (λ z zs. refl);
   }
 
-  -- a word is open: x stands in the register, and 0 in its cell
+  -- a word is taken out: x is in the register, and 0 in its cell
   pub opened : {r a w : ℕ} → Points r a w → (zs : List ℕ) (x : ℕ) → a < length zs → slice_index zs a ≡ x
       → Goes (exch CONTENT r ∷ []) 1 (at 0 0 w zs) (at 0 x w (slice_set zs a 0))
   opened {a = a} {w = w} p zs x h e = goes_to refl refl (ap (λ z. at 0 z w (slice_set zs a 0)) e) (p.opens 0 0 zs h)
 
   -- a word changed
-  pub changed : {r a w k : ℕ} {mid : List Rattle.paired_code.specs.declared.part.Symbol.Symbol} → Points r a w
+  pub changed : {r a w k : ℕ} {mid : List Rattle.refine_heap.specs.paired_code.declared.part.Symbol.Symbol}
+      → Points r a w
       → (zs : List ℕ) (x y : ℕ) → a < length zs → slice_index zs a ≡ x
       → Goes mid k (at 0 x w (slice_set zs a 0)) (at 0 y w (slice_set zs a 0))
-      → Goes (Rattle.register_expressions.specs.Code.around (exch CONTENT r ∷ []) mid) (1 + (k + 1)) (at 0 0 w zs)
+      → Goes (Rattle.expr_uncompute.specs.register_expressions.Code.around (exch CONTENT r ∷ []) mid) (1 + (k + 1))
+      (at 0 0 w zs)
       (at 0 0 w (slice_set zs a y))
   changed {a = a} {w = w} p zs x y h e g =
       let h' : a < length (slice_set zs a y) = rw (length-set zs a y) h in

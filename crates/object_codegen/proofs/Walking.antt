@@ -5,18 +5,18 @@ use Rattle.std.specs.Prelude.{slice_index, bit_xor, nat_eq, nat_lt}
 use Rattle.std.proofs.lemmas.Bool.Decides.{nat_tests}
 use Rattle.std.proofs.lemmas.Bool.{cases_lt, cases_eq}
 use Rattle.std.proofs.lemmas.Int.{ints}
-use Rattle.rpp_words.specs.Words.{is_less}
-use Rattle.pisa_isa.specs.Table.{word_of}
-use Rattle.pisa_isa.specs.Machine.{Memory}
-use Rattle.code_conventions.specs.declared.registers.TheConstants.{FIRST_WORD}
-use Rattle.paired_code.specs.Machine.{Image}
-use Rattle.paired_code.specs.Pieces.{Done, Trapped, Runs}
-use Rattle.paired_code.specs.Laws.{Rounds, leaves, ends_in_tail, again}
-use Rattle.paired_code.proofs.MoreLaws.{while_law}
-use Rattle.register_expressions.specs.Code.{addi}
-use Rattle.register_expressions.specs.Number.{Bases}
-use Rattle.register_expressions.proofs.Goes.{Goes, Traps, goes_cons, goes_seq, goes_xor_to, goes_addi, traps_first}
-use Rattle.register_expressions.proofs.Scratch.{Scratch, keeping, mem}
+use Rattle.refine_heap.specs.rpp_words.Words.{is_less}
+use Rattle.refine_heap.specs.pisa_isa.Table.{word_of}
+use Rattle.refine_heap.specs.pisa_isa.Machine.{Memory}
+use Rattle.refine_heap.specs.code_conventions.declared.registers.TheConstants.{FIRST_WORD}
+use Rattle.refine_heap.specs.paired_code.Machine.{Image}
+use Rattle.refine_heap.specs.paired_code.Pieces.{Done, Trapped, Runs}
+use Rattle.refine_heap.specs.paired_code.Laws.{Rounds, leaves, ends_in_tail, again}
+use Rattle.refine_heap.proofs.paired_code_laws.MoreLaws.{while_law}
+use Rattle.expr_uncompute.specs.register_expressions.Code.{addi}
+use Rattle.expr_uncompute.specs.register_expressions.Number.{Bases}
+use Rattle.expr_uncompute.proofs.register_expressions_laws.Goes.{Goes, Traps, goes_cons, goes_seq, goes_xor_to, goes_addi, traps_first}
+use Rattle.expr_uncompute.proofs.register_expressions_laws.Scratch.{Scratch, keeping, mem}
 use Rattle.object_codegen.specs.Code.{walk_head, walk_tail, walk_cells}
 use Rattle.object_codegen.proofs.Touching.{by_first, nil_goes, nil_traps}
 
@@ -32,16 +32,6 @@ module _ (b : Bases) (f : ℕ → ℕ) (v p st en : ℕ) (zs : List ℕ) (order 
   -- a flag, and the address of a cell
   abbrev pub walking : (o w : ℕ) → Memory
   walking o w = mem b f (record (keeping v p 0) { left = st; right = en; outcome = o; content = 0; first = w }) zs
-
-  abbrev enters_with : ℕ → ℕ
-  enters_with w = word_of (nat_eq st w)
-
-  abbrev leaves_with : ℕ → ℕ
-  leaves_with w = word_of (nat_eq w en)
-
-  flags : (x y z u : Bool) → bit_xor (bit_xor (word_of x) (word_of y)) (word_of z)
-      ≡ bit_xor (bit_xor (word_of x) (word_of y)) (word_of z)
-  flags x y z u = refl
 
   flag_is : (w : ℕ) → st ≤ w → w ≤ en → bit_xor (bit_xor (word_of (nat_eq st w)) (word_of (is_less st w)))
       (word_of (is_less w en)) ≡ word_of (nat_eq w en)

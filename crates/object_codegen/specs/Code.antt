@@ -1,25 +1,25 @@
--- The cells of `copy` and `uncopy`, `new` and `delete`: one piece for both directions.
+-- The cells of `copy` and `uncopy`, `new` and `delete`: one fragment for both directions.
 use Rattle.std.specs.Prelude.{ℕ, zero, suc, ◌+◌, ◌-◌, ◌^◌, false, List, [], ◌∷◌, ◌++◌, nat_le}
 use Rattle.std.specs.Prelude.{if◌then◌else◌}
-use Rattle.rpp_words.specs.Words.{negated}
-use Rattle.pisa_isa.specs.declared.cell.Op.TheVariants.{Rl, Srlvx, Andix}
-use Rattle.code_conventions.specs.declared.faults.TheConstants.{NOT_NIL, NIL, COUNT, NOT_EMPTY}
-use Rattle.code_conventions.specs.declared.faults.TheConstants.{NOT_SAME, CLASS_DIFFERS}
-use Rattle.code_conventions.specs.declared.faults.TheConstants.{LENGTH_DIFFERS, LENGTH}
-use Rattle.code_conventions.specs.declared.memory.TheConstants.{COUNT_WORD, HEADER_WORDS}
-use Rattle.code_conventions.specs.declared.registers.TheConstants.{VALUE, BLOCK, AMOUNT, CONTENT}
-use Rattle.code_conventions.specs.declared.registers.TheConstants.{FIRST_WORD, LEFT_TRUTH, NOUGHT}
-use Rattle.code_conventions.specs.declared.registers.TheConstants.{OTHER_PLACE, OUTCOME, PLACE}
-use Rattle.code_conventions.specs.declared.registers.TheConstants.{RIGHT_TRUTH, AT_LENGTH, AT_PLACE}
-use Rattle.paired_code.specs.declared.part.Symbol.{Symbol}
-use Rattle.paired_code.specs.declared.part.Symbol.TheVariants.{Own, Enter}
-use Rattle.paired_code.specs.Layout.{mirror_cells, check_equal_cells, check_differ_cells}
-use Rattle.paired_code.specs.Layout.{check_positive_cells, loop_cells}
+use Rattle.refine_heap.specs.rpp_words.Words.{negated}
+use Rattle.refine_heap.specs.pisa_isa.declared.cell.Op.TheVariants.{Rl, Srlvx, Andix}
+use Rattle.refine_heap.specs.code_conventions.declared.faults.TheConstants.{NOT_NIL, NIL, COUNT, NOT_EMPTY}
+use Rattle.refine_heap.specs.code_conventions.declared.faults.TheConstants.{NOT_SAME, CLASS_DIFFERS}
+use Rattle.refine_heap.specs.code_conventions.declared.faults.TheConstants.{LENGTH_DIFFERS, LENGTH}
+use Rattle.refine_heap.specs.code_conventions.declared.memory.TheConstants.{COUNT_WORD, HEADER_WORDS}
+use Rattle.refine_heap.specs.code_conventions.declared.registers.TheConstants.{VALUE, BLOCK, AMOUNT, CONTENT}
+use Rattle.refine_heap.specs.code_conventions.declared.registers.TheConstants.{FIRST_WORD, LEFT_TRUTH, NOUGHT}
+use Rattle.refine_heap.specs.code_conventions.declared.registers.TheConstants.{OTHER_PLACE, OUTCOME, PLACE}
+use Rattle.refine_heap.specs.code_conventions.declared.registers.TheConstants.{RIGHT_TRUTH, AT_LENGTH, AT_PLACE}
+use Rattle.refine_heap.specs.paired_code.declared.part.Symbol.{Symbol}
+use Rattle.refine_heap.specs.paired_code.declared.part.Symbol.TheVariants.{Own, Enter}
+use Rattle.refine_heap.specs.paired_code.Layout.{mirror_cells, check_equal_cells, check_differ_cells}
+use Rattle.refine_heap.specs.paired_code.Layout.{check_positive_cells, loop_cells}
 use Rattle.object_codegen.specs.declared.news.TheConstants.{FEW_FIELDS}
 use Rattle.object_codegen.specs.declared.shape.Shape.{Shape}
 use Rattle.object_codegen.specs.declared.shape.Shape.TheVariants.{Fixed, Lengthy}
-use Rattle.register_expressions.specs.Code.{with_word, three, xor, add}
-use Rattle.register_expressions.specs.Code.{exch, addi, xori, sltx, around}
+use Rattle.expr_uncompute.specs.register_expressions.Code.{with_word, three, xor, add}
+use Rattle.expr_uncompute.specs.register_expressions.Code.{exch, addi, xori, sltx, around}
 
 -- ---- checks of a place
 
@@ -69,7 +69,7 @@ copy_mid = copy_checks ++ (copy_alter ++ mirror_cells uncopy_checks)
 
 -- ---- objects and arrays
 
--- the first word of its block, xored into `CONTENT`; a length stands in register r
+-- the first word of its block, xored into `CONTENT`; a length is in register r
 abbrev pub mark_cell : ℕ → Shape → Symbol
 mark_cell r (Fixed table fields) = xori CONTENT table
 mark_cell r Lengthy = xor CONTENT r
@@ -97,7 +97,7 @@ abbrev pub single : List Symbol
 single = around (addi FIRST_WORD COUNT_WORD ∷ exch CONTENT FIRST_WORD ∷ xori CONTENT 1 ∷ [])
     (check_equal_cells CONTENT NOUGHT COUNT)
 
--- the flag turns where the word is past the first one, and where it is before the end
+-- the flag turns if the word is past the first one, and if it is before the end
 abbrev pub walk_head : List Symbol
 walk_head = sltx OUTCOME LEFT_TRUTH FIRST_WORD ∷ sltx OUTCOME FIRST_WORD RIGHT_TRUTH ∷ []
 
@@ -148,7 +148,7 @@ abbrev pub new_checks : Shape → List Symbol
 new_checks (Fixed table fields) = nil_place PLACE NOT_NIL
 new_checks Lengthy = nil_place PLACE NOT_NIL ++ positive
 
--- the first word of a block, and the number of its cells, where a length is v
+-- the first word of a block, and the number of its cells, if a length is v
 abbrev pub mark_of : ℕ → Shape → ℕ
 mark_of v (Fixed table fields) = table
 mark_of v Lengthy = v

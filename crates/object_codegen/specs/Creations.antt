@@ -3,15 +3,15 @@ use Rattle.std.specs.Prelude.{ℕ, ◌+◌, ◌*◌, List, length}
 use Rattle.std.specs.Option.{unwrap_or}
 use Rattle.rpp_tree.specs.declared.tree.Ident.{Ident}
 use Rattle.rpp_tree.specs.Tree.{Lvalue, Creation, Object, Ints, Objects, Source}
-use Rattle.class_table.specs.Classes.{class_number, class_fields}
-use Rattle.buddy_book.specs.Book.{order_for}
-use Rattle.code_conventions.specs.declared.memory.TheConstants.{HEADER_WORDS}
-use Rattle.paired_code.specs.declared.part.Symbol.{Symbol}
-use Rattle.roopl_semantics.specs.Layout.{table_at}
-use Rattle.refine_form.specs.declared.spot.Spot.{Spot}
-use Rattle.register_expressions.specs.Code.{words}
+use Rattle.refine_heap.specs.class_table.Classes.{class_number, class_fields}
+use Rattle.refine_heap.specs.buddy_book.Book.{order_for}
+use Rattle.refine_heap.specs.code_conventions.declared.memory.TheConstants.{HEADER_WORDS}
+use Rattle.refine_heap.specs.paired_code.declared.part.Symbol.{Symbol}
+use Rattle.static_layout.specs.roopl_semantics.Layout.{table_at}
+use Rattle.expr_uncompute.specs.refine_form.declared.spot.Spot.{Spot}
+use Rattle.expr_uncompute.specs.register_expressions.Code.{words}
 use Rattle.expr_uncompute.specs.Code.{place_words}
-use Rattle.register_expressions.specs.Steps.{tokens}
+use Rattle.expr_uncompute.specs.register_expressions.Steps.{tokens}
 use Rattle.expr_uncompute.specs.Steps.{place_tokens}
 use Rattle.object_codegen.specs.News.{ObjectLaw, ArrayLaw}
 

@@ -1,27 +1,27 @@
--- What the code of `new` and `delete` does, by the memory alone, over any call of the allocator
--- that takes a block and gives it back.
+-- What the code of `new` and `delete` does, only by the memory, over any call of the allocator that
+-- allocates a block and frees it.
 use Rattle.std.specs.Prelude.{◌≡◌, ◌≢◌, ℕ, ◌+◌, ◌*◌, ◌^◌, ◌<◌, ◌≤◌, Bool, true, false, List, []}
 use Rattle.std.specs.Prelude.{◌∷◌, slice_index, slice_set, nat_le, if◌then◌else◌, Ok, Err}
-use Rattle.rpp_words.specs.Words.{is_less}
+use Rattle.refine_heap.specs.rpp_words.Words.{is_less}
 use Rattle.rpp_tree.specs.Tree.{Expression, Null, Lvalue}
-use Rattle.buddy_book.specs.Book.{order_for}
-use Rattle.pisa_isa.specs.Machine.{Memory}
-use Rattle.code_conventions.specs.declared.memory.TheConstants.{HEADER_WORDS, COUNT_WORD}
-use Rattle.paired_code.specs.declared.part.Symbol.{Symbol}
-use Rattle.paired_code.specs.declared.part.Symbol.TheVariants.{Enter}
-use Rattle.paired_code.specs.Machine.{Image}
-use Rattle.paired_code.specs.Pieces.{Will}
-use Rattle.roopl_semantics.specs.Elements.{shared_array_fault}
-use Rattle.roopl_semantics.specs.Value.{nil_fault}
-use Rattle.roopl_semantics.specs.Execution.{not_nil_fault, count_fault, not_empty_fault}
-use Rattle.roopl_semantics.specs.Execution.{length_fault, heap_full_fault}
-use Rattle.refine_form.specs.Form.{registers}
-use Rattle.refine_form.specs.declared.spot.Spot.{Spot}
-use Rattle.register_expressions.specs.Code.{words}
+use Rattle.refine_heap.specs.buddy_book.Book.{order_for}
+use Rattle.refine_heap.specs.pisa_isa.Machine.{Memory}
+use Rattle.refine_heap.specs.code_conventions.declared.memory.TheConstants.{HEADER_WORDS, COUNT_WORD}
+use Rattle.refine_heap.specs.paired_code.declared.part.Symbol.{Symbol}
+use Rattle.refine_heap.specs.paired_code.declared.part.Symbol.TheVariants.{Enter}
+use Rattle.refine_heap.specs.paired_code.Machine.{Image}
+use Rattle.refine_heap.specs.paired_code.Pieces.{Will}
+use Rattle.static_layout.specs.roopl_semantics.Elements.{shared_array_fault}
+use Rattle.static_layout.specs.roopl_semantics.Value.{nil_fault}
+use Rattle.static_layout.specs.roopl_semantics.Execution.{not_nil_fault, count_fault, not_empty_fault}
+use Rattle.static_layout.specs.roopl_semantics.Execution.{length_fault, heap_full_fault}
+use Rattle.expr_uncompute.specs.refine_form.Form.{registers}
+use Rattle.expr_uncompute.specs.refine_form.declared.spot.Spot.{Spot}
+use Rattle.expr_uncompute.specs.register_expressions.Code.{words}
 use Rattle.expr_uncompute.specs.Code.{place_words}
-use Rattle.register_expressions.specs.Number.{number, read_of, place_address, update_shares}
+use Rattle.expr_uncompute.specs.register_expressions.Number.{number, read_of, place_address, update_shares}
 use Rattle.expr_uncompute.specs.Steps.{place_steps, fetch_steps}
-use Rattle.register_expressions.specs.Laws.{bases_of}
+use Rattle.expr_uncompute.specs.register_expressions.Laws.{bases_of}
 use Rattle.expr_uncompute.specs.Laws.{Stays}
 use Rattle.expr_uncompute.specs.Promises.{free_at, CanRun, IsTrap}
 use Rattle.expr_uncompute.specs.Found.{LeavesWithin, TrapsWithin, Filled, Changes}
@@ -42,7 +42,7 @@ room object frame c u w order block p v a q cells = record {
   cells = cells;
 }
 
--- a length is moved where there is one: what is left of it, and what is moved
+-- a length is moved if there is one: what is left of it, and what is moved
 abbrev pub left_length : ℕ → Shape → ℕ
 left_length v (Fixed table fields) = v
 left_length v Lengthy = 0
@@ -80,8 +80,8 @@ pub record Lacks (im : Image) (object frame order p v : ℕ) (shape : Shape) (lo
 
 -- ---- the cells
 
--- a block of zeros at x has been taken for so many cells; the place is nil before and after, and
--- stands outside
+-- a block of zeros at x has been allocated for so many cells; the lvalue is nil before and after,
+-- and is outside of the block
 pub record Takes (low size p x : ℕ) (cells taken : List ℕ) : Type 0 where
   pub changes : Changes low cells taken
   pub p_in : p < low
@@ -127,7 +127,7 @@ zeros_steps (Fixed table fields) size = if nat_le fields FEW_FIELDS then 6 * siz
     else 19 + 13 * size
 zeros_steps Lengthy size = 19 + 13 * size
 
--- the middle, with so many cells, where the allocator makes t steps
+-- the middle, with so many cells, if the allocator makes t steps
 abbrev pub middle_steps : Shape → (size t : ℕ) → ℕ
 middle_steps shape size t = check_steps shape +
     (((move_steps shape + order_steps shape) + ((t + 7) + (move_steps shape + order_steps shape))) +
@@ -139,10 +139,10 @@ whole_steps steps shape size t = steps + (middle_steps shape size t + steps)
 
 -- ---- the laws
 
--- p finds the place at a, and the length v, in so many steps. Along, a new: fault 4 where the place
--- is not nil, and 8 where there is no block. Back, a delete: fault 5 where the place is nil; 11 or
--- 12 where the first word is another; 6 where the count is not 1; 7 where a cell is not 0. `Kept`
--- says that the same is found in the changed cells.
+-- p finds the place at a, and the length v, in so many steps. Forward, a new: fault 4 if the place
+-- is not nil, and 8 if there is no block. Backward, a delete: fault 5 if the place is nil; 11 or 12
+-- if the first word is another; 6 if the count is not 1; 7 if a cell is not 0. `Kept` says that the
+-- same is found in the changed cells.
 pub record Makes (im : Image) (m : Memory) (object frame low n steps a v order : ℕ) (shape : Shape)
     (Kept : List ℕ → Type 0) (p : List Symbol) : Type 0 where
   pub news : (x least most : ℕ) (taken : List ℕ) → IsLength v shape
@@ -206,7 +206,7 @@ pub record ObjectLaw (spot : List ℕ → Spot) (free table fields order : ℕ) 
       → IsTrap im p d m shared_array_fault (found_place_steps target)
 
 -- the same of an array, with a length: its fault comes after the place's, and along 13 after 4
--- where it is not above 0
+-- if it is not above 0
 pub record ArrayLaw (spot : List ℕ → Spot) (free : ℕ) (target : Lvalue) (size : Expression)
     (p : List Symbol) : Type 0 where
   pub makes : (im : Image) (m : Memory) (object frame a v : ℕ)

@@ -1,19 +1,19 @@
--- What the code of objects and arrays does, by the memory alone.
+-- What the code of objects and arrays does, only by the memory.
 use Rattle.std.specs.Prelude.{◌≡◌, ◌≢◌, ℕ, ◌+◌, ◌^◌, ◌<◌, ◌≤◌, Bool, true, false, List, length}
 use Rattle.std.specs.Prelude.{slice_index, slice_set, Ok, Err}
 use Rattle.rpp_tree.specs.Tree.{Lvalue}
-use Rattle.pisa_isa.specs.Machine.{Memory}
-use Rattle.paired_code.specs.declared.part.Symbol.{Symbol}
-use Rattle.paired_code.specs.Machine.{Image}
-use Rattle.paired_code.specs.Pieces.{Will}
-use Rattle.roopl_semantics.specs.Elements.{shared_array_fault}
-use Rattle.roopl_semantics.specs.Value.{nil_fault}
-use Rattle.roopl_semantics.specs.Execution.{not_nil_fault, not_same_fault}
-use Rattle.refine_form.specs.declared.spot.Spot.{Spot}
+use Rattle.refine_heap.specs.pisa_isa.Machine.{Memory}
+use Rattle.refine_heap.specs.paired_code.declared.part.Symbol.{Symbol}
+use Rattle.refine_heap.specs.paired_code.Machine.{Image}
+use Rattle.refine_heap.specs.paired_code.Pieces.{Will}
+use Rattle.static_layout.specs.roopl_semantics.Elements.{shared_array_fault}
+use Rattle.static_layout.specs.roopl_semantics.Value.{nil_fault}
+use Rattle.static_layout.specs.roopl_semantics.Execution.{not_nil_fault, not_same_fault}
+use Rattle.expr_uncompute.specs.refine_form.declared.spot.Spot.{Spot}
 use Rattle.expr_uncompute.specs.Code.{place_words}
-use Rattle.register_expressions.specs.Number.{read_of, index_of, place_address, shares}
+use Rattle.expr_uncompute.specs.register_expressions.Number.{read_of, index_of, place_address, shares}
 use Rattle.expr_uncompute.specs.Steps.{place_steps}
-use Rattle.register_expressions.specs.Laws.{bases_of}
+use Rattle.expr_uncompute.specs.register_expressions.Laws.{bases_of}
 use Rattle.expr_uncompute.specs.Promises.{free_at, CanRun, IsTrap}
 use Rattle.expr_uncompute.specs.Found.{LeavesWithin, TrapsWithin, PlacesStay, found_places_steps}
 
@@ -27,7 +27,8 @@ referring q x c cells = slice_set (slice_set cells q x) (x + 1) c
 abbrev pub unreferring : (q x c : ℕ) → List ℕ → List ℕ
 unreferring q x c cells = slice_set (slice_set cells q 0) (x + 1) c
 
--- a copy can be made: x stands at p, and nil at q; both and the count of x stand below an address
+-- a copy can be made: x is at p, and nil at q; both and the reference count of x are below an
+-- address
 pub record Copies (low p q x c : ℕ) (cells : List ℕ) : Type 0 where
   pub low_in : low ≤ length cells
   pub p_in : p < low
@@ -72,7 +73,7 @@ abbrev pub copy_steps : (source target : Lvalue) → ℕ
 copy_steps source target = found_places_steps source target +
     (42 + found_places_steps source target)
 
--- run along a copy: the second place refers to what the first one refers to, and its count grows;
+-- run forward a copy: the second place refers to what the first one refers to, and its count grows;
 -- run back the inverse. The faults of the places come first, in both directions; then nil in the
 -- first place, and what the second one has to be.
 pub record CopyLaw (spot : List ℕ → Spot) (free : ℕ) (source target : Lvalue)

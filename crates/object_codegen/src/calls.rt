@@ -1,16 +1,16 @@
 // The code of objects and arrays, by what it does.
 ghost use Rattle.std.specs.Prelude.{◌≡◌, ◌≤◌, ◌+◌, ◌*◌, [], ◌++◌, length, IfOk};
-ghost use Rattle.buddy_book.specs.Book.{order_for};
-ghost use Rattle.roopl_semantics.specs.Layout.{table_at as address_of};
+ghost use Rattle.refine_heap.specs.buddy_book.Book.{order_for};
+ghost use Rattle.static_layout.specs.roopl_semantics.Layout.{table_at as address_of};
 ghost use Rattle.rpp_tree.specs.Tree.{index_nodes};
 ghost use Rattle.rpp_tree.specs.Views.{expression_of, lvalue_of, creation_of, source_of};
-ghost use Rattle.roopl_semantics.specs.Elements.{index_elements, own_element, read_cost};
-ghost use Rattle.register_expressions.specs.Code.{words as words_of};
+ghost use Rattle.static_layout.specs.roopl_semantics.Elements.{index_elements, own_element, read_cost};
+ghost use Rattle.expr_uncompute.specs.register_expressions.Code.{words as words_of};
 ghost use Rattle.expr_uncompute.specs.Code.{place_words as words_of_place};
-ghost use Rattle.register_expressions.specs.Steps.{tokens};
+ghost use Rattle.expr_uncompute.specs.register_expressions.Steps.{tokens};
 ghost use Rattle.expr_uncompute.specs.Steps.{place_tokens};
-ghost use Rattle.code_conventions.specs.declared.memory.TheConstants.{HEADER_WORDS};
-ghost use Rattle.code_scope.specs.Visible.{spot_of, free_of, known_in};
+ghost use Rattle.refine_heap.specs.code_conventions.declared.memory.TheConstants.{HEADER_WORDS};
+ghost use Rattle.expr_uncompute.specs.code_scope.Visible.{spot_of, free_of, known_in};
 ghost use Rattle.object_codegen.specs.News.{ObjectLaw, ArrayLaw};
 ghost use Rattle.object_codegen.specs.Creations.{NewLaw, creation_words, creation_size, class_of, fields_of};
 ghost use Rattle.object_codegen.specs.Promises.{CopyLaw, copy_steps};
@@ -29,9 +29,9 @@ use std::alloc::Global;
 
 /// A copy of the reference in the place `source` into the place `target`, which is nil: the count
 /// of what it refers to grows by 1. Run back it is the inverse, which empties the second place
-/// where both refer to the same. Faults, in this order: those of the two places; 16 where the
-/// second is an element of an array that an index reads; 5 where the first is nil; along, 4 where
-/// the second is not nil; back, 10 where the references differ or the places are one. The only
+/// if both refer to the same. Faults, in this order: first those of the two lvalues. Then 16 if
+/// the second is an element of an array that an index reads, and 5 if the first is nil. Forward, 4
+/// if the second is not nil. Backward, 10 if the references differ or the lvalues are one. The only
 /// error is that memory ran out.
 pub fn copy_code(
     alloc: Global,
@@ -59,10 +59,10 @@ pub fn copy_code(
 
 /// A new object of the class whose table has this address, with so many fields, in a block of this
 /// order, which the routine 0 of the image takes; its address goes into the place. Run back it is
-/// the inverse, which gives the block back. Faults: those of the place, and 16 where it is an
-/// element of an array that its index reads; along, 4 where the place is not nil, and 8 where there
-/// is no block; back, 5 where it is nil, 11 where the table is another, 6 where the count is not 1,
-/// 7 where a field is not 0. The only error is that memory ran out.
+/// the inverse, which gives the block back. Faults: first those of the lvalue, and 16 if it is an
+/// element of an array that its index reads. Forward, 4 if the lvalue is not nil, and 8 if there is
+/// no block. Backward, 5 if it is nil, 11 if the table is another, 6 if the reference count is not
+/// 1, and 7 if a field is not 0. The only error is that memory ran out.
 pub fn object_code(
     alloc: Global,
     table: u32,
@@ -85,8 +85,8 @@ pub fn object_code(
 }
 
 /// A new array of zeros or of nil, with a length: as `object_code`, and the faults of the length
-/// come after those of the place; along, 13 after 4 where it is not above 0; back, 12 in the place
-/// of 11 where the array's length is another.
+/// come after those of the lvalue. Forward, 13 after 4 if it is not above 0. Backward, 12 instead
+/// of 11 if the array's length is another.
 pub fn array_code(
     alloc: Global,
     size: &Expr,
@@ -133,9 +133,9 @@ pub fn class_code(
     object_code(alloc, table, fields, order_of(fields), place, scope)
 }
 
-/// The piece of a `new`, whatever it makes: an object of a class, with the address of the class's
-/// table and so many cells as it has fields, or an array. Its mirror is the piece of the `delete`.
-/// The only error is that memory ran out.
+/// The fragment of a `new`, whatever it makes: an object of a class, with the address of the
+/// class's table and so many cells as it has fields, or an array. Its inverse is the fragment of
+/// the `delete`. The only error is that memory ran out.
 pub fn new_code(alloc: Global, made: &Made, place: &Place, scope: &Scope) -> Result<Piece, NoMemory>
     requires room { creation_words (creation_of made.now) (lvalue_of place.now) ≤ 1000 }
     ensures law { IfOk result (λ p.

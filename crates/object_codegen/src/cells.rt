@@ -1,7 +1,7 @@
-// Single cells as pieces.
+// Single cells as fragments.
 ghost use Rattle.std.specs.Prelude.{◌≡◌, ◌≢◌, ◌<◌, ◌≤◌, ◌^◌, [], ◌∷◌, IfOk};
-ghost use Rattle.paired_code.specs.Code.{unmarked};
-ghost use Rattle.register_expressions.specs.Code.{two as two_of, three as three_of, with_word as with_word_of, around};
+ghost use Rattle.refine_heap.specs.paired_code.Code.{unmarked};
+ghost use Rattle.expr_uncompute.specs.register_expressions.Code.{two as two_of, three as three_of, with_word as with_word_of, around};
 ghost use Rattle.object_codegen.specs.Code.{turn_left, srlvx as srlvx_of, andix as andix_of};
 
 use code_conventions::cells::{
@@ -13,6 +13,7 @@ use pisa_isa::{Cell, Op};
 use rpp_words::NoMemory;
 use std::alloc::Global;
 
+/// `EXCH d s`: exchanges register d with the memory cell that register s addresses.
 pub fn exch(alloc: Global, d: u8, s: u8) -> Result<Piece, NoMemory>
     requires d { d < 32 }
     requires s { s < 32 }
@@ -22,6 +23,7 @@ pub fn exch(alloc: Global, d: u8, s: u8) -> Result<Piece, NoMemory>
     plain(alloc, exch_cell(d, s))
 }
 
+/// `XOR d s`: combines register d with register s by exclusive or.
 pub fn xor(alloc: Global, d: u8, s: u8) -> Result<Piece, NoMemory>
     requires d { d < 32 }
     requires s { s < 32 }
@@ -31,6 +33,7 @@ pub fn xor(alloc: Global, d: u8, s: u8) -> Result<Piece, NoMemory>
     plain(alloc, xor_cell(d, s))
 }
 
+/// `ADD d s`: adds register s to register d.
 pub fn add(alloc: Global, d: u8, s: u8) -> Result<Piece, NoMemory>
     requires d { d < 32 }
     requires s { s < 32 }
@@ -40,6 +43,7 @@ pub fn add(alloc: Global, d: u8, s: u8) -> Result<Piece, NoMemory>
     plain(alloc, add_cell(d, s))
 }
 
+/// `ADDI d word`: adds the word to register d.
 pub fn addi(alloc: Global, d: u8, word: u32) -> Result<Piece, NoMemory>
     requires { d < 32 }
     ensures { IfOk result (λ p. p ≡ unmarked (with_word_of Op.Addi d word ∷ [])) }
@@ -47,6 +51,7 @@ pub fn addi(alloc: Global, d: u8, word: u32) -> Result<Piece, NoMemory>
     plain(alloc, addi_cell(d, word))
 }
 
+/// `XORI d word`: combines register d with the word by exclusive or.
 pub fn xori(alloc: Global, d: u8, word: u32) -> Result<Piece, NoMemory>
     requires { d < 32 }
     ensures { IfOk result (λ p. p ≡ unmarked (with_word_of Op.Xori d word ∷ [])) }
@@ -54,6 +59,7 @@ pub fn xori(alloc: Global, d: u8, word: u32) -> Result<Piece, NoMemory>
     plain(alloc, xori_cell(d, word))
 }
 
+/// `SLTX d s t`: flips the last bit of register d if register s is less than register t.
 pub fn sltx(alloc: Global, d: u8, s: u8, t: u8) -> Result<Piece, NoMemory>
     requires d { d < 32 }
     requires s { s < 32 }
@@ -65,6 +71,7 @@ pub fn sltx(alloc: Global, d: u8, s: u8, t: u8) -> Result<Piece, NoMemory>
     plain(alloc, sltx_cell(d, s, t))
 }
 
+/// `RL d bits`: rotates register d to the left by so many bits.
 pub fn rl(alloc: Global, d: u8, bits: u32) -> Result<Piece, NoMemory>
     requires register { d < 32 }
     requires bits { bits < 32 }
@@ -73,6 +80,7 @@ pub fn rl(alloc: Global, d: u8, bits: u32) -> Result<Piece, NoMemory>
     plain(alloc, with_word(Op::Rl, d, bits))
 }
 
+/// `SRLVX d s t`: combines register d with register s, shifted right by register t, by exclusive or.
 pub fn srlvx(alloc: Global, d: u8, s: u8, t: u8) -> Result<Piece, NoMemory>
     requires d { d < 32 }
     requires s { s < 32 }
@@ -91,6 +99,7 @@ pub fn srlvx(alloc: Global, d: u8, s: u8, t: u8) -> Result<Piece, NoMemory>
     plain(alloc, cell)
 }
 
+/// `ANDIX d s word`: combines register d with the bits that register s and the word share, by exclusive or.
 pub fn andix(alloc: Global, d: u8, s: u8, word: u32) -> Result<Piece, NoMemory>
     requires d { d < 32 }
     requires s { s < 32 }
@@ -107,6 +116,7 @@ pub fn andix(alloc: Global, d: u8, s: u8, word: u32) -> Result<Piece, NoMemory>
     plain(alloc, cell)
 }
 
+/// The middle fragment between the outer fragment and its inverse.
 pub fn enclosed(alloc: Global, outer: Piece, middle: Piece) -> Result<Piece, NoMemory>
     requires outer { outer.marks ≡ [] }
     requires middle { middle.marks ≡ [] }

@@ -1,6 +1,6 @@
 // The code of copies.
 ghost use Rattle.std.specs.Prelude.{◌≡◌, ◌++◌, IfOk};
-ghost use Rattle.paired_code.specs.Code.{unmarked};
+ghost use Rattle.refine_heap.specs.paired_code.Code.{unmarked};
 ghost use Rattle.object_codegen.specs.Code.{same_words as same_cells, two_places as two_cells, copy_checks as copy_checks_cells, uncopy_checks as uncopy_checks_cells, refer_cells, count_cells, copy_alter, copy_mid};
 
 use crate::cells::{addi, enclosed, exch, xor};
@@ -74,7 +74,7 @@ fn alter(alloc: Global) -> Result<Piece, NoMemory>
     enclosed(alloc, loaded, change)
 }
 
-/// The middle of a copy: its mirror is that of an uncopy.
+/// The middle of a copy: its inverse is that of an uncopy.
 pub fn copy_middle(alloc: Global) -> Result<Piece, NoMemory>
     ensures { IfOk result (λ p. p ≡ unmarked copy_mid) }
 {

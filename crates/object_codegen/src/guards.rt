@@ -1,6 +1,6 @@
 // What is tried of the word of a place.
 ghost use Rattle.std.specs.Prelude.{◌≡◌, ◌≢◌, ◌<◌, [], ◌∷◌, IfOk};
-ghost use Rattle.paired_code.specs.Code.{unmarked};
+ghost use Rattle.refine_heap.specs.paired_code.Code.{unmarked};
 ghost use Rattle.object_codegen.specs.Code.{nil_place as nil_cells, some_place as some_cells, load_cells};
 
 use crate::cells::{enclosed, exch, xor};

@@ -1,8 +1,9 @@
-//! The code of objects and arrays: `copy` and `uncopy`, `new` and `delete`, each pair by one piece
-//! with the law of its runs in both directions; and what the source says of them, from what a
-//! relation of states and memories gives. The layer above may use the calls, the laws of
-//! specs/Promises.antt, News.antt and Creations.antt, and the rows of proofs/CopyRows.antt,
-//! ObjectRows.antt and ArrayRows.antt; which cells a piece has is this crate's own matter.
+//! The code of objects and arrays: `copy` and `uncopy`, `new` and `delete`. Each pair is one
+//! fragment with the law of its runs in both directions. A relation of states and memories gives
+//! what the source says about them. The layer above may use the calls, and the laws of
+//! specs/Promises.antt, News.antt and Creations.antt. It may also use the instructions of
+//! proofs/CopyRows.antt, ObjectRows.antt and ArrayRows.antt. Which cells a fragment has is this
+//! crate's own matter.
 #![tactic(auto)]
 
 mod calls;

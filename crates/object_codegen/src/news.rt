@@ -1,8 +1,8 @@
 // The code of objects and arrays that are made and deleted.
 ghost use Rattle.std.specs.Prelude.{◌≡◌, ◌≢◌, ◌<◌, ◌≤◌, ◌+◌, ◌^◌, false, [], ◌∷◌, ◌++◌, IfOk};
-ghost use Rattle.paired_code.specs.Code.{unmarked};
-ghost use Rattle.paired_code.specs.Layout.{mirror_cells, loop_cells};
-ghost use Rattle.register_expressions.specs.Code.{around, xor as xor_cell};
+ghost use Rattle.refine_heap.specs.paired_code.Code.{unmarked};
+ghost use Rattle.refine_heap.specs.paired_code.Layout.{mirror_cells, loop_cells};
+ghost use Rattle.expr_uncompute.specs.register_expressions.Code.{around, xor as xor_cell};
 ghost use Rattle.object_codegen.specs.Code.{mark_cell, mark_fault as fault_of_mark, grow_cell, some_reference as some_reference_cells, same_mark as same_mark_cells, single as single_cells, walk_head as head_cells, walk_tail as tail_cells, walk_cells, ends_cells, walked_cells, field_cells, fields_cells, zeros_cells, delete_checks as delete_checks_cells, positive as positive_cells, new_checks as new_checks_cells, move_cells, fill_cells, new_alter, new_mid};
 
 use crate::cells::{add, addi, enclosed, exch, sltx, xor, xori};
@@ -265,7 +265,7 @@ fn alter(alloc: Global, shape: Shape, orders: Piece) -> Result<Piece, NoMemory>
     enclosed(alloc, outer, mid)
 }
 
-// What is tried before, a change, and the mirror of what is tried before its inverse.
+// What is tried before, a change, and the inverse of what is tried before its inverse.
 fn between(alloc: Global, before: Piece, change: Piece, inverse: Piece) -> Result<Piece, NoMemory>
     requires before { before.marks ≡ [] }
     requires change { change.marks ≡ [] }
@@ -278,7 +278,7 @@ fn between(alloc: Global, before: Piece, change: Piece, inverse: Piece) -> Resul
     seq(before, rest)
 }
 
-/// The middle of a new, with what finds the order: its mirror is that of a delete.
+/// The middle of a new, with what finds the order: its inverse is that of a delete.
 pub fn new_middle(alloc: Global, shape: Shape, orders: Piece) -> Result<Piece, NoMemory>
     requires { orders.marks ≡ [] }
     ensures { IfOk result (λ p. p ≡ unmarked (new_mid shape orders.cells)) }

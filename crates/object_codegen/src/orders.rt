@@ -1,8 +1,8 @@
 // The order of an array's block, from its length.
 ghost use Rattle.std.specs.Prelude.{◌≡◌, ◌<◌, ◌≤◌, ◌-◌, ◌^◌, [], ◌∷◌, ◌++◌, IfOk};
-ghost use Rattle.rpp_words.specs.Words.{negated};
-ghost use Rattle.paired_code.specs.Code.{unmarked};
-ghost use Rattle.register_expressions.specs.Code.{addi as addi_cell, xori as xori_cell, sltx as sltx_cell, add as add_cell, around};
+ghost use Rattle.refine_heap.specs.rpp_words.Words.{negated};
+ghost use Rattle.refine_heap.specs.paired_code.Code.{unmarked};
+ghost use Rattle.expr_uncompute.specs.register_expressions.Code.{addi as addi_cell, xori as xori_cell, sltx as sltx_cell, add as add_cell, around};
 ghost use Rattle.object_codegen.specs.Code.{turn_left, srlvx as srlvx_cell, andix as andix_cell, order_bit as bit_cells, order_cells};
 
 use crate::cells::{add, addi, andix, enclosed, rl, sltx, srlvx, xori};
@@ -31,7 +31,7 @@ fn tried(alloc: Global, bit: u32) -> Result<Piece, NoMemory>
     enclosed(alloc, outer, above)
 }
 
-// The bit added to the order, where it is in it.
+// The bit added to the order, if it is in it.
 fn added(alloc: Global, number: u32, bit: u32) -> Result<Piece, NoMemory>
     requires { number < 32 }
     ensures { IfOk result (λ p.

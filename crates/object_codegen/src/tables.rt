@@ -2,15 +2,15 @@
 ghost use Rattle.std.specs.Prelude.{◌≡◌, ◌≤◌, ◌<◌, ◌+◌, length};
 ghost use Rattle.std.specs.Option.{unwrap_or};
 ghost use Rattle.rpp_tree.specs.Views.{source_of};
-ghost use Rattle.class_table.specs.Classes.{class_number as number_of, class_fields};
-ghost use Rattle.buddy_book.specs.Book.{order_for as least_order};
+ghost use Rattle.refine_heap.specs.class_table.Classes.{class_number as number_of, class_fields};
+ghost use Rattle.refine_heap.specs.buddy_book.Book.{order_for as least_order};
 
 use class_table::Checked;
 use code_conventions::memory::HEADER_WORDS;
 use rpp_tree::text::Text;
 use rpp_words::order_for;
 
-/// The number of the class of this name; 0 where there is none.
+/// The number of the class of this name; 0 if there is none.
 pub fn class_number(checked: &Checked, name: &Text) -> u32
     ensures number { result ≡ unwrap_or (number_of (source_of checked.now) name.now) 0 }
     ensures inside { result < length (source_of checked.now).classes }

@@ -1,7 +1,7 @@
 -- The law of branch_if.
 use Rattle.std.proofs.Common.{◌≡◌, ◌≢◌, ℕ, ◌+◌, ◌^◌, ◌<◌, Bool, true, false, List, length, refl, sym, subst, arith}
 use Rattle.std.proofs.Common.{length-append}
-use Rattle.pisa_isa.specs.Machine.{Memory}
+use Rattle.code_conventions.specs.pisa_isa.Machine.{Memory}
 use Rattle.code_conventions.specs.Cells.{bra}
 use Rattle.paired_code.specs.declared.part.Symbol.{Symbol}
 use Rattle.paired_code.specs.Machine.{Image, reg}

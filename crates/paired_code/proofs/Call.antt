@@ -7,14 +7,14 @@ use Rattle.std.proofs.lemmas.Bool.{cases_lt}
 use Rattle.std.proofs.lemmas.Bool.Decides.{nat_tests}
 use Rattle.std.proofs.lemmas.Option.{slice_get_past}
 use Rattle.std.proofs.lemmas.List.{get_or-set_same}
-use Rattle.pisa_isa.specs.declared.cell.Cell.{Cell}
-use Rattle.pisa_isa.specs.declared.cell.Op.TheVariants.{Bra, Rbra, Swapbr}
+use Rattle.code_conventions.specs.pisa_isa.declared.cell.Cell.{Cell}
+use Rattle.code_conventions.specs.pisa_isa.declared.cell.Op.TheVariants.{Bra, Rbra, Swapbr}
 use Rattle.code_conventions.specs.Cells.{neg, bra}
 use Rattle.paired_code.specs.Cells.{swapbr, rbra}
 use Rattle.paired_code.specs.declared.part.Symbol.{Symbol}
 use Rattle.paired_code.specs.declared.part.Symbol.TheVariants.{Enter}
-use Rattle.rpp_words.specs.Words.{sum_of, negated}
-use Rattle.pisa_isa.specs.Machine.{State, effect, stop_at, fetch, stride, moved, Memory}
+use Rattle.code_conventions.specs.rpp_words.Words.{sum_of, negated}
+use Rattle.code_conventions.specs.pisa_isa.Machine.{State, effect, stop_at, fetch, stride, moved, Memory}
 use Rattle.paired_code.proofs.Words.{along, turned, toward, first_br, second_br, goes_to, near, far, near_is, far_is}
 use Rattle.paired_code.specs.Machine.{state, Image, reg, with_reg, act, is_routine, is_end, change, Change, Same}
 use Rattle.paired_code.specs.Machine.{Enters, Leaves, Level, same, enters, leaves}
@@ -65,7 +65,7 @@ cell_place code (negsuc p) c h = absurd (none h)
     none : None ≡ Some c → ⊥
     none e = cc
 
--- ---- the calling cell: BRA, or RBRA where the routine is to run the other way
+-- ---- the calling cell: BRA, or RBRA if the routine is to run the other way
 
 abbrev pub call_cell : Bool → ℕ → Cell
 call_cell false w = bra w

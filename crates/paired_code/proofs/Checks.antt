@@ -5,9 +5,9 @@ use Rattle.std.specs.Prelude.{nat_eq, nat_lt}
 use Rattle.std.proofs.lemmas.Bool.Decides.{nat_tests}
 use Rattle.std.proofs.lemmas.Bool.{cases_lt}
 use Rattle.std.proofs.lemmas.Int.{ints}
-use Rattle.rpp_words.specs.Words.{is_less}
-use Rattle.pisa_isa.specs.declared.machine.Stop.TheVariants.{Trap}
-use Rattle.pisa_isa.specs.Machine.{stop_at, fetch, Memory}
+use Rattle.code_conventions.specs.rpp_words.Words.{is_less}
+use Rattle.code_conventions.specs.pisa_isa.declared.machine.Stop.TheVariants.{Trap}
+use Rattle.code_conventions.specs.pisa_isa.Machine.{stop_at, fetch, Memory}
 use Rattle.paired_code.specs.Cells.{data_word}
 use Rattle.paired_code.specs.Machine.{Image, reg}
 use Rattle.paired_code.specs.Layout.{Frame, place, at, Stands, between, Test, Equal, Differ, Positive}
@@ -98,14 +98,14 @@ not_taken flip d (Equal r s) m w h = calm_eq flip d r s m w (other_words (reg m 
 not_taken flip d (Differ r s) m w h = calm_ne flip d r s m w (equal_words (reg m r) (reg m s) h)
 not_taken flip d (Positive r) m w h = calm_gt flip d r m w (positive_is_less (reg m r) ∙ h)
 
--- where the test passes, nothing happens
+-- if the test passes, nothing happens
 pub runs_passes : (im : Image) (d : Bool) (t : Test) (code : ℕ) (m : Memory) → Passes t m
     → Runs im (test_cells t code) d m (Done m 2)
 runs_passes im d t code m h = record {
   run = λ f i l st. finishes (passed im f i code t l (guard im f i code t l st) m (λ w. taken f.flip t m w h) d);
 }
 
--- where it fails, the DATA cell stops the run
+-- if it fails, the DATA cell stops the run
 pub runs_fails : (im : Image) (d : Bool) (t : Test) (code : ℕ) (m : Memory) → Fails t m
     → Runs im (test_cells t code) d m (Trapped code 1)
 runs_fails im d t code m h = record {

@@ -1,11 +1,11 @@
--- A closed piece does one of four things.
+-- A closed fragment does one of four things.
 use Rattle.std.proofs.Common.{◌≡◌, ◌≢◌, ℕ, zero, suc, ◌+◌, ◌^◌, ◌<◌, ◌≤◌, ◌⊎◌, inl, inr, ⊎_elim, Bool, true, false}
 use Rattle.std.proofs.Common.{List, [], ◌∷◌, length, refl, arith}
 use Rattle.std.specs.Prelude.{not, ℤ, if◌then◌else◌}
-use Rattle.pisa_isa.specs.declared.cell.Cell.{Cell}
+use Rattle.code_conventions.specs.pisa_isa.declared.cell.Cell.{Cell}
 use Rattle.paired_code.specs.declared.part.Symbol.{Symbol}
 use Rattle.paired_code.specs.declared.part.Symbol.TheVariants.{Own}
-use Rattle.pisa_isa.specs.Machine.{State, Memory}
+use Rattle.code_conventions.specs.pisa_isa.Machine.{State, Memory}
 use Rattle.paired_code.specs.Machine.{Image, effect_along, reg}
 use Rattle.paired_code.specs.Layout.{xor, code_line, at, Stands}
 use Rattle.paired_code.specs.Pieces.{Outcome, Done, Trapped, Bad, Still, Ends, finishes, traps, bad, still, Will, after}
@@ -16,7 +16,7 @@ use Rattle.paired_code.specs.Closed as four
 use Rattle.paired_code.specs.Closed.{Shape, Nothing, One, Then, Turned, Choose, Loop, Check, Try, Call, Call_at}
 use Rattle.paired_code.specs.Closed.{cells_of_shape, IsMade, Routines, Stand, And_next, Left, Back, Back_at}
 use Rattle.paired_code.specs.Closed.{rounds_fine, fine_with, fine, any, One_of_four, Closed}
-use Rattle.pisa_isa.proofs.Ranges.{imm_word}
+use Rattle.code_conventions.proofs.pisa_isa_laws.Ranges.{imm_word}
 use Rattle.paired_code.proofs.Steps.{has_its_cell}
 use Rattle.paired_code.proofs.Laws.{Next, will_of, will_more, will_seq, will_seq_back}
 use Rattle.paired_code.proofs.Mirrored.{will_mirror}
@@ -152,10 +152,6 @@ module _ (im : Image) (rs : Routines) (there : Stand im rs) where
   -- ---- any shape
 
   module _ (n : ℕ) (calls : Holds n (fine rs n)) where
-    left_yes : (P : Memory → Type 0) (Q : Outcome → Type 0) (m1 : Memory) (k : ℕ) → (Left P (Done m1 k) × Q (Done m1 k))
-        → P m1
-    left_yes P Q m1 k h = h.0
-
     holds : (s : Shape) → IsMade s → (d : Bool) (m : Memory) (Q : Outcome → Type 0)
         → fine_with rs (suc n) (fine rs n) s d m Q → Will im (cells_of_shape s) d m (Both Q (suc n))
     holds Nothing g d m Q h = will_of im [] d m (Done m 0) _ (runs_empty im d m) (h, tt)

@@ -1,8 +1,8 @@
--- The rules by which pieces meet the source.
+-- The rules by which fragments meet the source.
 use Rattle.std.proofs.Common.{◌≡◌, ◌≢◌, ℕ, suc, ◌+◌, ◌-◌, ◌*◌, ◌≤◌, Bool, true, false, List, [], ◌∷◌, refl, sym, subst}
 use Rattle.std.proofs.Common.{arith, append-nil}
 use Rattle.std.proofs.Math.Nat.{mul-add}
-use Rattle.pisa_isa.specs.Machine.{Memory}
+use Rattle.code_conventions.specs.pisa_isa.Machine.{Memory}
 use Rattle.paired_code.specs.declared.part.Symbol.{Symbol}
 use Rattle.paired_code.specs.Machine.{Image, reg}
 use Rattle.paired_code.specs.Layout.{branch_cells}
@@ -11,7 +11,7 @@ use Rattle.paired_code.specs.Does.{Rates, Told, Fine, plus, told_then, Meets, fi
 use Rattle.paired_code.proofs.Laws.{Next, will_seq, will_seq_back, will_more}
 use Rattle.paired_code.proofs.Branch.{will_branch_yes, will_branch_no}
 
--- the first of several pieces
+-- the first of several fragments
 pub will_first : (im : Image) (d : Bool) (p : List Symbol) (ps : List (List Symbol)) (m : Memory) (Q : Outcome → Type 0)
     → Will im p d m (Next (λ m1 k. Will im (in_order d ps) d m1 (λ o. Q (after k o))) Q)
     → Will im (in_order d (p ∷ ps)) d m Q
@@ -50,13 +50,6 @@ pub will_last : (im : Image) (d : Bool) (p : List Symbol) (m : Memory) (Q : Outc
     → Will im (in_order d (p ∷ [])) d m Q
 will_last im false p m Q w = subst (λ z. Will im z false m Q) (sym (append-nil p)) w
 will_last im true p m Q w = w
-
--- more steps may be allowed
-pub meets_more : {A : Type 0} {R : A → Memory → Type 0} {b : Rates} {n : ℕ} {t : Told A} {o : Outcome} (x x' : ℕ)
-    → x ≤ x' → Meets R b n x t o → Meets R b n x' t o
-meets_more x x' h (fine r l k) = fine r l (omega arith)
-meets_more x x' h (faults k) = faults (omega arith)
-meets_more x x' h (more l) = more l
 
 pub product : (b k : ℕ) → 1 ≤ b → 1 ≤ k → 1 ≤ b * k
 product b k h g = grind arith
@@ -123,29 +116,6 @@ meets_branch im true false r R b n x p q m s t flag at yes_does no_does =
 -- the part leaves within x steps, with a memory for which P holds
 pub data Quiet (P : Memory → Type 0) (x : ℕ) : Outcome → Type 0 where
   quiet : {m : Memory} {k : ℕ} → P m → k ≤ x → Quiet P x (Done m k)
-
-meets_quiet_after : {A : Type 0} {R : A → Memory → Type 0} {b : Rates} {n k : ℕ} {t : Told A} {o : Outcome} (x y : ℕ)
-    → k ≤ x → Meets R b n y t o → Meets R b n (x + y) t (after k o)
-meets_quiet_after {b = b} {k = k} x y h (fine {k = k2} r l u) =
-    fine r (omega (arith, mul-add b.counts k k2)) (omega arith)
-meets_quiet_after x y h (faults u) = faults (omega arith)
-meets_quiet_after {b = b} {k = k} x y h (more {k = k2} l) =
-    more (omega (arith, mul-add b.counts k k2, mul-add b.counts k2 1, mul-add b.counts (k + k2) 1))
-
-quiet_next : {A : Type 0} {P : Memory → Type 0} {R : A → Memory → Type 0} {im : Image} {d : Bool} {b : Rates} {n : ℕ}
-    {t : Told A} {o : Outcome} (ps : List (List Symbol)) (x y : ℕ)
-    → ((m : Memory) → P m → Will im (in_order d ps) d m (Meets R b n y t)) → Quiet P x o
-    → Next (λ m1 k. Will im (in_order d ps) d m1 (λ o. Meets R b n (x + y) t (after k o)))
-    (λ o. Meets R b n (x + y) t o) o
-quiet_next {im = im} {d = d} ps x y s (quiet {m = m} p h) =
-    will_more im (in_order d ps) d m _ _ (λ o q. meets_quiet_after x y h q) (s m p)
-
-pub quiet_first : {A : Type 0} (im : Image) (d : Bool) (P : Memory → Type 0) (R : A → Memory → Type 0) (b : Rates)
-    (n x y : ℕ) (p : List Symbol) (ps : List (List Symbol)) (m : Memory) (t : Told A) → Will im p d m (Quiet P x)
-    → ((m1 : Memory) → P m1 → Will im (in_order d ps) d m1 (Meets R b n y t))
-    → Will im (in_order d (p ∷ ps)) d m (Meets R b n (x + y) t)
-quiet_first im d P R b n x y p ps m t w s = will_first im d p ps m _
-    (will_more im p d m _ _ (λ o q. quiet_next ps x y s q) w)
 
 meets_quiet_before : {A : Type 0} {P : Memory → Type 0} {R' : A → Memory → Type 0} {b : Rates} {n : ℕ} {a : A} {c k : ℕ}
     {o : Outcome} (x y : ℕ) → c ≤ b.counts * k → k ≤ b.steps * c + y → ((m : Memory) → P m → R' a m) → Quiet P x o

@@ -1,4 +1,4 @@
--- A call of the routine whose code place is in a register, each way.
+-- A call of the routine whose code address is in a register, in each direction.
 use Rattle.std.proofs.Common.{◌≡◌, ◌≢◌, ℕ, zero, suc, ◌+◌, ◌-◌, ◌^◌, ◌<◌, ◌≤◌, Bool, true, false, List, [], ◌∷◌, length}
 use Rattle.std.proofs.Common.{Some, refl, sym, ap, ◌∙◌, subst, arith}
 use Rattle.std.specs.Prelude.{ℤ, pos, ◌+ℤ◌, not, slice_index, slice_set, nat_eq, if◌then◌else◌}
@@ -6,14 +6,14 @@ use Rattle.std.proofs.lemmas.Int.{ints}
 use Rattle.std.proofs.lemmas.Bool.{false_from_ne_true}
 use Rattle.std.proofs.lemmas.Bool.Decides.{nat_tests}
 use Rattle.std.proofs.lemmas.List.{get_or-set_other}
-use Rattle.pisa_isa.specs.declared.cell.Cell.{Cell}
-use Rattle.pisa_isa.specs.declared.cell.Op.TheVariants.{Add, Addi, Bra, Swapbr}
+use Rattle.code_conventions.specs.pisa_isa.declared.cell.Cell.{Cell}
+use Rattle.code_conventions.specs.pisa_isa.declared.cell.Op.TheVariants.{Addi, Bra}
 use Rattle.code_conventions.specs.Cells.{add, addi, bra}
 use Rattle.paired_code.specs.Cells.{swapbr, rbra}
 use Rattle.paired_code.specs.declared.part.Symbol.{Symbol}
 use Rattle.paired_code.specs.declared.part.Symbol.TheVariants.{Fixed, Aim, Turn}
-use Rattle.rpp_words.specs.Words.{sum_of, difference_of, negated}
-use Rattle.pisa_isa.specs.Machine.{fetch, stride, Memory}
+use Rattle.code_conventions.specs.rpp_words.Words.{sum_of, difference_of, negated}
+use Rattle.code_conventions.specs.pisa_isa.Machine.{fetch, stride, Memory}
 use Rattle.paired_code.proofs.Words.{along, toward, near, far, near_is, far_is}
 use Rattle.paired_code.specs.Machine.{state, Image, reg, with_reg, effect_along, is_single, act, is_routine, change}
 use Rattle.paired_code.specs.Machine.{Same, Enters, Leaves, same, enters, leaves}
@@ -105,7 +105,7 @@ module _ (p s : ℕ) (ne : p ≢ s) (hp : p < 2 ^ 30) (hs : s < 2 ^ 30) where
       ∙ ap (λ x. with_reg m 2 (difference_of x (reg (with_reg m 2 w) a))) (reg_same m _ room)
       ∙ ap (λ x. with_reg m 2 (difference_of w x)) (other_same m a w na) ∙ ap (with_reg m 2) n
 
--- ---- what stands
+-- ---- what is there
 
 fixed_is : (im : Image) (flip : Bool) (z : ℤ) (c : Cell) → resolved im flip z (Fixed c) ≡ c
 fixed_is im false z c = refl
@@ -200,7 +200,7 @@ module _ (im : Image) (f : Frame) (d : Bool) (a i b p top : ℕ) (core : Core im
   abbrev mid : ℕ
   mid = i + 1 + 1 + 1
 
-  -- the gaps round the five cells
+  -- the gaps around the five cells
   abbrev gap_in : Bool → ℕ
   gap_in false = i + 1
   gap_in true = i + 1 + 1 + 1 + 1 + 1 + 1
@@ -533,9 +533,6 @@ way_turned false true d e = refl
 way_turned true false false e = refl
 way_turned true false true e = refl
 way_turned true true d e = absurd (no_false e)
-
-not_swap_add : (a b n : ℕ) → Some (add a b) ≡ Some (swapbr n) → ⊥
-not_swap_add a b n e = let l : add a b ≡ swapbr n = cc in let k : Add ≡ Swapbr = ap (λ (c : Cell). c.op) l in cc
 
 module _ (im : Image) (r top : ℕ) (body : List Symbol) (t : Routine im r top body) (tidy : Tidy im) (a : ℕ) (na : a ≢ 2)
     (m : Memory) (room : 2 < length m.regs) (z : reg m 2 ≡ 0) (v : reg m a ≡ top + 1) (Q : Outcome → Type 0) (f : Frame)

@@ -1,23 +1,22 @@
--- The calls keep what each piece keeps.
-use Rattle.std.proofs.Common.{◌≡◌, ◌≢◌, ℕ, zero, suc, ◌+◌, ◌^◌, ◌<◌, ◌≤◌, List, [], ◌∷◌, ◌++◌, length, refl, sym}
-use Rattle.std.proofs.Common.{ap, ◌∙◌, subst, arith, Bool, true, false, length-append, append_assoc, take, get_or}
-use Rattle.std.specs.Prelude.{not, ◌&&◌, nat_eq, if◌then◌else◌}
-use Rattle.std.proofs.lemmas.Bool.Decides.{nat_tests}
-use Rattle.pisa_isa.specs.declared.cell.Op.{Op}
-use Rattle.pisa_isa.specs.declared.cell.Op.TheVariants.{Start, Finish}
-use Rattle.pisa_isa.specs.declared.cell.Cell.{Cell}
-use Rattle.pisa_isa.specs.Table.{IsCell, inverse_op}
-use Rattle.pisa_isa.proofs.Ranges.{imm_word}
-use Rattle.pisa_isa.proofs.Facing.{IsCell-inverse}
-use Rattle.code_conventions.specs.Cells.{add, bra}
-use Rattle.paired_code.specs.Cells.{swapbr, bgtz, bltz, data_word}
+-- The calls keep what each fragment keeps.
+use Rattle.std.proofs.Common.{◌≡◌, ℕ, zero, suc, ◌+◌, ◌^◌, ◌<◌, ◌≤◌, List, [], ◌∷◌, ◌++◌, length, refl, sym}
+use Rattle.std.proofs.Common.{ap, ◌∙◌, subst, arith, true, false, length-append, append_assoc, take, get_or}
+use Rattle.std.specs.Prelude.{if◌then◌else◌}
+use Rattle.code_conventions.specs.pisa_isa.declared.cell.Op.{Op}
+use Rattle.code_conventions.specs.pisa_isa.declared.cell.Op.TheVariants.{Start, Finish}
+use Rattle.code_conventions.specs.pisa_isa.declared.cell.Cell.{Cell}
+use Rattle.code_conventions.specs.pisa_isa.Table.{IsCell, inverse_op}
+use Rattle.code_conventions.proofs.pisa_isa_laws.Ranges.{imm_word}
+use Rattle.code_conventions.proofs.pisa_isa_laws.Facing.{IsCell-inverse}
+use Rattle.code_conventions.specs.Cells.{bra}
+use Rattle.paired_code.specs.Cells.{bgtz, bltz}
 use Rattle.paired_code.specs.declared.part.Symbol.{Symbol}
 use Rattle.paired_code.specs.declared.part.Symbol.TheVariants.{Own, Enter, Fixed, Aim, Turn}
-use Rattle.pisa_isa.specs.declared.notes.Mark.{Mark}
-use Rattle.pisa_isa.specs.declared.notes.TheConstants.{LAST_PLACE}
+use Rattle.code_conventions.specs.pisa_isa.declared.notes.Mark.{Mark}
+use Rattle.code_conventions.specs.pisa_isa.declared.notes.TheConstants.{LAST_PLACE}
 use Rattle.paired_code.specs.Machine.{reversed, is_end_op, is_single}
-use Rattle.paired_code.specs.Layout.{between, fork, branch_cells, loop_cells, check_cells, place_register}
-use Rattle.paired_code.specs.Layout.{enter_at_cells, mirror_cells, inverse_sym}
+use Rattle.paired_code.specs.Layout.{between, fork, branch_cells, loop_cells}
+use Rattle.paired_code.specs.Layout.{mirror_cells, inverse_sym}
 use Rattle.paired_code.specs.Fit.{IsInner, IsFit, AllFit}
 use Rattle.paired_code.specs.Code.{Code, AllWithin, moved_on, shift}
 use Rattle.paired_code.proofs.Steps.{reversed_is, single_own}
@@ -78,16 +77,6 @@ inner_lt r w h k = record {
   no_end = refl;
 }
 
-inner_data : (w : ℕ) → w < 2 ^ 32 → IsInner (data_word w)
-inner_data w h = record {
-  holds = record {
-    in_range = record
-        { a_in = omega arith; b_in = omega arith; c_in = omega arith; imm_in = h };
-    one_to_one = refl;
-  };
-  no_end = refl;
-}
-
 pub inner_single : (c : Cell) → is_single c ≡ true → IsCell c → IsInner c
 inner_single c s h = record { holds = h; no_end = single_own c s }
 
@@ -122,51 +111,6 @@ fit_loop r p q h hp hq =
     let k1 : AllFit most = fit_fork r (3 + length q) 0 (p ++ last) h (fit_append p last hp k2) in
     fit_fork r 0 (3 + length q) (Own (bra (between 0 n)) ∷ (q ++ most)) h
     (inner_bra (between 0 n) (word_between 0 n), fit_append q most hq k1)
-
-pub fit_check : (r code : ℕ) → r < 32 → code < 2 ^ 32 → AllFit (check_cells r code)
-fit_check r code h k = (
-  inner_bra (between 0 2) (word_between 0 2),
-  (inner_data code k, (inner_bra (between 2 0) (word_between 2 0), fit_fork_two)),
-)
-  where
-    fit_fork_two : AllFit (Own (bgtz r (between 3 1)) ∷ Own (bltz r (between 4 1)) ∷ [])
-    fit_fork_two = (inner_gt r (between 3 1) h (word_between 3 1), (inner_lt r (between 4 1) h (word_between 4 1), tt))
-
-inner_add : (a : ℕ) → a < 32 → a ≢ 2 → IsInner (add 2 a)
-inner_add a h n =
-    let e : nat_eq 2 a ≡ false = grind (arith, nat_tests) in
-    record {
-      holds = record {
-        in_range = record {
-          a_in = omega arith;
-          b_in = h;
-          c_in = omega arith;
-          imm_in = omega arith;
-        };
-        one_to_one = ap (λ t. not t && true) e;
-      };
-      no_end = refl;
-    }
-
-inner_swapbr : IsInner (swapbr 2)
-inner_swapbr = record {
-  holds = record {
-    in_range = record
-        { a_in = omega arith; b_in = omega arith; c_in = omega arith; imm_in = omega arith };
-    one_to_one = refl;
-  };
-  no_end = refl;
-}
-
-fit_call : (a : ℕ) (b : Bool) → a < 32 → a ≢ 2 → AllFit (enter_at_cells a b)
-fit_call a b h n = (tt, (inner_add a h n, (tt, (inner_swapbr, (tt, (inner_add a h n, (tt, tt)))))))
-
-pub fit_enter_at : (a : ℕ) (b : Bool) → a < 32 → AllFit (enter_at_cells (place_register a) b)
-fit_enter_at a b h = go (nat_eq a 2) refl
-  where
-    go : (t : Bool) → nat_eq a 2 ≡ t → AllFit (enter_at_cells (if t then 3 else a) b)
-    go true e = fit_call 3 b (omega arith) (λ z. omega arith)
-    go false e = let n : a ≢ 2 = grind (arith, nat_tests) in fit_call a b h n
 
 -- ---- marks
 
@@ -210,7 +154,7 @@ shifted_at n k [] i d h l = absurd (omega arith)
 shifted_at n k (x ∷ xs) zero d h l = (h.0, h.1.0)
 shifted_at n k (x ∷ xs) (suc i) d h l = shifted_at n k xs i d h.2 (omega arith)
 
--- the mark that comes next has room
+-- the mark that comes next has space
 pub room_first : (n k : ℕ) (xs : List Mark) (i : ℕ) (x : Mark) → AllWithin n (shift k xs) → i < length xs
     → x ≡ get_or xs i x → k + x.first ≤ n
 room_first n k xs i x h l e =
@@ -253,7 +197,7 @@ marks_on k xs i x y new now old p m e l q =
     ∙ ap (λ (z : Mark). shift k (take i xs) ++ moved_on k z ∷ []) (sym e)
     ∙ ap (λ (z : Mark). shift k (take i xs) ++ z ∷ []) (sym m))
 
--- marks have room where those that they are have it
+-- marks have space if those from which they are made have it
 pub room_at : (n j j' : ℕ) (b b' : List Mark) → j' ≡ j → b' ≡ b → AllWithin n (shift j b) → AllWithin n (shift j' b')
 room_at n j j' b b' e f h = subst (λ z. AllWithin n (shift z b')) (sym e)
     (subst (λ (z : List Mark). AllWithin n (shift j z)) (sym f) h)
@@ -327,7 +271,7 @@ loop_built r n s x x' y y' z p q c0 c1 c2 c3 c4 c5 c6 c7 c8 en es ex ex' ey ey' 
     ++ Own (bra (between (5 + length q + length p) 0)) ∷ []) ++ fork r (between 3 0) [] = cc in
     all ∙ simp append_assoc
 
--- there is room for the marks where there is room for the cells
+-- there is space for the marks if there is space for the cells
 pub branch_room : (r n : ℕ) (p q all : List Symbol) (a b : List Mark) → all ≡ branch_cells r p q → length all ≤ n
     → AllWithin (length p) a → AllWithin (length q) b → AllWithin n (shift 2 b) × AllWithin n (shift (5 + length q) a)
 branch_room r n p q all a b e l ha hb =

@@ -1,6 +1,6 @@
--- The laws of the pieces.
+-- The laws of the fragments.
 use Rattle.std.proofs.Common.{◌≡◌, ℕ, ◌+◌, Bool, true, false, List, ◌++◌, length, refl, subst, arith, length-append}
-use Rattle.pisa_isa.specs.Machine.{Memory}
+use Rattle.code_conventions.specs.pisa_isa.Machine.{Memory}
 use Rattle.paired_code.specs.declared.part.Symbol.{Symbol}
 use Rattle.paired_code.specs.Machine.{Image}
 use Rattle.paired_code.specs.Layout.{Frame}
@@ -29,7 +29,7 @@ pub will_more : (im : Image) (p : List Symbol) (d : Bool) (m : Memory) (Q Q' : O
     → ((o : Outcome) → Q o → Q' o) → Will im p d m Q → Will im p d m Q'
 will_more im p d m Q Q' t w = record { will = λ f i h st. let a = w.will f i h st in (a.0, a.1, t a.0 a.2) }
 
--- what is to hold of a run, where the next one is to come
+-- what is to hold for a run, if the next one is to come
 abbrev pub Next : (Memory → ℕ → Type 0) → (Outcome → Type 0) → Outcome → Type 0
 Next W Q (Done m k) = W m k
 Next W Q (Trapped w k) = Q (Trapped w k)

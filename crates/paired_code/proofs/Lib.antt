@@ -22,6 +22,4 @@ pub mod Whole
 pub mod Writing
 pub mod Shifted
 pub mod Does
-pub mod Calls
-pub mod Line
 pub mod Undone

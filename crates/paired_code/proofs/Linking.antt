@@ -1,15 +1,15 @@
--- What `link` writes stands there.
+-- What `link` writes is in the image.
 use Rattle.std.proofs.Common.{◌≡◌, ℕ, zero, suc, ◌+◌, ◌^◌, ◌<◌, List, [], ◌∷◌, ◌++◌, length, Some, refl, sym, ap, ◌∙◌}
 use Rattle.std.proofs.Common.{subst, arith, append_assoc, length-append, Bool, true, false}
 use Rattle.std.specs.Prelude.{ℤ, pos, slice_get, slice_index, nat_eq, if◌then◌else◌}
 use Rattle.std.proofs.lemmas.Bool.Decides.{nat_tests}
 use Rattle.std.proofs.Math.Seq.{get_or-append_seam}
 use Rattle.std.proofs.lemmas.Option.{slice_get-get_or, slice_get_within}
-use Rattle.pisa_isa.specs.declared.cell.Cell.{Cell}
+use Rattle.code_conventions.specs.pisa_isa.declared.cell.Cell.{Cell}
 use Rattle.code_conventions.specs.Cells.{bra}
 use Rattle.paired_code.specs.Cells.{start, finish}
 use Rattle.paired_code.specs.declared.part.Symbol.{Symbol}
-use Rattle.pisa_isa.specs.Machine.{fetch}
+use Rattle.code_conventions.specs.pisa_isa.Machine.{fetch}
 use Rattle.paired_code.specs.Machine.{Image, is_one_of}
 use Rattle.paired_code.specs.Layout.{base, resolved, Stands, code_line, Routine, Tidy, between, place}
 use Rattle.paired_code.specs.Link.{places, linked, routine_code, routines_code, first_top, link_code, link_image}
@@ -54,7 +54,7 @@ pub from_index : (all : List ℕ) (n : ℕ) (x : ℕ) (rest : List ℕ) → From
 from_index all n x rest h = ap (λ l. slice_index l n) h.is ∙ ap (λ k. slice_index (h.pre ++ x ∷ rest) k) (sym h.far)
     ∙ get_or-append_seam h.pre x rest 0
 
--- ---- a piece
+-- ---- a fragment
 
 pub length-linked : (rs : List ℕ) (a : ℕ) (p : List Symbol) → length (linked rs a p) ≡ length p
 length-linked rs a [] = refl

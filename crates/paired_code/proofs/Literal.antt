@@ -4,16 +4,16 @@ use Rattle.std.proofs.Common.{arith}
 use Rattle.std.specs.Prelude.{ℤ}
 use Rattle.std.proofs.lemmas.Int.{ints}
 use Rattle.paired_code.specs.declared.part.Symbol.{Symbol}
-use Rattle.pisa_isa.specs.Machine.{State, stop, stop_at, moved, effect_at, Memory, memory_of}
-use Rattle.pisa_isa.specs.declared.machine.Stop.{Stop}
-use Rattle.pisa_isa.specs.declared.machine.Stop.TheVariants.{Trap, BadAddress}
+use Rattle.code_conventions.specs.pisa_isa.Machine.{State, stop, stop_at, moved, effect_at, Memory, memory_of}
+use Rattle.code_conventions.specs.pisa_isa.declared.machine.Stop.{Stop}
+use Rattle.code_conventions.specs.pisa_isa.declared.machine.Stop.TheVariants.{Trap, BadAddress}
 use Rattle.paired_code.specs.Machine.{Image, act, Change, Level, same, enters, leaves}
 use Rattle.paired_code.specs.Layout.{Frame, spot, code_line}
 use Rattle.paired_code.specs.Pieces.{Inside, cell, open_call, in_flight, Path, stay, step, Outcome, Done, Trapped, Bad}
 use Rattle.paired_code.specs.Pieces.{Still, Ends, finishes, traps, bad, still, near_end, far_end}
 use Rattle.paired_code.specs.Literal.{opened, change_at, Coming, Comes, Stops, Stays, Said, InWords}
 
--- a cell of the piece is not the place beyond its far end
+-- a cell of the fragment is not the place beyond its far end
 not_far : (flip d : Bool) (g : ℤ) (a b i : ℕ) → a ≤ i → i < b → spot flip false g i ≡ spot flip d g (far_end d a b) → ⊥
 not_far false false g a b i l h e = omega (arith, ints)
 not_far false true g a b i l h e = omega (arith, ints)

@@ -6,7 +6,7 @@ use Rattle.std.proofs.lemmas.List.{drop-append-le, take-append-le, take_all}
 use Rattle.code_conventions.specs.Cells.{bra}
 use Rattle.paired_code.specs.declared.part.Symbol.{Symbol}
 use Rattle.paired_code.specs.declared.part.Symbol.TheVariants.{Own}
-use Rattle.pisa_isa.specs.declared.notes.Mark.{Mark}
+use Rattle.code_conventions.specs.pisa_isa.declared.notes.Mark.{Mark}
 use Rattle.paired_code.specs.Layout.{between, fork, branch_cells, loop_cells}
 use Rattle.paired_code.specs.Code.{Code, Kept, AllWithin, shift, seq_code, branch_code, loop_code, marked_code, Marked}
 use Rattle.paired_code.specs.Code.{marked_parts, parts}

@@ -1,11 +1,11 @@
--- A piece run back is its mirror run along.
+-- A fragment run back is its inverse run forward.
 use Rattle.std.proofs.Common.{◌≡◌, ℕ, ◌+◌, ◌-◌, Bool, true, false, List, [], ◌∷◌, ◌++◌, length, Some, refl, sym, ap}
 use Rattle.std.proofs.Common.{◌∙◌, subst, arith, length-append, append_assoc, append-nil}
 use Rattle.std.specs.Prelude.{not, ℤ, pos, ◌+ℤ◌, ◌-ℤ◌}
 use Rattle.std.proofs.lemmas.Int.{ints}
 use Rattle.paired_code.specs.declared.part.Symbol.{Symbol}
 use Rattle.paired_code.specs.declared.part.Symbol.TheVariants.{Own, Enter, Fixed, Aim, Turn}
-use Rattle.pisa_isa.specs.Machine.{State, fetch, Memory}
+use Rattle.code_conventions.specs.pisa_isa.Machine.{State, fetch, Memory}
 use Rattle.paired_code.specs.Machine.{state, Image}
 use Rattle.paired_code.specs.Layout.{xor, Frame, spot, place, at, base, resolved, Stands, inverse_sym, mirror_cells}
 use Rattle.paired_code.specs.Pieces.{Inside, cell, open_call, in_flight, Path, stay, step, Outcome, Ends, finishes}

@@ -1,6 +1,6 @@
 -- The laws of the loop, the check and the calls, as contracts state them.
 use Rattle.std.proofs.Common.{◌≡◌, ◌≢◌, ℕ, ◌+◌, ◌^◌, ◌<◌, ◌≤◌, inl, inr, Bool, List, [], ◌∷◌, length, refl, ap, subst}
-use Rattle.pisa_isa.specs.Machine.{Memory}
+use Rattle.code_conventions.specs.pisa_isa.Machine.{Memory}
 use Rattle.paired_code.specs.declared.part.Symbol.{Symbol}
 use Rattle.paired_code.specs.declared.part.Symbol.TheVariants.{Enter}
 use Rattle.paired_code.specs.Machine.{Image, with_reg}

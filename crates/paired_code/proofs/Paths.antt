@@ -1,7 +1,7 @@
 -- Paths are put together, widened and put inside a call.
-use Rattle.std.proofs.Common.{◌≡◌, ℕ, zero, suc, ◌+◌, ◌≤◌, refl, sym, ◌∙◌, subst, arith}
+use Rattle.std.proofs.Common.{◌≡◌, ℕ, zero, suc, ◌+◌, ◌≤◌, subst, arith}
 use Rattle.std.specs.Prelude.{ℤ}
-use Rattle.pisa_isa.specs.Machine.{State, next, moved, effect_at}
+use Rattle.code_conventions.specs.pisa_isa.Machine.{State}
 use Rattle.paired_code.specs.Machine.{Image, Level, same, enters, leaves}
 use Rattle.paired_code.specs.Layout.{Frame}
 use Rattle.paired_code.specs.Pieces.{Inside, cell, open_call, in_flight, Path, stay, step}
@@ -35,19 +35,3 @@ pub within_call : {im : Image} {f : Frame} {a b k e e' : ℕ} {s s' : State} (f'
     → Path im f a b k e s e' s' → Path im f' a' b' k (suc e) s (suc e') s'
 within_call f' a' b' stay = stay
 within_call f' a' b' (step c i h n v l p) = step c open_call h n v (level_up l) (within_call f' a' b' p)
-
--- the machine's own run, of which a path is a part
-abbrev pub steps : Image → ℕ → State → State
-steps im zero s = s
-steps im (suc k) s = steps im k (next im.code s)
-
-pub path_steps : {im : Image} {f : Frame} {a b k e e' : ℕ} {s s' : State} → Path im f a b k e s e' s'
-    → steps im k s ≡ s'
-path_steps stay = refl
-path_steps {im = im} {s' = s'} (step {k = k} {s = s} c i h n v l p) =
-    subst (λ o. steps im k (moved (effect_at o s)) ≡ s') (sym h) (path_steps p)
-
--- two paths of as many steps from one state end alike, whatever their pieces
-pub one_end : {im : Image} {f f' : Frame} {a b a' b' k e e' i i' : ℕ} {s s1 s2 : State} → Path im f a b k e s e' s1
-    → Path im f' a' b' k i s i' s2 → s1 ≡ s2
-one_end p q = sym (path_steps p) ∙ path_steps q

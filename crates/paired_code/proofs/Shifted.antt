@@ -1,4 +1,4 @@
--- The marks of pieces on the cells of the image that is linked of them.
+-- The marks of fragments on the cells of the image that is linked of them.
 use Rattle.std.proofs.Common.{◌≡◌, ℕ, zero, suc, ◌+◌, ◌≤◌, ◌<◌, true, List, [], ◌∷◌, ◌++◌, length, refl, sym, ap}
 use Rattle.std.proofs.Common.{◌∙◌, subst, arith, length-append, append_assoc, take, drop, get_or}
 use Rattle.std.specs.Prelude.{nat_le}
@@ -8,12 +8,12 @@ use Rattle.std.proofs.lemmas.Bool.{and_from}
 use Rattle.std.proofs.lemmas.Bool.Decides.{nat_tests}
 use Rattle.std.proofs.lemmas.List.Sums.{AllPass-from_list_all, list_all-from_AllPass}
 use Rattle.std.proofs.lemmas.List.Sorted.{length_permutation, All-permutation}
-use Rattle.pisa_isa.specs.declared.notes.TheConstants.{MOST_MARKS, LAST_PLACE}
-use Rattle.pisa_isa.specs.declared.notes.Mark.{Mark}
-use Rattle.pisa_isa.specs.declared.notes.FieldName.{FieldName}
-use Rattle.pisa_isa.specs.Image.{Segments}
-use Rattle.pisa_isa.specs.Notes.{NoteLists, is_within, mark_fits, fits}
-use Rattle.pisa_isa.proofs.Noting.{fits_by}
+use Rattle.code_conventions.specs.pisa_isa.declared.notes.TheConstants.{MOST_MARKS, LAST_PLACE}
+use Rattle.code_conventions.specs.pisa_isa.declared.notes.Mark.{Mark}
+use Rattle.code_conventions.specs.pisa_isa.declared.notes.FieldName.{FieldName}
+use Rattle.code_conventions.specs.pisa_isa.Image.{Segments}
+use Rattle.code_conventions.specs.pisa_isa.Notes.{NoteLists, is_within, mark_fits, fits}
+use Rattle.code_conventions.proofs.pisa_isa_laws.Noting.{fits_by}
 use Rattle.paired_code.specs.Link.{routines_size, link_code, link_size}
 use Rattle.paired_code.specs.Code.{Code, AllWithin, EachWithin, shift, bodies, routine_marks, link_marks}
 use Rattle.paired_code.specs.Code.{marks_size}

@@ -1,14 +1,14 @@
--- The empty piece, a plain instruction, a memory exchange and a check.
+-- The empty fragment, a plain instruction, a memory exchange and a check.
 use Rattle.std.proofs.Common.{◌≡◌, ◌≢◌, ℕ, ◌+◌, ◌^◌, ◌<◌, ◌≤◌, Bool, true, false, List, [], ◌∷◌, Some, refl, sym, ap}
 use Rattle.std.proofs.Common.{◌∙◌, subst, ⊎_elim, arith}
 use Rattle.std.specs.Prelude.{nat_lt, if◌then◌else◌}
-use Rattle.pisa_isa.specs.declared.cell.Cell.{Cell}
+use Rattle.code_conventions.specs.pisa_isa.declared.cell.Cell.{Cell}
 use Rattle.code_conventions.specs.Cells.{bra}
 use Rattle.paired_code.specs.Cells.{bgtz, bltz, data_word}
 use Rattle.paired_code.specs.declared.part.Symbol.{Symbol}
 use Rattle.paired_code.specs.declared.part.Symbol.TheVariants.{Own}
-use Rattle.pisa_isa.specs.Machine.{stop_at, fetch, Memory}
-use Rattle.pisa_isa.specs.declared.machine.Stop.TheVariants.{Trap, BadAddress}
+use Rattle.code_conventions.specs.pisa_isa.Machine.{stop_at, fetch, Memory}
+use Rattle.code_conventions.specs.pisa_isa.declared.machine.Stop.TheVariants.{Trap, BadAddress}
 use Rattle.paired_code.proofs.Words.{is_positive, is_negative, toward, near, near_is}
 use Rattle.paired_code.specs.Machine.{state, Image, is_single, reg, effect_along}
 use Rattle.paired_code.specs.Layout.{xor, Frame, place, at, Stands, between, check_cells}
@@ -211,7 +211,7 @@ single_out : (im : Image) (c : Cell) (d : Bool) (m : Memory) (t : Bool) → is_s
 single_out im c d m true h w e = runs_acting im c d m h w e
 single_out im c d m false h w e = runs_stopping im c d m h e
 
--- any instruction that may stand alone
+-- any single instruction: no branch, end or data word
 pub runs_single : (im : Image) (c : Cell) (d : Bool) (m : Memory) → is_single c ≡ true → c.imm < 2 ^ 32
     → Runs im (Own c ∷ []) d m (outcome_of d c m)
 runs_single im c d m h w = single_out im c d m (has_its_cell c m) h w refl

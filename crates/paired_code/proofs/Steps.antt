@@ -3,17 +3,17 @@ use Rattle.std.proofs.Common.{◌≡◌, ◌≢◌, ℕ, ◌^◌, ◌<◌, ◌�
 use Rattle.std.proofs.Common.{subst, arith}
 use Rattle.std.specs.Prelude.{ℤ, pos, ◌+ℤ◌, Option, not, nat_eq, nat_lt, if◌then◌else◌, slice_index}
 use Rattle.std.proofs.lemmas.Bool.Decides.{nat_tests}
-use Rattle.rpp_words.specs.Words.{sum_of}
-use Rattle.pisa_isa.specs.declared.cell.Op.{Op}
-use Rattle.pisa_isa.specs.declared.cell.Op.TheVariants.{Add, Addi, Exch, Swapbr, Bra, Rbra, Beq}
-use Rattle.pisa_isa.specs.declared.cell.Op.TheVariants.{Bne, Bgez, Bgtz, Blez, Bltz, Start, Finish, DataWord}
-use Rattle.pisa_isa.specs.declared.cell.Cell.{Cell}
-use Rattle.pisa_isa.specs.Table.{inverse_op, inverse_word, inverse_of}
-use Rattle.pisa_isa.specs.declared.machine.Stop.{Stop}
-use Rattle.pisa_isa.specs.declared.machine.Stop.TheVariants.{BadAddress}
-use Rattle.pisa_isa.specs.Machine.{State, row, row_of, faced, effect, moved, stride, fetch, stop_at, stop_in, has_cell}
-use Rattle.pisa_isa.specs.Machine.{Memory, memory_of}
-use Rattle.pisa_isa.proofs.Mirror.{inverse_op-twice, inverse_word-twice}
+use Rattle.code_conventions.specs.rpp_words.Words.{sum_of}
+use Rattle.code_conventions.specs.pisa_isa.declared.cell.Op.{Op}
+use Rattle.code_conventions.specs.pisa_isa.declared.cell.Op.TheVariants.{Add, Addi, Exch, Swapbr, Bra, Rbra, Beq}
+use Rattle.code_conventions.specs.pisa_isa.declared.cell.Op.TheVariants.{Bne, Bgez, Bgtz, Blez, Bltz, Start, Finish, DataWord}
+use Rattle.code_conventions.specs.pisa_isa.declared.cell.Cell.{Cell}
+use Rattle.code_conventions.specs.pisa_isa.Table.{inverse_op, inverse_word, inverse_of}
+use Rattle.code_conventions.specs.pisa_isa.declared.machine.Stop.{Stop}
+use Rattle.code_conventions.specs.pisa_isa.declared.machine.Stop.TheVariants.{BadAddress}
+use Rattle.code_conventions.specs.pisa_isa.Machine.{State, row, row_of, faced, effect, moved, stride, fetch, stop_at, stop_in, has_cell}
+use Rattle.code_conventions.specs.pisa_isa.Machine.{Memory, memory_of}
+use Rattle.code_conventions.proofs.pisa_isa_laws.Mirror.{inverse_op-twice, inverse_word-twice}
 use Rattle.code_conventions.specs.Cells.{bra}
 use Rattle.paired_code.specs.Cells.{beq, bne, bgtz, bltz}
 use Rattle.paired_code.specs.Machine.{state, Image, act, reversed, reversed_word, effect_along, is_single_op, is_single}
@@ -28,7 +28,7 @@ abbrev pub oriented : Bool → Cell → Cell
 oriented false c = c
 oriented true c = reversed c
 
--- the cell stands at the line's cell x
+-- the cell is at the line's cell x
 abbrev pub Has : Image → Frame → ℕ → Cell → Type 0
 Has im f x c = fetch im.code (place f x) ≡ Some (oriented f.flip c)
 
@@ -313,7 +313,7 @@ inverse_of_twice : (c : Cell) → c.imm < 2 ^ 32 → inverse_of (inverse_of c) �
 inverse_of_twice c h = ap (λ o. record c { op = o; imm = inverse_word (inverse_op c.op) (inverse_word c.op c.imm) })
     (inverse_op-twice c.op) ∙ ap (λ i. record c { imm = i }) (inverse_word-twice c.op c.imm h)
 
--- which row acts does not depend on which way round the cell stands
+-- which instruction acts does not depend on the direction of the cell
 faced_is : (flip d : Bool) (c : Cell) → c.imm < 2 ^ 32 → faced (xor flip d) (oriented flip c) ≡ faced d c
 faced_is false d c h = refl
 faced_is true false c h = ap inverse_of (reversed_is c h) ∙ inverse_of_twice c h
@@ -362,7 +362,7 @@ level_op : (op : Op) → is_single_op op ≡ true → (rs : List ℕ) (d : ℕ) 
 level_op Swapbr h rs d s = cc
 level_op _ h rs d s = refl
 
--- EXCH stops where there is no data cell; the others do not stop
+-- EXCH stops if there is no data cell; the others do not stop
 abbrev pub stop_by : Bool → ℕ → Option Stop
 stop_by t a = if t then None else Some (BadAddress a)
 

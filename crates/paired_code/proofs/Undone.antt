@@ -1,22 +1,22 @@
--- A row run backward undoes what it did forward; so rows, and pieces between a row and its inverse,
--- need to be known forward alone.
+-- An instruction run backward undoes what it did forward. So instructions, and fragments between an
+-- instruction and its inverse, need to be known only forward.
 use Rattle.std.proofs.Common.{◌≡◌, ◌≢◌, ◌∙◌, ℕ, suc, ◌+◌, ◌^◌, ◌<◌, Bool, true, false, List, [], ◌∷◌, ◌++◌, length}
 use Rattle.std.proofs.Common.{refl, sym, ap, subst, arith, pos, nat_lt, ap₂, get_or, length-set, ltb-true, ℤ}
 use Rattle.std.proofs.lemmas.List.{get_or-set_other}
 use Rattle.std.proofs.lemmas.List.Elements.{All-get_or, All-set}
 use Rattle.std.specs.Prelude.{not, if◌then◌else◌}
 use Rattle.std.specs.List.{All}
-use Rattle.rpp_words.specs.Words.{IsWord}
-use Rattle.pisa_isa.specs.declared.cell.Op.{Op}
-use Rattle.pisa_isa.specs.declared.cell.Op.TheVariants.{Exch, Swapbr, Bra, Rbra, Beq, Bne, Bgez, Bgtz, Blez, Bltz}
-use Rattle.pisa_isa.specs.declared.cell.Op.TheVariants.{Start, Finish, DataWord}
-use Rattle.pisa_isa.specs.declared.cell.Cell.{Cell}
-use Rattle.pisa_isa.specs.Table.{IsCell, inverse_op, b_is_source, new_value}
-use Rattle.pisa_isa.specs.Machine.{State, turned, effect, row, row_of, faced, has_cell, Memory, memory_of}
-use Rattle.pisa_isa.proofs.Back.{Apart-cell}
-use Rattle.pisa_isa.proofs.Effect.{Fits, effect-twice}
-use Rattle.pisa_isa.proofs.Keeps.{new_value-lt}
-use Rattle.pisa_isa.proofs.Ranges.{a_below, b_below, c_below, imm_word}
+use Rattle.code_conventions.specs.rpp_words.Words.{IsWord}
+use Rattle.code_conventions.specs.pisa_isa.declared.cell.Op.{Op}
+use Rattle.code_conventions.specs.pisa_isa.declared.cell.Op.TheVariants.{Exch, Swapbr, Bra, Rbra, Beq, Bne, Bgez, Bgtz, Blez, Bltz}
+use Rattle.code_conventions.specs.pisa_isa.declared.cell.Op.TheVariants.{Start, Finish, DataWord}
+use Rattle.code_conventions.specs.pisa_isa.declared.cell.Cell.{Cell}
+use Rattle.code_conventions.specs.pisa_isa.Table.{IsCell, inverse_op, b_is_source, new_value}
+use Rattle.code_conventions.specs.pisa_isa.Machine.{State, turned, effect, row, row_of, faced, has_cell, Memory, memory_of}
+use Rattle.code_conventions.proofs.pisa_isa_laws.Back.{Apart-cell}
+use Rattle.code_conventions.proofs.pisa_isa_laws.Effect.{Fits, effect-twice}
+use Rattle.code_conventions.proofs.pisa_isa_laws.Keeps.{new_value-lt}
+use Rattle.code_conventions.proofs.pisa_isa_laws.Ranges.{a_below, b_below, c_below, imm_word}
 use Rattle.paired_code.specs.declared.part.Symbol.{Symbol}
 use Rattle.paired_code.specs.declared.part.Symbol.TheVariants.{Own}
 use Rattle.paired_code.specs.Machine.{Image, state, reg as reg_of, is_single, is_single_op, effect_along}
@@ -40,7 +40,7 @@ at_first m = state (pos 0) 0 false m
 of_done : (a b : Memory) (k j : ℕ) → Done a k ≡ Done b j → a ≡ b
 of_done a b k j e = ap (λ o. elim o as (λ _. Memory) [ Done m i ↦ m | Trapped w i ↦ a | Bad w i ↦ a | Still i ↦ a ]) e
 
--- a row that may stand alone does not look at the place, the branch register or the direction
+-- a single instruction does not read the code address, the branch register or the direction
 row_free : (op : Op) (a b c i : ℕ) (s : State) → is_single_op op ≡ true
     → memory_of (row op a b c i s) ≡ memory_of (row op a b c i (at_first (memory_of s)))
 row_free Exch a b c i s h = refl
@@ -180,12 +180,12 @@ effect_back c m h k w t =
 
 -- ---- rows
 
--- instructions that may stand alone, and in an image
+-- single instructions, which an image may hold
 abbrev pub AllPlain : List Cell → Type 0
 AllPlain [] = Unit {0}
 AllPlain (c ∷ cs) = (is_single c ≡ true) × IsCell c × AllPlain cs
 
--- what a row does forward, where each EXCH has its cell
+-- what a row does forward, if each EXCH has its cell
 pub data Went : List Cell → Memory → Memory → Type 0 where
   stay : {m : Memory} → Went [] m m
   goes : {c : Cell} {cs : List Cell} {m m1 : Memory} → has_its_cell c m ≡ true → Went cs (effect_along false c m) m1
@@ -256,12 +256,12 @@ pub went_along : (im : Image) (d : Bool) (cs : List Cell) (m m1 : Memory) → Al
 went_along im false cs m m1 p w w1 r = went_ahead im p r
 went_along im true cs m m1 p w w1 r = went_behind im p w1 r
 
--- a piece that is mirrored
+-- a fragment that is inverted
 pub turned_runs : (im : Image) (p : List Symbol) (d : Bool) (m : Memory) (o : Outcome) → Runs im p (not d) m o
     → Runs im (mirror_cells p) d m o
 turned_runs im p d m o r = (mirror_law p).turns im d m o r
 
--- a row, a piece in a direction, and the row back
+-- a row, a fragment in a direction, and the row back
 pub within_runs : (im : Image) (d : Bool) (cs : List Cell) (piece : List Symbol) (m m1 m2 m3 : Memory) (k : ℕ)
     → AllPlain cs → HoldsWords m3 → Went cs m m1 → Runs im piece d m1 (Done m2 k) → Went cs m3 m2
     → Runs im (within cs piece) d m (Done m3 (length cs + (k + length cs)))
@@ -276,7 +276,7 @@ within_runs im true cs piece m m1 m2 m3 k p w a r b =
     (turned_runs im (line cs) true m _ (went_ahead im p a)) r)
     (went_behind im p w b))
 
--- the piece stops
+-- the fragment stops
 pub first_traps : (im : Image) (p q : List Symbol) (m : Memory) (w k : ℕ) → Runs im p false m (Trapped w k)
     → Runs im (p ++ q) false m (Trapped w k)
 first_traps im p q m w k r = (seq_law p q).ahead im m (Trapped w k) (λ x. Still 0) r (λ x j e. absurd (cc))

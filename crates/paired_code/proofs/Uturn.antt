@@ -1,27 +1,18 @@
--- A piece run the other way by two cells round it, whose own cells stay as they are.
-use Rattle.std.proofs.Common.{◌≡◌, ◌≢◌, ℕ, ◌+◌, ◌^◌, ◌<◌, ◌≤◌, Bool, true, false, List, [], ◌∷◌, ◌++◌, length, Some}
-use Rattle.std.proofs.Common.{None, refl, sym, ap, ◌∙◌, subst, arith, length-append}
+-- A fragment run the other way by two cells around it, whose own cells stay as they are.
+use Rattle.std.proofs.Common.{◌≡◌, ◌≢◌, ℕ, ◌^◌, ◌<◌, ◌≤◌, Bool, true, false, List, [], ◌∷◌, Some}
+use Rattle.std.proofs.Common.{None, refl, sym, ap, ◌∙◌, subst, arith}
 use Rattle.std.specs.Prelude.{not, ℤ}
 use Rattle.code_conventions.specs.Cells.{bra}
 use Rattle.paired_code.specs.Cells.{rbra}
-use Rattle.paired_code.specs.declared.part.Symbol.{Symbol}
-use Rattle.paired_code.specs.declared.part.Symbol.TheVariants.{Own}
-use Rattle.rpp_words.specs.Words.{sum_of, negated}
-use Rattle.pisa_isa.specs.Machine.{effect, State, stop_at, Memory}
+use Rattle.code_conventions.specs.rpp_words.Words.{sum_of, negated}
+use Rattle.code_conventions.specs.pisa_isa.Machine.{effect, State, stop_at, Memory}
 use Rattle.paired_code.proofs.Words.{turned, flipped, toward, first_br, second_br, goes_to, near, far, near_is, far_is}
 use Rattle.paired_code.specs.Machine.{state, Image, act, is_end, change, Same, same}
 use Rattle.paired_code.specs.Layout.{xor, Frame, spot, place, at, between}
-use Rattle.paired_code.specs.Pieces.{cell, Path, Outcome, Ends, finishes, traps, bad, still, Will, around, near_end}
-use Rattle.paired_code.specs.Pieces.{far_end}
+use Rattle.paired_code.specs.Pieces.{cell, Path}
 use Rattle.paired_code.proofs.Paths.{append}
 use Rattle.paired_code.proofs.Steps.{oriented, Has, takes_bra}
-use Rattle.paired_code.proofs.Ways.{front, rest, has, ends_wider}
-use Rattle.paired_code.proofs.Laws.{ends_at}
-use Rattle.paired_code.proofs.Branch.{between_same}
 use Rattle.paired_code.proofs.Call.{step_to, acts_to}
-
-abbrev pub uturn_cells : List Symbol → List Symbol
-uturn_cells p = Own (rbra (between 0 (1 + length p))) ∷ (p ++ Own (bra (between (1 + length p) 0)) ∷ [])
 
 xor_not : (a b : Bool) → not (xor a b) ≡ xor a (not b)
 xor_not false b = refl
@@ -115,63 +106,3 @@ module _ (im : Image) (f : Frame) (a b x y : ℕ) (ne : x ≢ y) (hx : x < 2 ^ 3
       (rbra_own f.flip (between x y)) (rbra_goes f.flip (between x y) s1)
       (rbra_level f.flip (between x y) im.routines s1) same e2 in
       subst (λ z. Path im f a b 2 0 (state z 0 (here d) m) 0 s2) (sym (near_is f.flip d f.base y)) (append p1 p2)
-
--- a run the other way, between two turns
-between_turns : {im : Image} {f : Frame} {d : Bool} {a b i i' j j' : ℕ} {m : Memory} {o : Outcome}
-    → Path im f a b 2 0 (at f d i m) 0 (at f (not d) i' m)
-    → ((m1 : Memory) → Path im f a b 2 0 (at f (not d) j m1) 0 (at f d j' m1)) → Ends im f (not d) a b i' m j o
-    → Ends im f d a b i m j' (around 2 2 o)
-between_turns p q (finishes {m' = m1} w) = finishes (record { path = append p (append w.path (q m1)) })
-between_turns p q (traps h) = traps (record {
-  last = h.last;
-  depth = h.depth;
-  path = append p h.path;
-  stops = h.stops;
-  inside = h.inside;
-})
-between_turns p q (bad h) = bad (record {
-  last = h.last;
-  depth = h.depth;
-  path = append p h.path;
-  stops = h.stops;
-  inside = h.inside;
-})
-between_turns p q (still g) = still (record { last = g.last; depth = g.depth; path = append p g.path })
-
-pub will_uturn : (im : Image) (p : List Symbol) (d : Bool) (m : Memory) (Q Q' : Outcome → Type 0)
-    → Will im p (not d) m Q → ((o : Outcome) → Q o → Q' (around 2 2 o)) → Will im (uturn_cells p) d m Q'
-will_uturn im p d m Q Q' r t = record {
-  will = λ f i h st.
-      let len : i + length (uturn_cells p) ≡ i + 1 + length p + 1 =
-      omega (arith, length-append p (Own (bra (between (1 + length p) 0)) ∷ [])) in
-      let y = i + 1 + length p in
-      let w : between 0 (1 + length p) ≡ between i y = between_same 0 (1 + length p) i y (omega arith) (omega arith)
-      (omega arith) (omega arith) (omega arith) in
-      let w' : between (1 + length p) 0 ≡ between y i = between_same (1 + length p) 0 y i (omega arith) (omega arith)
-      (omega arith) (omega arith) (omega arith) in
-      let hx : Has im f i (rbra (between i y)) = subst (λ z. Has im f i (rbra z)) w
-      (has im f i (rbra (between 0 (1 + length p))) st.0) in
-      let hy : Has im f y (bra (between y i)) = subst (λ z. Has im f y (bra z)) w'
-      (has im f y (bra (between (1 + length p) 0)) (rest im f (i + 1) p _ st.1).0) in
-      let e = r.will f (i + 1) (omega arith) (front im f (i + 1) p _ st.1) in
-      (around 2 2 e.0, go f i (i + length (uturn_cells p)) len h hx hy d e.0 e.1, t e.0 e.2);
-}
-  where
-    go : (f : Frame) (i b : ℕ) → b ≡ i + 1 + length p + 1 → b < 2 ^ 30
-        → Has im f i (rbra (between i (i + 1 + length p))) → Has im f (i + 1 + length p)
-        (bra (between (i + 1 + length p) i)) → (d : Bool) (o : Outcome)
-        → Ends im f (not d) (i + 1) (i + 1 + length p) (near_end (not d) (i + 1) (i + 1 + length p)) m
-        (far_end (not d) (i + 1) (i + 1 + length p)) o → Ends im f d i b (near_end d i b) m (far_end d i b)
-        (around 2 2 o)
-    go f i b l h hx hy false o e =
-        let ne : i ≢ i + 1 + length p = λ z. omega arith in
-        ends_at refl (sym l) (between_turns (turn_first im f i b i (i + 1 + length p) ne (omega arith) (omega arith)
-        (omega arith) (omega arith) (omega arith) (omega arith) hx hy m false)
-        (λ m1. turn_first im f i b i (i + 1 + length p) ne (omega arith) (omega arith) (omega arith) (omega arith)
-        (omega arith) (omega arith) hx hy m1 true) (ends_wider i b (omega arith) (omega arith) e))
-    go f i b l h hx hy true o e =
-        let ne : i ≢ i + 1 + length p = λ z. omega arith in
-        ends_at (sym l) refl (between_turns (turn_last im f i b i (i + 1 + length p) ne (omega arith) (omega arith)
-        (omega arith) (omega arith) (omega arith) (omega arith) hx hy m true)
-        (λ m1. turn_last im f i b i (i + 1 + length p) ne (omega arith) (omega arith) (omega arith) (omega arith)
-        (omega arith) (omega arith) hx hy m1 false) (ends_wider i b (omega arith) (omega arith) e))

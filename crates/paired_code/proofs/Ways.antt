@@ -4,13 +4,13 @@ use Rattle.std.proofs.Common.{length, Some, refl, ap, ◌∙◌, subst, ⊎_elim
 use Rattle.std.specs.Prelude.{ℤ}
 use Rattle.std.proofs.lemmas.Bool.Decides.{nat_tests}
 use Rattle.std.proofs.lemmas.Bool.{cases_lt}
-use Rattle.pisa_isa.specs.declared.cell.Cell.{Cell}
+use Rattle.code_conventions.specs.pisa_isa.declared.cell.Cell.{Cell}
 use Rattle.code_conventions.specs.Cells.{bra}
 use Rattle.paired_code.specs.Cells.{bgtz, bltz}
 use Rattle.paired_code.specs.declared.part.Symbol.{Symbol}
 use Rattle.paired_code.specs.declared.part.Symbol.TheVariants.{Own}
-use Rattle.pisa_isa.specs.Machine.{fetch, Memory}
-use Rattle.pisa_isa.specs.declared.machine.Stop.{Stop}
+use Rattle.code_conventions.specs.pisa_isa.Machine.{fetch, Memory}
+use Rattle.code_conventions.specs.pisa_isa.declared.machine.Stop.{Stop}
 use Rattle.paired_code.proofs.Words.{is_positive, is_negative, near, far}
 use Rattle.paired_code.specs.Machine.{Image, reg}
 use Rattle.paired_code.specs.Layout.{Frame, place, between, resolved, Stands}
@@ -20,7 +20,7 @@ use Rattle.paired_code.proofs.Paths.{append, widen, inside_wider}
 use Rattle.paired_code.proofs.Steps.{oriented, Has, Takes, calm_way, hop_way, takes_bra, takes_gt, takes_lt, calm_gt}
 use Rattle.paired_code.proofs.Steps.{calm_lt}
 
--- ---- where cells stand
+-- ---- the code addresses of cells
 
 pub front : (im : Image) (f : Frame) (i : ℕ) (p q : List Symbol) → Stands im f i (p ++ q) → Stands im f i p
 front im f i [] q h = tt
@@ -125,7 +125,7 @@ zero_negative w h = ap is_negative h
 
 -- ---- forks
 
--- both cells of a fork stand at x, and branch by w
+-- both cells of a fork are at x, and branch by w
 pub record Fork (im : Image) (f : Frame) (r x w : ℕ) : Type 0 where
   pub first : Has im f x (bgtz r w)
   pub second : Has im f (x + 1) (bltz r w)

@@ -5,18 +5,18 @@ use Rattle.std.specs.Prelude.{ℤ, pos, negsuc, slice_index, cond, count_by, IsT
 use Rattle.std.specs.List.{All}
 use Rattle.std.proofs.lemmas.List.Elements.{All-cons, All-nil}
 use Rattle.std.proofs.lemmas.List.Sums.{sum_by-append}
-use Rattle.pisa_isa.specs.declared.cell.Op.{Op}
-use Rattle.pisa_isa.specs.declared.cell.Op.TheVariants.{Start, Finish}
-use Rattle.pisa_isa.specs.declared.cell.Cell.{Cell}
-use Rattle.pisa_isa.specs.declared.machine.Stop.{Stop}
-use Rattle.pisa_isa.specs.declared.machine.Stop.TheVariants.{Finished, Returned, Trap, BadAddress, OffCode, Bound}
-use Rattle.pisa_isa.specs.Table.{IsCell}
-use Rattle.pisa_isa.specs.Machine.{State, fetch, stop, stop_in, stop_at, is_zero, next, moved, effect_at, Memory}
-use Rattle.pisa_isa.specs.Image.{is_start, is_finish, is_start_op, is_finish_op}
-use Rattle.pisa_isa.specs.Runs.{run, steps, started, unless_stop, visited, before_step, later, counted}
-use Rattle.pisa_isa.specs.Ends.{is_at_start, is_at_finish, cell_is, MeetsEndsOnce}
-use Rattle.pisa_isa.proofs.Longer.{run-steps}
-use Rattle.pisa_isa.proofs.Runs.{run-stop}
+use Rattle.code_conventions.specs.pisa_isa.declared.cell.Op.{Op}
+use Rattle.code_conventions.specs.pisa_isa.declared.cell.Op.TheVariants.{Start, Finish}
+use Rattle.code_conventions.specs.pisa_isa.declared.cell.Cell.{Cell}
+use Rattle.code_conventions.specs.pisa_isa.declared.machine.Stop.{Stop}
+use Rattle.code_conventions.specs.pisa_isa.declared.machine.Stop.TheVariants.{Finished, Returned, Trap, BadAddress, OffCode, Bound}
+use Rattle.code_conventions.specs.pisa_isa.Table.{IsCell}
+use Rattle.code_conventions.specs.pisa_isa.Machine.{State, fetch, stop, stop_in, stop_at, is_zero, next, moved, effect_at, Memory}
+use Rattle.code_conventions.specs.pisa_isa.Image.{is_start, is_finish, is_start_op, is_finish_op}
+use Rattle.code_conventions.specs.pisa_isa.Runs.{run, steps, started, unless_stop, visited, before_step, later, counted}
+use Rattle.code_conventions.specs.pisa_isa.Ends.{is_at_start, is_at_finish, cell_is, MeetsEndsOnce}
+use Rattle.code_conventions.proofs.pisa_isa_laws.Longer.{run-steps}
+use Rattle.code_conventions.proofs.pisa_isa_laws.Runs.{run-stop}
 use Rattle.code_conventions.specs.Cells.{neg, addi, bra}
 use Rattle.paired_code.specs.Cells.{swapbr, rbra, start, finish}
 use Rattle.paired_code.specs.declared.part.Symbol.{Symbol}
@@ -258,7 +258,7 @@ passes_inner code s h = record {
   finishes = λ t. let f = no_finish_at (fetch code s.pc) h in cc;
 }
 
--- for any number of steps, where it is so from the last state on
+-- for any number of steps, if it is so from the last state on
 passes_on : {code : List Cell} {k : ℕ} {s s' : State} → Clean code k s s'
     → ((j : ℕ) → All (Passes code) (visited code j s')) → (m : ℕ) → All (Passes code) (visited code m s)
 passes_on none h m = h m
@@ -267,7 +267,7 @@ passes_on {code = code} (more {k = k} {s = s} g v c) h (suc m) =
     subst (λ o. All (Passes code) (before_step o s (visited code m (next code s)))) (sym g)
     (All-cons (Passes code) s (visited code m (next code s)) (passes_inner code s v) (passes_on c h m))
 
--- and for no more steps than lead there, whatever comes behind
+-- and for no more steps than lead there, whatever comes after
 passes_within : {code : List Cell} {k : ℕ} {s s' : State} → Clean code k s s' → (m : ℕ) → m ≤ k
     → All (Passes code) (visited code m s)
 passes_within {code = code} none zero h = All-nil (Passes code)
@@ -292,7 +292,7 @@ passes_stop code s why e p (suc j) = subst (λ o. All (Passes code) (before_step
     by (Trap w) = All-cons (Passes code) s [] p (All-nil (Passes code))
     by (BadAddress a) = All-cons (Passes code) s [] p (All-nil (Passes code))
 
--- a trap, or a bad address, stands at no end
+-- a trap, or a bad address, is at no end
 chosen_none : (b : Bool) (x why : Stop) → (x ≡ why → ⊥) → (if b then Some x else None) ≡ Some why → ⊥
 chosen_none true x why n e = n (let k : x ≡ why = cc in k)
 chosen_none false x why n e = absurd (cc)
@@ -392,7 +392,7 @@ module _ (main : List Symbol) (bodies : List (List Symbol)) (small : link_size m
       → Whole im.code (1 + length main) m o
   whole m o e = record { goes = goes m o e; ends_once = ends_once m o e }
 
--- the routines of these shapes stand there
+-- the routines of these shapes are there
 shapes_placed : (im : Image) (n t : ℕ) (ss : List Shape) → AllPlaced im n t (shapes_cells ss) → (r : ℕ) → r < length ss
     → Routine im (n + r) (top_at t ss r) (cells_of_shape (shape_at ss r))
 shapes_placed im n t [] h r l = absurd (omega arith)
@@ -432,7 +432,7 @@ linked_law main bodies small = record {
       (routines_there main bodies small)) (tidy main bodies small)) g st l h;
 }
 
--- where main's run is known in some form, so is the image's
+-- if main's run is known in some form, so is the image's
 pub whole_will : (main : List Symbol) (bodies : List (List Symbol)) (im : Image) (m : Memory) (Q : Outcome → Type 0)
     → Linked main bodies im → 1 + length main < 2 ^ 30 → Will im main false m Q
     → (o : Outcome) × Whole im.code (1 + length main) m o × Q o

@@ -4,11 +4,11 @@ use Rattle.std.specs.Prelude.{ℤ, pos, negsuc, ◌+ℤ◌, neg_ℤ, not, ◌||�
 use Rattle.std.proofs.lemmas.Int.{ints}
 use Rattle.std.proofs.lemmas.Bool.Decides.{nat_tests}
 use Rattle.std.proofs.lemmas.Bool.{cases_lt}
-use Rattle.rpp_words.specs.Words.{sum_of, negated}
-use Rattle.pisa_isa.specs.Machine.{stride, place_moved, below_zero, is_zero}
+use Rattle.code_conventions.specs.rpp_words.Words.{sum_of, negated}
+use Rattle.code_conventions.specs.pisa_isa.Machine.{stride, place_moved, below_zero, is_zero}
 use Rattle.paired_code.specs.Layout.{xor, spot, between}
 
--- a number, or its negation where the direction is back
+-- a number, or its negation if the direction is back
 abbrev pub along : Bool → ℤ → ℤ
 along false z = z
 along true z = neg_ℤ z
@@ -52,7 +52,7 @@ abbrev pub toward : Bool → ℕ → ℕ → ℕ
 toward false x y = between x y
 toward true x y = between y x
 
--- a cell's offset, as it stands where the line is flipped
+-- a cell's offset, as it stands if the line is flipped
 abbrev pub flipped : Bool → ℕ → ℕ
 flipped false w = w
 flipped true w = opposite w

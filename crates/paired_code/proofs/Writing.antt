@@ -4,17 +4,17 @@ use Rattle.std.proofs.Common.{subst, arith, length-append, append_assoc, take, d
 use Rattle.std.specs.Prelude.{not, cond, nat_lt, position, count_by}
 use Rattle.std.specs.List.{All, position_or_len}
 use Rattle.std.proofs.lemmas.Bool.Decides.{nat_tests}
-use Rattle.pisa_isa.specs.declared.cell.Cell.{Cell}
+use Rattle.code_conventions.specs.pisa_isa.declared.cell.Cell.{Cell}
 use Rattle.paired_code.specs.Cells.{start, finish}
 use Rattle.paired_code.specs.declared.part.Symbol.{Symbol}
 use Rattle.paired_code.specs.Link.{places, linked, routine_code, routines_code, routines_size, first_top, link_code}
 use Rattle.paired_code.specs.Link.{link_size, Linked}
 use Rattle.paired_code.specs.Fit.{AllFit, EachFit}
 use Rattle.paired_code.specs.Code.{Code, bodies}
-use Rattle.pisa_isa.specs.declared.image.TheConstants.{MOST_CELLS}
-use Rattle.pisa_isa.specs.declared.image.SealError.{SealError}
-use Rattle.pisa_isa.specs.Table.{IsCell, IsInRange, is_one_to_one}
-use Rattle.pisa_isa.specs.Image.{is_start, is_finish, refusal_by, first_seal_refusal}
+use Rattle.code_conventions.specs.pisa_isa.declared.image.TheConstants.{MOST_CELLS}
+use Rattle.code_conventions.specs.pisa_isa.declared.image.SealError.{SealError}
+use Rattle.code_conventions.specs.pisa_isa.Table.{IsCell, IsInRange, is_one_to_one}
+use Rattle.code_conventions.specs.pisa_isa.Image.{is_start, is_finish, refusal_by, first_seal_refusal}
 use Rattle.paired_code.proofs.Linking.{length-routine, length-linked, length-link}
 use Rattle.paired_code.proofs.Whole.{linked_law, cells_all, one_start, one_finish}
 

@@ -1,8 +1,8 @@
--- The instructions of which pieces are made, beside those that all code is made of.
+-- The instructions of which fragments are made, in addition to those that all code is made of.
 use Rattle.std.specs.Prelude.{ℕ}
-use Rattle.pisa_isa.specs.declared.cell.Op.TheVariants.{Swapbr, Rbra, Beq, Bne, Bgtz, Bltz, Start}
-use Rattle.pisa_isa.specs.declared.cell.Op.TheVariants.{Finish, DataWord}
-use Rattle.pisa_isa.specs.declared.cell.Cell.{Cell}
+use Rattle.code_conventions.specs.pisa_isa.declared.cell.Op.TheVariants.{Swapbr, Rbra, Beq, Bne, Bgtz, Bltz, Start}
+use Rattle.code_conventions.specs.pisa_isa.declared.cell.Op.TheVariants.{Finish, DataWord}
+use Rattle.code_conventions.specs.pisa_isa.declared.cell.Cell.{Cell}
 use Rattle.code_conventions.specs.Cells.{with_word}
 
 abbrev pub swapbr : ℕ → Cell

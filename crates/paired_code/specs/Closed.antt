@@ -1,13 +1,13 @@
--- Closed pieces: the conditions on a run, and the four things that it then does.
+-- Closed fragments: the conditions on a run, and the four things that it then does.
 use Rattle.std.specs.Prelude.{◌≡◌, ◌≢◌, ℕ, zero, suc, ◌+◌, ◌^◌, ◌<◌, ◌≤◌, ◌⊎◌, Bool, true, false}
 use Rattle.std.specs.Prelude.{not, List, [], ◌∷◌, ◌++◌, length, ℤ}
-use Rattle.pisa_isa.specs.declared.cell.Cell.{Cell}
-use Rattle.pisa_isa.specs.Table.{IsCell}
+use Rattle.code_conventions.specs.pisa_isa.declared.cell.Cell.{Cell}
+use Rattle.code_conventions.specs.pisa_isa.Table.{IsCell}
 use Rattle.code_conventions.specs.declared.registers.TheConstants.{LINK}
 use Rattle.paired_code.specs.declared.part.Symbol.{Symbol}
 use Rattle.paired_code.specs.declared.part.Symbol.TheVariants.{Own, Enter}
-use Rattle.pisa_isa.specs.Machine.{State, Memory}
-use Rattle.pisa_isa.specs.declared.machine.Stop.TheVariants.{Trap, BadAddress}
+use Rattle.code_conventions.specs.pisa_isa.Machine.{State, Memory}
+use Rattle.code_conventions.specs.pisa_isa.declared.machine.Stop.TheVariants.{Trap, BadAddress}
 use Rattle.paired_code.specs.Machine.{Image, reg, with_reg, is_single}
 use Rattle.paired_code.specs.Layout.{xor, at, code_line, mirror_cells, branch_cells, loop_cells}
 use Rattle.paired_code.specs.Layout.{check_cells, Test, test_cells, place_register, enter_at_cells}
@@ -17,7 +17,7 @@ use Rattle.paired_code.specs.Pieces.{to_tail, to_head, near_end, far_end}
 use Rattle.paired_code.specs.Laws.{outcome_of, Passes, Fails, lead, left_in}
 use Rattle.paired_code.specs.Literal.{Comes, Stops, Stays}
 
--- how the calls made a piece
+-- how the calls made a fragment
 pub data Shape : Type 0 where
   Nothing : Shape
   One : (c : Cell) → Shape
@@ -42,7 +42,7 @@ cells_of_shape (Try t code) = test_cells t code
 cells_of_shape (Call r b) = Enter r b ∷ []
 cells_of_shape (Call_at a b) = enter_at_cells (place_register a) b
 
--- each single instruction in it may stand alone, and an image may hold it
+-- each instruction in it is single, and an image may hold it
 abbrev pub IsMade : Shape → Type 0
 IsMade (One c) = (is_single c ≡ true) × IsCell c
 IsMade (Then p q) = IsMade p × IsMade q
@@ -67,13 +67,13 @@ pub record Routines : Type 0 where
   pub top : ℕ → ℕ
   pub body : ℕ → Shape
 
--- they stand in the image
+-- they are in the image
 pub record Stand (im : Image) (rs : Routines) : Type 0 where
   pub placed : (r : ℕ) → r < rs.count → Routine im r (rs.top r) (cells_of_shape (rs.body r))
   pub made : (r : ℕ) → r < rs.count → IsMade (rs.body r)
   pub tidy : Tidy im
 
--- what is to hold of a run, where the next one is to come
+-- what is to hold for a run, if the next one is to come
 abbrev pub And_next : (Memory → ℕ → Type 0) → (Outcome → Type 0) → Outcome → Type 0
 And_next W Q (Done m k) = W m k
 And_next W Q (Trapped w k) = Q (Trapped w k)
@@ -114,7 +114,7 @@ rounds_fine r head tail (suc j) d m Q =
     × rounds_fine r head tail j d m2 (λ o. Q (after (k + to_tail d + (k2 + to_head d)) o)))
     (λ o. Q (after (k + to_tail d) o))))) Q)
 
--- the conditions on a run, with n rounds or calls, one in the other; Q is to hold of its outcome
+-- the conditions on a run, with n rounds or calls, one in the other; Q is to hold for its outcome
 abbrev pub fine_with : Routines → ℕ → (Shape → Bool → Memory → (Outcome → Type 0) → Type 0) → Shape
     → Bool → Memory → (Outcome → Type 0) → Type 0
 fine_with rs n calls Nothing d m Q = Q (Done m 0)
@@ -162,8 +162,7 @@ pub data One_of_four (im : Image) (far : ℤ) (d : Bool) (n : ℕ) (s : State) :
   stops : (a k : ℕ) → Stops im far d (BadAddress a) k 0 s → One_of_four im far d n s
   stays : Stays im far d n 0 s → One_of_four im far d n s
 
--- so a piece of this shape that stands from cell a on does one of the four, if its run meets the
--- conditions
+-- so a fragment of this shape from cell a on does one of the four, if its run meets the conditions
 abbrev pub Closed : Image → Shape → ℕ → Bool → Memory → ℕ → Type 0
 Closed im s a d m n =
     let b = a + length (cells_of_shape s) in

@@ -1,8 +1,8 @@
--- What a piece is: its cells and its marks; and how the calls put them together.
+-- What a fragment is: its cells and its marks; and how the calls put them together.
 use Rattle.std.specs.Prelude.{ℕ, ◌+◌, ◌-◌, ◌≤◌, List, [], ◌∷◌, ◌++◌, length, take, drop}
 use Rattle.paired_code.specs.declared.part.Symbol.{Symbol}
-use Rattle.pisa_isa.specs.declared.notes.TheConstants.{LAST_PLACE}
-use Rattle.pisa_isa.specs.declared.notes.Mark.{Mark}
+use Rattle.code_conventions.specs.pisa_isa.declared.notes.TheConstants.{LAST_PLACE}
+use Rattle.code_conventions.specs.pisa_isa.declared.notes.Mark.{Mark}
 use Rattle.paired_code.specs.Layout.{branch_cells, loop_cells}
 use Rattle.paired_code.specs.Fit.{AllFit}
 
@@ -15,7 +15,7 @@ abbrev pub AllWithin : ℕ → List Mark → Type 0
 AllWithin n [] = Unit {0}
 AllWithin n (k ∷ ks) = (k.first ≤ k.end) × ((k.end ≤ n) × (k.at ≤ LAST_PLACE)) × AllWithin n ks
 
--- what each piece keeps: cells each of which an image may hold, and marks on them
+-- what each fragment keeps: cells each of which an image may hold, and marks on them
 pub record Kept (cells : List Symbol) (marks : List Mark) : Type 0 where
   pub fit : AllFit cells
   pub within : AllWithin (length cells) marks
@@ -54,7 +54,7 @@ marked_code at p = record {
   marks = p.marks ++ record { first = 0; end = length p.cells; at = at } ∷ [];
 }
 
--- the cells alone, of each
+-- only the cells, of each
 abbrev pub bodies : List Code → List (List Symbol)
 bodies [] = []
 bodies (c ∷ cs) = c.cells ∷ bodies cs
@@ -75,23 +75,23 @@ parts c = marked_parts c.cells c.marks
 
 -- ---- the marks of an image that is linked of them
 
--- those of the routines, of which the first has its top at t: each body stands three cells behind
+-- those of the routines, of which the first has its top at t: each body begins three cells after
 -- its routine's top
 abbrev pub routine_marks : ℕ → List Code → List Mark
 routine_marks t [] = []
 routine_marks t (b ∷ bs) = shift (t + 1 + 1 + 1) b.marks
     ++ routine_marks (t + 1 + 1 + 1 + length b.cells + 1) bs
 
--- main stands from cell 1 on, and the routines behind FINISH
+-- main begins at cell 1, and the routines after FINISH
 abbrev pub link_marks : Code → List Code → List Mark
 link_marks main routines = shift 1 main.marks ++ routine_marks (1 + length main.cells + 1) routines
 
--- how many marks pieces have together
+-- how many marks fragments have together
 abbrev pub marks_size : List Code → ℕ
 marks_size [] = 0
 marks_size (b ∷ bs) = length b.marks + marks_size bs
 
--- the marks of each piece are ranges of its cells
+-- the marks of each fragment are ranges of its cells
 abbrev pub EachWithin : List Code → Type 0
 EachWithin [] = Unit {0}
 EachWithin (b ∷ bs) = AllWithin (length b.cells) b.marks × EachWithin bs

@@ -1,7 +1,7 @@
--- How a run of a piece meets what the source says.
+-- How a run of a fragment meets what the source says.
 use Rattle.std.specs.Prelude.{ℕ, zero, suc, ◌+◌, ◌-◌, ◌*◌, ◌≤◌, Bool, true, false, List, [], ◌∷◌}
 use Rattle.std.specs.Prelude.{◌++◌}
-use Rattle.pisa_isa.specs.Machine.{Memory}
+use Rattle.code_conventions.specs.pisa_isa.Machine.{Memory}
 use Rattle.paired_code.specs.declared.part.Symbol.{Symbol}
 use Rattle.paired_code.specs.Machine.{Image}
 use Rattle.paired_code.specs.Layout.{xor}
@@ -24,12 +24,12 @@ told_then (Fine a c) g = plus c (g c a)
 told_then (Fault w c) g = Fault w c
 told_then More g = More
 
--- a count of 1, where there is fuel for it
+-- a count of 1, if there is fuel for it
 abbrev pub ticked : {A : Type 0} → ℕ → (ℕ → Told A) → Told A
 ticked zero g = More
 ticked (suc n) g = plus 1 (g n)
 
--- how much a step may stand for at most, and how many steps come with a count at most
+-- how much a step may be worth at most, and how many steps come with a cost unit at most
 pub record Rates : Type 0 where
   pub counts : ℕ
   pub steps : ℕ
@@ -42,12 +42,12 @@ pub data Meets {A : Type 0} (R : A → Memory → Type 0) (b : Rates) (n x : ℕ
   faults : {w c k : ℕ} → k ≤ b.steps * c + x → Meets R b n x (Fault w c) (Trapped w k)
   more : {k : ℕ} → n ≤ b.counts * (k + 1) → Meets R b n x More (Still k)
 
--- from each related memory, the piece does what the source says
+-- from each related memory, the fragment does what the source says
 pub record Does {A B : Type 0} (im : Image) (p : List Symbol) (d : Bool) (R : A → Memory → Type 0)
     (R' : B → Memory → Type 0) (b : Rates) (n x : ℕ) (f : A → Told B) : Type 0 where
   pub does : (a : A) (m : Memory) → R a m → Will im p d m (Meets R' b n x (f a))
 
--- pieces in the order in which they are run
+-- fragments in the order in which they are run
 abbrev pub in_order : Bool → List (List Symbol) → List Symbol
 in_order d [] = []
 in_order false (p ∷ ps) = p ++ in_order false ps
@@ -64,7 +64,7 @@ abbrev pub chosen : {A : Type 0} → Bool → Told A → Told A → Told A
 chosen true s t = s
 chosen false s t = t
 
--- a fault, where the tests before and after differ
+-- a fault, if the tests before and after differ
 abbrev pub agreed : {A : Type 0} → Bool → A → Told A
 agreed true a = Fault 1 0
 agreed false a = Fine a 0

@@ -1,11 +1,11 @@
--- The laws of the pieces, as contracts state them.
+-- The laws of the fragments, as contracts state them.
 use Rattle.std.specs.Prelude.{◌≡◌, ◌≢◌, ℕ, ◌+◌, ◌^◌, ◌<◌, ◌≤◌, Bool, true, false, not, List, length}
 use Rattle.std.specs.Prelude.{if◌then◌else◌, pos}
-use Rattle.pisa_isa.specs.declared.cell.Cell.{Cell}
+use Rattle.code_conventions.specs.pisa_isa.declared.cell.Cell.{Cell}
 use Rattle.code_conventions.specs.declared.registers.TheConstants.{LINK}
 use Rattle.paired_code.specs.declared.part.Symbol.{Symbol}
-use Rattle.rpp_words.specs.Words.{difference_of, is_less}
-use Rattle.pisa_isa.specs.Machine.{has_cell, Memory}
+use Rattle.code_conventions.specs.rpp_words.Words.{difference_of, is_less}
+use Rattle.code_conventions.specs.pisa_isa.Machine.{has_cell, Memory}
 use Rattle.paired_code.specs.Machine.{state, Image, reg, with_reg, effect_along}
 use Rattle.paired_code.specs.Layout.{xor, Frame, Stands, Routine, Tidy, Test, Equal, Differ, Positive}
 use Rattle.paired_code.specs.Pieces.{Outcome, Done, Trapped, Bad, Still, Ends, near_end, far_end}
@@ -28,14 +28,14 @@ pub record MirrorLaw (p all : List Symbol) : Type 0 where
   pub returns : (im : Image) (d : Bool) (m : Memory) (o : Outcome) → Runs im all d m o
       → Runs im p (not d) m o
 
--- all is p where the register is not 0, and else q
+-- all is p if the register is not 0, and else q
 pub record BranchLaw (r : ℕ) (p q all : List Symbol) : Type 0 where
   pub yes_part : (im : Image) (d : Bool) (m : Memory) (o : Outcome) → reg m r ≢ 0 → Runs im p d m o
       → ((m1 : Memory) (k : ℕ) → o ≡ Done m1 k → reg m1 r ≢ 0) → Runs im all d m (around 3 3 o)
   pub no_part : (im : Image) (d : Bool) (m : Memory) (o : Outcome) → reg m r ≡ 0 → Runs im q d m o
       → ((m1 : Memory) (k : ℕ) → o ≡ Done m1 k → reg m1 r ≡ 0) → Runs im all d m (around_no d o)
 
--- one step, by the cell's effect in the direction; or no step, where EXCH has a bad address
+-- one step, by the cell's effect in the direction; or no step, if EXCH has a bad address
 abbrev pub outcome_of : Bool → Cell → Memory → Outcome
 outcome_of d c m = if has_cell c.op c.b (state (pos 0) 0 false m) then Done (effect_along d c m) 1
     else Bad (reg m c.b) 0
@@ -47,7 +47,7 @@ PlainLaw c all = (im : Image) (d : Bool) (m : Memory) → Runs im all d m (outco
 abbrev pub EmptyLaw : List Symbol → Type 0
 EmptyLaw all = (im : Image) (d : Bool) (m : Memory) → Runs im all d m (Done m 0)
 
--- a stop with the code exactly where the register is not 0
+-- a stop with the code exactly if the register is not 0
 pub record CheckLaw (r code : ℕ) (all : List Symbol) : Type 0 where
   pub zero_part : (im : Image) (d : Bool) (m : Memory) → reg m r ≡ 0 → Runs im all d m (Done m 4)
   pub other_part : (im : Image) (d : Bool) (m : Memory) → reg m r ≢ 0 → (k : ℕ) × (k ≤ 4)
@@ -63,13 +63,13 @@ Fails (Equal r s) m = reg m r ≢ reg m s
 Fails (Differ r s) m = reg m r ≡ reg m s
 Fails (Positive r) m = is_less 0 (reg m r) ≡ false
 
--- a stop with the code exactly where the test fails
+-- a stop with the code exactly if the test fails
 pub record TestLaw (t : Test) (code : ℕ) (all : List Symbol) : Type 0 where
   pub passes_part : (im : Image) (d : Bool) (m : Memory) → Passes t m → Runs im all d m (Done m 2)
   pub fails_part : (im : Image) (d : Bool) (m : Memory) → Fails t m
       → Runs im all d m (Trapped code 1)
 
--- what a body's run makes of a call, where it leaves LINK as it found it: w
+-- what a body's run makes of a call, if it leaves LINK as it found it: w
 abbrev pub came_back : ℕ → Outcome → Type 0
 came_back w (Done m k) = reg m LINK ≡ w
 came_back w o = Unit {0}
@@ -96,8 +96,8 @@ pub record EnterLaw (r : ℕ) (b : Bool) (all : List Symbol) : Type 0 where
       × Ends im f d i (i + length all) (near_end d i (i + length all)) m
       (far_end d i (i + length all)) (called (xor b d) (o w))
 
--- what a call by a register leaves in LINK, where the body left v in the register in place of s: 0
--- where they are one
+-- what a call by a register leaves in LINK, if the body left v in the register in place of s: 0
+-- if they are one
 abbrev pub left_in : Bool → ℕ → ℕ → ℕ
 left_in false v s = difference_of v s
 left_in true v s = difference_of s v

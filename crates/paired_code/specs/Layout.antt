@@ -1,22 +1,22 @@
--- Where a piece stands in the code, either way round.
+-- The position of a fragment in the code, in either direction.
 use Rattle.std.specs.Prelude.{◌≡◌, ℕ, ◌+◌, ◌-◌, ◌%◌, ◌^◌, ◌<◌, Bool, true, false, not, List, []}
 use Rattle.std.specs.Prelude.{◌∷◌, ◌++◌, length, Some, slice_index, nat_eq, if◌then◌else◌, ℤ, pos}
 use Rattle.std.specs.Prelude.{negsuc, ◌+ℤ◌, ◌-ℤ◌}
-use Rattle.pisa_isa.specs.declared.cell.Cell.{Cell}
+use Rattle.code_conventions.specs.pisa_isa.declared.cell.Cell.{Cell}
 use Rattle.code_conventions.specs.Cells.{add, neg, addi, bra}
 use Rattle.code_conventions.specs.declared.registers.TheConstants.{LINK}
 use Rattle.paired_code.specs.Cells.{swapbr, rbra, beq, bne, bgtz, bltz, data_word}
 use Rattle.paired_code.specs.declared.part.Symbol.{Symbol}
 use Rattle.paired_code.specs.declared.part.Symbol.TheVariants.{Own, Enter, Fixed, Aim, Turn}
-use Rattle.rpp_words.specs.Words.{negated}
-use Rattle.pisa_isa.specs.Machine.{State, fetch, Memory}
+use Rattle.code_conventions.specs.rpp_words.Words.{negated}
+use Rattle.code_conventions.specs.pisa_isa.Machine.{State, fetch, Memory}
 use Rattle.paired_code.specs.Machine.{state, Image, is_routine, reversed}
 
 abbrev pub xor : Bool → Bool → Bool
 xor false b = b
 xor true b = not b
 
--- A line of places: cell i is at base + i, or at base - i - 1 where the line is flipped.
+-- A line of places: cell i is at base + i, or at base - i - 1 if the line is flipped.
 pub record Frame : Type 0 where
   pub flip : Bool
   pub base : ℤ
@@ -54,7 +54,7 @@ abbrev pub six : Bool → ℕ
 six false = between 0 6
 six true = between 6 0
 
--- the cell that stands at a place for a cell of a piece
+-- the cell at a code address for a cell of a fragment
 abbrev pub base : List ℕ → ℤ → Symbol → Cell
 base rs p (Own c) = c
 base rs p (Enter r false) = bra (offset_to (slice_index rs r) p)
@@ -65,7 +65,7 @@ base rs p (Turn k b false) = addi LINK 0
 base rs p (Turn false b true) = bra (six b)
 base rs p (Turn true b true) = rbra (six b)
 
--- the same where the piece is run the other way
+-- the same if the fragment is run the other way
 abbrev pub inverse_sym : Symbol → Symbol
 inverse_sym (Own c) = Own (reversed c)
 inverse_sym (Enter r b) = Enter r (not b)
@@ -73,12 +73,12 @@ inverse_sym (Fixed c) = Fixed c
 inverse_sym (Aim b) = Aim (not b)
 inverse_sym (Turn k b on) = Turn k (not b) (not on)
 
--- by whether the piece is flipped
+-- by whether the fragment is flipped
 abbrev pub resolved : Image → Bool → ℤ → Symbol → Cell
 resolved im false p c = base im.routines p c
 resolved im true p c = base im.routines p (inverse_sym c)
 
--- these cells stand along the line from cell i on
+-- these cells are along the line from cell i on
 abbrev pub Stands : Image → Frame → ℕ → List Symbol → Type 0
 Stands im f i [] = Unit {0}
 Stands im f i (c ∷ p) = (fetch im.code (place f i) ≡ Some (resolved im f.flip (place f i) c))
@@ -88,7 +88,7 @@ abbrev pub mirror_cells : List Symbol → List Symbol
 mirror_cells [] = []
 mirror_cells (c ∷ p) = mirror_cells p ++ inverse_sym c ∷ []
 
--- two branches by one offset, of which one is taken where the register is not 0
+-- two branches by one offset, of which one is taken if the register is not 0
 abbrev pub fork : ℕ → ℕ → List Symbol → List Symbol
 fork r w p = Own (bgtz r w) ∷ Own (bltz r w) ∷ p
 
@@ -121,7 +121,7 @@ pub data Test : Type 0 where
   Differ : (r s : ℕ) → Test
   Positive : (r : ℕ) → Test
 
--- the branch that is taken where the test passes
+-- the branch that is taken if the test passes
 abbrev pub branch_of : Test → ℕ → Cell
 branch_of (Equal r s) o = beq r s o
 branch_of (Differ r s) o = bne r s o
@@ -146,7 +146,7 @@ check_positive_cells r code = test_cells (Positive r) code
 abbrev pub place_register : ℕ → ℕ
 place_register a = if nat_eq a LINK then 3 else a
 
--- turn; add; aim; swap; aim; add; turn: a call of the routine whose code place is in the register
+-- turn; add; aim; swap; aim; add; turn: a call of the routine whose code address is in the register
 abbrev pub enter_at_cells : ℕ → Bool → List Symbol
 enter_at_cells a b =
     Turn true false b ∷ Fixed (add LINK a) ∷ Aim false ∷ Fixed (swapbr LINK) ∷ Aim true

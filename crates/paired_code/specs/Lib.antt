@@ -1,3 +1,6 @@
+pub use Rattle.code_conventions.specs.rpp_words
+pub use Rattle.code_conventions.specs.pisa_isa
+pub use Rattle.code_conventions.specs as code_conventions
 pub mod Cells
 pub mod Machine
 pub mod Layout

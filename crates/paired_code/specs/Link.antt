@@ -1,12 +1,12 @@
--- What `link` writes, and what is known of it.
+-- What `link` writes, and what holds for it.
 use Rattle.std.specs.Prelude.{◌≡◌, ℕ, ◌+◌, ◌^◌, ◌<◌, ◌≤◌, Bool, List, [], ◌∷◌, ◌++◌, length, Some}
 use Rattle.std.specs.Prelude.{false, pos, slice_index}
-use Rattle.pisa_isa.specs.declared.cell.Cell.{Cell}
-use Rattle.pisa_isa.specs.declared.machine.Stop.{Stop}
-use Rattle.pisa_isa.specs.declared.machine.Stop.TheVariants.{Finished, Trap, BadAddress}
-use Rattle.pisa_isa.specs.Machine.{State, Memory}
-use Rattle.pisa_isa.specs.Runs.{run, steps, started}
-use Rattle.pisa_isa.specs.Ends.{MeetsEndsOnce}
+use Rattle.code_conventions.specs.pisa_isa.declared.cell.Cell.{Cell}
+use Rattle.code_conventions.specs.pisa_isa.declared.machine.Stop.{Stop}
+use Rattle.code_conventions.specs.pisa_isa.declared.machine.Stop.TheVariants.{Finished, Trap, BadAddress}
+use Rattle.code_conventions.specs.pisa_isa.Machine.{State, Memory}
+use Rattle.code_conventions.specs.pisa_isa.Runs.{run, steps, started}
+use Rattle.code_conventions.specs.pisa_isa.Ends.{MeetsEndsOnce}
 use Rattle.code_conventions.specs.Cells.{neg, bra}
 use Rattle.code_conventions.specs.declared.registers.TheConstants.{LINK}
 use Rattle.paired_code.specs.Cells.{swapbr, start, finish}
@@ -27,7 +27,7 @@ abbrev pub places : ℕ → List (List Symbol) → List ℕ
 places t [] = []
 places t (b ∷ bs) = (t + 1) ∷ places (t + 1 + 1 + 1 + length b + 1) bs
 
--- a piece's cells from place a on
+-- a fragment's cells from place a on
 abbrev pub linked : List ℕ → ℕ → List Symbol → List Cell
 linked rs a [] = []
 linked rs a (c ∷ p) = base rs (pos a) c ∷ linked rs (a + 1) p
@@ -65,12 +65,12 @@ routines_size (b ∷ bs) = length b + 4 + routines_size bs
 abbrev pub link_size : List Symbol → List (List Symbol) → ℕ
 link_size main bodies = length main + 2 + routines_size bodies
 
--- a static word, where the routines have these places
+-- a static word, if the routines have these places
 abbrev pub static_word : List ℕ → StaticWord → ℕ
 static_word places (Word w) = w
 static_word places (RoutinePlace r) = slice_index places r
 
--- ---- what stands in it
+-- ---- what is in it
 
 -- the routines from number n on, the first with its top at t
 abbrev pub AllPlaced : Image → ℕ → ℕ → List (List Symbol) → Type 0
@@ -85,7 +85,7 @@ abbrev pub StopsAfter : List Cell → Memory → ℕ → Stop → State → Type
 StopsAfter code m k why s = (j : ℕ) → run code (k + j) (started code m.regs m.cells)
     ≡ record { why = why; spent = k; last = s }
 
--- the run of the image, where main's piece goes so: the step at START and the stop are counted too
+-- the run of the image, if main's fragment goes so: the step at START and the stop are counted too
 abbrev pub GoesSo : List Cell → ℕ → Memory → Outcome → Type 0
 GoesSo code last m (Done m' k) = StopsAfter code m (k + 2) Finished (state (pos last) 0 false m')
 GoesSo code last m (Trapped w k) = (s : State) × StopsAfter code m (k + 2) (Trap w) s
@@ -93,7 +93,7 @@ GoesSo code last m (Bad a k) = (s : State) × StopsAfter code m (k + 2) (BadAddr
 GoesSo code last m (Still k) = (s : State) × (steps code (k + 1) (started code m.regs m.cells)
     ≡ Some s)
 
--- whether an outcome tells of so many steps: of a piece that goes on, those that it has gone
+-- whether an outcome allows so many steps: for a fragment that goes on, those that it has gone
 abbrev pub IsToldBy : Outcome → ℕ → Type 0
 IsToldBy (Still k) n = n ≤ k + 1
 IsToldBy _ n = Unit {0}
@@ -103,7 +103,7 @@ pub record Whole (code : List Cell) (last : ℕ) (m : Memory) (o : Outcome) : Ty
   pub goes : GoesSo code last m o
   pub ends_once : (n : ℕ) → IsToldBy o n → MeetsEndsOnce code n (started code m.regs m.cells)
 
--- all that is known of an image that is linked of these
+-- all that holds for an image that is linked of these
 pub record Linked (main : List Symbol) (bodies : List (List Symbol)) (im : Image) : Type 0 where
   pub main_there : Stands im code_line 1 main
   pub routines_there : AllPlaced im 0 (first_top main) bodies

@@ -1,11 +1,11 @@
--- What a piece does, in the words of the machine alone.
+-- What a fragment does, only in terms of the machine.
 use Rattle.std.specs.Prelude.{◌≡◌, ℕ, zero, suc, ◌+◌, ◌-◌, ◌^◌, ◌<◌, Bool, List, length, Option}
 use Rattle.std.specs.Prelude.{Some, None, ℤ}
-use Rattle.pisa_isa.specs.declared.cell.Cell.{Cell}
+use Rattle.code_conventions.specs.pisa_isa.declared.cell.Cell.{Cell}
 use Rattle.paired_code.specs.declared.part.Symbol.{Symbol}
-use Rattle.pisa_isa.specs.Machine.{State, stop, next, fetch, Memory, memory_of}
-use Rattle.pisa_isa.specs.declared.machine.Stop.{Stop}
-use Rattle.pisa_isa.specs.declared.machine.Stop.TheVariants.{Trap, BadAddress}
+use Rattle.code_conventions.specs.pisa_isa.Machine.{State, stop, next, fetch, Memory, memory_of}
+use Rattle.code_conventions.specs.pisa_isa.declared.machine.Stop.{Stop}
+use Rattle.code_conventions.specs.pisa_isa.declared.machine.Stop.TheVariants.{Trap, BadAddress}
 use Rattle.paired_code.specs.Machine.{Image, change, Change, Same, Enters, Leaves}
 use Rattle.paired_code.specs.Layout.{at, code_line, Stands}
 use Rattle.paired_code.specs.Pieces.{Outcome, Done, Trapped, Bad, Still, Runs, near_end, far_end}
@@ -46,7 +46,7 @@ Stays im far back zero e s = Unit {0}
 Stays im far back (suc k) e s = (¬ Coming far back e s) × (stop im.code s ≡ None)
     × Stays im far back k (opened (change_at im.routines (fetch im.code s.pc) s) e) (next im.code s)
 
--- the piece, from code cell a on, goes from memory m to m' in the direction d in k steps
+-- the fragment, from code cell a on, goes from memory m to m' in the direction d in k steps
 abbrev pub Goes : Image → ℕ → List Symbol → Bool → Memory → Memory → ℕ → Type 0
 Goes im a p d m m' k = Comes im (at code_line d (far_end d a (a + length p)) m).pc d k 0
     (at code_line d (near_end d a (a + length p)) m) m'
@@ -63,15 +63,15 @@ abbrev pub Goes_on_for : Image → ℕ → List Symbol → Bool → Memory → �
 Goes_on_for im a p d m k = Stays im (at code_line d (far_end d a (a + length p)) m).pc d k 0
     (at code_line d (near_end d a (a + length p)) m)
 
--- an outcome of the piece that stands from code cell a on, in these words
+-- an outcome of the fragment from code cell a on, in these terms
 abbrev pub Said : Image → ℕ → List Symbol → Bool → Memory → Outcome → Type 0
 Said im a p d m (Done m' k) = Goes im a p d m m' k
 Said im a p d m (Trapped w k) = Traps im a p d m w k
 Said im a p d m (Bad w k) = Fails im a p d m w k
 Said im a p d m (Still k) = Goes_on_for im a p d m k
 
--- what the laws say of a piece's run is so in the words of the machine, wherever the piece stands
--- in the code
+-- what the laws say of a fragment's run holds in terms of the machine, wherever the fragment is in
+-- the code
 abbrev pub InWords : Image → Type 0
 InWords im = (p : List Symbol) (a : ℕ) (d : Bool) (m : Memory) (o : Outcome)
     → Stands im code_line a p → a + length p < 2 ^ 30 → Runs im p d m o → Said im a p d m o

@@ -1,12 +1,12 @@
--- The machine as pieces see it: its memory, what one cell does, and which routines are open.
+-- The machine as fragments see it: its memory, what one cell does, and which routines are open.
 use Rattle.std.specs.Prelude.{ℕ, suc, ◌^◌, Bool, true, false, List, [], ◌∷◌, nat_eq, nat_lt}
 use Rattle.std.specs.Prelude.{if◌then◌else◌, slice_index, slice_set, ℤ, pos, negsuc}
-use Rattle.pisa_isa.specs.declared.cell.Op.{Op}
-use Rattle.pisa_isa.specs.declared.cell.Op.TheVariants.{Swapbr, Bra, Rbra, Beq, Bne, Bgez, Bgtz}
-use Rattle.pisa_isa.specs.declared.cell.Op.TheVariants.{Blez, Bltz, Start, Finish, DataWord}
-use Rattle.pisa_isa.specs.declared.cell.Cell.{Cell}
-use Rattle.pisa_isa.specs.Table.{inverse_op, inverse_word}
-use Rattle.pisa_isa.specs.Machine.{State, row_of, faced, effect, moved, is_zero, Memory, memory_of}
+use Rattle.code_conventions.specs.pisa_isa.declared.cell.Op.{Op}
+use Rattle.code_conventions.specs.pisa_isa.declared.cell.Op.TheVariants.{Swapbr, Bra, Rbra, Beq, Bne, Bgez, Bgtz}
+use Rattle.code_conventions.specs.pisa_isa.declared.cell.Op.TheVariants.{Blez, Bltz, Start, Finish, DataWord}
+use Rattle.code_conventions.specs.pisa_isa.declared.cell.Cell.{Cell}
+use Rattle.code_conventions.specs.pisa_isa.Table.{inverse_op, inverse_word}
+use Rattle.code_conventions.specs.pisa_isa.Machine.{State, row_of, faced, effect, moved, is_zero, Memory, memory_of}
 
 abbrev pub reg : Memory → ℕ → ℕ
 reg m d = slice_index m.regs d
@@ -82,7 +82,7 @@ pub data Change : Type 0 where
   Enters : Change
   Leaves : Change
 
--- a routine is entered where its SWAPBR leaves the branch register 0, and else left
+-- a routine is entered if its SWAPBR leaves the branch register 0, and else left
 abbrev pub swap_change : List ℕ → ℕ → State → Change
 swap_change rs d s = if is_routine rs s.pc
     then (if is_zero (slice_index s.regs d) then Enters else Leaves) else Same

@@ -1,11 +1,11 @@
--- What a piece does.
+-- What a fragment does.
 use Rattle.std.specs.Prelude.{◌≡◌, ℕ, suc, ◌+◌, ◌^◌, ◌<◌, ◌≤◌, Bool, true, false, List, length}
 use Rattle.std.specs.Prelude.{Some, None, ℤ}
-use Rattle.pisa_isa.specs.declared.cell.Cell.{Cell}
+use Rattle.code_conventions.specs.pisa_isa.declared.cell.Cell.{Cell}
 use Rattle.paired_code.specs.declared.part.Symbol.{Symbol}
-use Rattle.pisa_isa.specs.Machine.{State, fetch, stop_at, stop, Memory}
-use Rattle.pisa_isa.specs.declared.machine.Stop.{Stop}
-use Rattle.pisa_isa.specs.declared.machine.Stop.TheVariants.{Trap, BadAddress}
+use Rattle.code_conventions.specs.pisa_isa.Machine.{State, fetch, stop_at, stop, Memory}
+use Rattle.code_conventions.specs.pisa_isa.declared.machine.Stop.{Stop}
+use Rattle.code_conventions.specs.pisa_isa.declared.machine.Stop.TheVariants.{Trap, BadAddress}
 use Rattle.paired_code.specs.Machine.{Image, act, change, is_end, Level}
 use Rattle.paired_code.specs.Layout.{Frame, place, at, Stands}
 
@@ -23,7 +23,7 @@ pub data Path (im : Image) (f : Frame) (a b : ℕ) : ℕ → ℕ → State → �
       → Level (change im.routines c s) e e1 → Path im f a b k e1 (act c s) e' s'
       → Path im f a b (suc k) e s e' s'
 
--- how a run of a piece goes, with its number of steps
+-- how a run of a fragment goes, with its number of steps
 pub data Outcome : Type 0 where
   Done : (m : Memory) (k : ℕ) → Outcome
   Trapped : (w k : ℕ) → Outcome
@@ -58,7 +58,7 @@ pub record Goes_on (im : Image) (f : Frame) (d : Bool) (a b k i : ℕ) (m : Memo
   pub depth : ℕ
   pub path : Path im f a b k 0 (at f d i m) depth last
 
--- from gap i, a run inside the cells from a to b goes so, and where it leaves, it leaves at gap j
+-- from gap i, a run inside the cells from a to b goes so, and if it leaves, it leaves at gap j
 pub data Ends (im : Image) (f : Frame) (d : Bool) (a b i : ℕ) (m : Memory) (j : ℕ) : Outcome
     → Type 0 where
   finishes : {m' : Memory} {k : ℕ} → Way im f d a b k i m j m' → Ends im f d a b i m j (Done m' k)
@@ -66,12 +66,13 @@ pub data Ends (im : Image) (f : Frame) (d : Bool) (a b i : ℕ) (m : Memory) (j 
   bad : {w k : ℕ} → Halts im f d a b k i m (BadAddress w) → Ends im f d a b i m j (Bad w k)
   still : {k : ℕ} → Goes_on im f d a b k i m → Ends im f d a b i m j (Still k)
 
--- the piece, wherever it stands, run along or back from this memory goes so
+-- the fragment, at any code address, run forward or backward from this memory, has this outcome
 pub record Runs (im : Image) (p : List Symbol) (d : Bool) (m : Memory) (o : Outcome) : Type 0 where
   pub run : (f : Frame) (i : ℕ) → i + length p < 2 ^ 30 → Stands im f i p
       → Ends im f d i (i + length p) (near_end d i (i + length p)) m (far_end d i (i + length p)) o
 
--- wherever the piece stands, run along or back from this memory, it goes in one of these ways
+-- the fragment, at any code address, run forward or backward from this memory, has one of these
+-- outcomes
 pub record Will (im : Image) (p : List Symbol) (d : Bool) (m : Memory)
     (Q : Outcome → Type 0) : Type 0 where
   pub will : (f : Frame) (i : ℕ) → i + length p < 2 ^ 30 → Stands im f i p → (o : Outcome)
@@ -112,7 +113,7 @@ abbrev pub to_head : Bool → ℕ
 to_head false = 2
 to_head true = 4
 
--- how many steps stand before and after the part that is run where the register is 0
+-- how many steps come before and after the part that is run if the register is 0
 abbrev pub around_no : Bool → Outcome → Outcome
 around_no false o = around 2 4 o
 around_no true o = around 4 2 o

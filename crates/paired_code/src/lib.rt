@@ -1,7 +1,7 @@
-//! Closed pieces of reversible machine code: entered at one end they leave at the other, trap, stop
-//! at a bad address, or never leave, in either direction. They are put together by calls whose
-//! contracts say which cells they make and what the cells do, and where their marks are. `link` makes
-//! an image of them, with all marks.
+//! Closed fragments of reversible machine code. Entered at one end they leave at the other, trap,
+//! stop at a bad address, or never leave, in either direction. The contracts of the calls that make
+//! and join them say which cells there are, what the cells do, and where their marks are. `link`
+//! makes an image of them, with all marks.
 #![tactic(auto)]
 
 mod marking;

@@ -1,4 +1,4 @@
-// The marks of an image, from those of the pieces that it is linked of.
+// The marks of an image, from those of the fragments that it is linked of.
 
 ghost use Rattle.std.specs.Prelude.{◌≡◌, ◌+◌, ◌^◌, ◌<◌, ◌≤◌, ◌++◌, length, IfOk, OnOk};
 ghost use Rattle.std.specs.List.Sorted.{IsPermutation, IsNonDecreasingBy};
@@ -11,7 +11,7 @@ use pisa_isa::{MOST_CELLS, Mark};
 use rpp_words::NoMemory;
 use std::alloc::Global;
 
-/// The marks of the pieces on the cells of the image, in ascending order of their places.
+/// The marks of the fragments on the cells of the image, in ascending order of their places.
 pub(crate) fn marks_of(
     alloc: Global,
     main: &Piece,

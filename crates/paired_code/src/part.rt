@@ -1,9 +1,9 @@
-// The cells of a piece before its place and its routines' places are known.
+// The cells of a fragment before its place and its routines' places are known.
 use pisa_isa::Cell;
 
-/// A cell of a piece: an instruction of its own, a call of a routine by its number, or a part of a
-/// call by a register: an instruction that is the same either way, one that takes its neighbour's
-/// place from `$2`, or half of a turn.
+/// A cell of a fragment: an instruction of its own, a call of a routine by its number, or a part of
+/// a call by a register. Such a part is the same in both directions, takes its neighbour's code
+/// address from `$2`, or is half of a turn.
 #[derive(Clone, Copy, PartialEq, Eq, Debug)]
 pub enum Symbol {
     Own(Cell),
@@ -13,7 +13,7 @@ pub enum Symbol {
     Turn(bool, bool, bool),
 }
 
-/// A static word of an image: itself, or the code place of a routine.
+/// A static word of an image: itself, or the code address of a routine.
 #[derive(Clone, Copy, PartialEq, Eq, Debug)]
 pub enum StaticWord {
     Word(u32),

@@ -1,7 +1,7 @@
-// A piece, and the calls that put pieces together.
+// A fragment, and the calls that put fragments together.
 
 ghost use Rattle.std.specs.Prelude.{◌≡◌, ◌≢◌, ℕ, ◌+◌, ◌-◌, ◌%◌, ◌^◌, ◌<◌, ◌≤◌, IsTrue, List, [], ◌∷◌, ◌++◌, length, map, reverse, IfOk, OnOk};
-ghost use Rattle.pisa_isa.specs.Table.{IsCell};
+ghost use Rattle.code_conventions.specs.pisa_isa.Table.{IsCell};
 ghost use Rattle.code_conventions.specs.Cells.{bra};
 ghost use Rattle.paired_code.specs.Cells.{swapbr, beq, bne, bgtz, bltz, data_word};
 ghost use Rattle.paired_code.specs.Machine.{reversed, is_single};
@@ -65,7 +65,7 @@ pub fn seq(first: Piece, second: Piece) -> Result<Piece, NoMemory>
     Ok(sealed(cells, marks))
 }
 
-/// Runs `yes` where the flag is not 0, else `no`; neither may leave another value in it.
+/// Runs `yes` if the flag is not 0, else `no`; neither may leave another value in it.
 pub fn branch_if(alloc: Global, flag: u8, yes: Piece, no: Piece) -> Result<Piece, NoMemory>
     requires { flag < 32 }
     ensures code { IfOk result (λ p. p ≡ branch_code flag yes no) }
@@ -80,7 +80,7 @@ pub fn branch_if(alloc: Global, flag: u8, yes: Piece, no: Piece) -> Result<Piece
     Ok(sealed(cells, marks))
 }
 
-/// Entered with the flag not 0: runs `head` and leaves where the flag is not 0, else runs `tail`,
+/// Entered with the flag not 0: runs `head` and leaves if the flag is not 0, else runs `tail`,
 /// which keeps the flag, and begins again at `head`.
 pub fn turn_while(alloc: Global, flag: u8, head: Piece, tail: Piece) -> Result<Piece, NoMemory>
     requires { flag < 32 }
@@ -108,7 +108,7 @@ pub fn plain(alloc: Global, cell: Cell) -> Result<Piece, NoMemory>
     Ok(sealed(cells, Vec::new(alloc)))
 }
 
-/// A stop with the code where the register is not 0.
+/// A stop with the code if the register is not 0.
 pub fn check_zero(alloc: Global, reg: u8, code: u32) -> Result<Piece, NoMemory>
     requires { reg < 32 }
     ensures code { IfOk result (λ p. p ≡ unmarked (check_cells reg code)) }
@@ -123,7 +123,7 @@ pub fn check_zero(alloc: Global, reg: u8, code: u32) -> Result<Piece, NoMemory>
     Ok(sealed(cells, Vec::new(alloc)))
 }
 
-/// A stop with the code where the two registers differ.
+/// A stop with the code if the two registers differ.
 pub fn check_equal(alloc: Global, one: u8, other: u8, code: u32) -> Result<Piece, NoMemory>
     requires one { one < 32 }
     requires other { other < 32 }
@@ -137,7 +137,7 @@ pub fn check_equal(alloc: Global, one: u8, other: u8, code: u32) -> Result<Piece
     Ok(sealed(cells, Vec::new(alloc)))
 }
 
-/// A stop with the code where the two registers are equal.
+/// A stop with the code if the two registers are equal.
 pub fn check_differ(alloc: Global, one: u8, other: u8, code: u32) -> Result<Piece, NoMemory>
     requires one { one < 32 }
     requires other { other < 32 }
@@ -151,7 +151,7 @@ pub fn check_differ(alloc: Global, one: u8, other: u8, code: u32) -> Result<Piec
     Ok(sealed(cells, Vec::new(alloc)))
 }
 
-/// A stop with the code where the register's word, with its sign, is not above 0.
+/// A stop with the code if the register's word, with its sign, is not above 0.
 pub fn check_positive(alloc: Global, reg: u8, code: u32) -> Result<Piece, NoMemory>
     requires { reg < 32 }
     ensures code { IfOk result (λ p. p ≡ unmarked (check_positive_cells reg code)) }
@@ -174,7 +174,7 @@ pub fn enter(alloc: Global, routine: u32, back: bool) -> Result<Piece, NoMemory>
     Ok(sealed(cells, Vec::new(alloc)))
 }
 
-/// A call of the routine whose code place is in the register. Where that is `$2`, which holds 0
+/// A call of the routine whose code address is in the register. If that is `$2`, which holds 0
 /// where a call is made, the cells are those of another register.
 pub fn enter_at(alloc: Global, reg: u8, back: bool) -> Result<Piece, NoMemory>
     requires { reg < 32 }
@@ -193,7 +193,7 @@ pub fn enter_at(alloc: Global, reg: u8, back: bool) -> Result<Piece, NoMemory>
     Ok(sealed(cells, Vec::new(alloc)))
 }
 
-/// The piece with one mark more, over all its cells.
+/// The fragment with one mark more, over all its cells.
 pub fn marked(at: u32, piece: Piece) -> Result<Piece, NoMemory>
     requires { at ≤ LAST_PLACE }
     ensures code { IfOk result (λ p. p ≡ marked_code at piece) }
@@ -206,7 +206,7 @@ pub fn marked(at: u32, piece: Piece) -> Result<Piece, NoMemory>
     Ok(sealed(cells, marks))
 }
 
-/// The piece run the other way, with no marks.
+/// The fragment run the other way, with no marks.
 pub fn mirror(alloc: Global, piece: &Piece) -> Result<Piece, NoMemory>
     ensures code { IfOk result (λ p. p ≡ unmarked (mirror_cells piece.now.cells)) }
     ensures law { IfOk result (λ p. MirrorLaw piece.now.cells p.cells) }

@@ -1,4 +1,4 @@
-// Marks on the cells of a piece, however many these are.
+// Marks on the cells of a fragment, however many these are.
 ghost use Rattle.std.specs.Prelude.{◌≡◌, ◌+◌, ◌^◌, ◌≤◌, ◌++◌, OnOk};
 ghost use Rattle.paired_code.specs.Code.{AllWithin, moved_on, shift};
 
@@ -6,7 +6,8 @@ use pisa_isa::{MOST_CELLS, Mark};
 use rpp_words::NoMemory;
 use std::marker::Model;
 
-/// The cells from `first` to before `end` of a piece, and the place of the source that made them.
+/// The cells from `first` to before `end` of a fragment, and the place of the source that made
+/// them.
 #[derive(Drop)]
 pub struct Span {
     first: usize,
@@ -15,7 +16,7 @@ pub struct Span {
 }
 
 impl Model for Span {
-    ghost use Rattle.pisa_isa.specs.declared.notes.Mark.{Mark};
+    ghost use Rattle.code_conventions.specs.pisa_isa.declared.notes.Mark.{Mark};
 
     ghost Value = { Mark };
 
@@ -30,7 +31,7 @@ impl Span {
         self.first
     }
 
-    /// The cell behind its last one.
+    /// The cell after its last one.
     pub fn end(&self) -> usize
         ensures { result ≡ self.now.end }
     {

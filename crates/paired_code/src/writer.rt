@@ -1,7 +1,7 @@
-// The code of an image, from the pieces of its main part and its routines.
+// The code of an image, from the fragments of its main part and its routines.
 
 ghost use Rattle.std.specs.Prelude.{◌≡◌, ℕ, ◌+◌, ◌-◌, ◌^◌, ◌<◌, ◌≤◌, ◌++◌, [], length, map, pos, IfOk, OnOk, slice_index};
-ghost use Rattle.pisa_isa.specs.Image.{IsImage};
+ghost use Rattle.code_conventions.specs.pisa_isa.Image.{IsImage};
 ghost use Rattle.paired_code.specs.Cells.{rbra, start, finish};
 ghost use Rattle.paired_code.specs.Layout.{base, between, six};
 ghost use Rattle.paired_code.specs.Link.{places, linked, routine_code, routines_code, routines_size, first_top, link_code, link_size, static_word, Linked};
@@ -18,8 +18,8 @@ use pisa_isa::{Cell, Image, MOST_CELLS, MOST_MARKS, MOST_STATICS, Noted, Notes, 
 use rpp_words::NoMemory;
 use std::alloc::Global;
 
-/// START, `main`, FINISH and then the routines, each in the subroutine form. The marks of the pieces go
-/// along with their cells, in ascending order of their places; no name is noted.
+/// START, `main`, FINISH and then the routines, each in the subroutine form. The marks of the
+/// fragments go along with their cells, in ascending order of their places; no name is noted.
 pub fn link(
     alloc: Global,
     main: Piece,
@@ -49,7 +49,7 @@ pub fn link(
     Ok(Noted::seal(image, Notes { marks, names }))
 }
 
-// The image alone.
+// Only the image.
 fn image_of(
     alloc: Global,
     main: Piece,
@@ -79,7 +79,7 @@ fn image_of(
     }
 }
 
-// The places of the SWAPBR cells, where the first routine has its first cell at `first`.
+// The places of the SWAPBR cells, if the first routine has its first cell at `first`.
 fn places_of(alloc: Global, routines: &[Piece], first: u32) -> Result<Vec<u32>, NoMemory>
     requires { first + routines_size (bodies routines.now) ≤ 8050000 }
     ensures { IfOk result (λ v. v.items ≡ places first (bodies routines.now)) }
@@ -133,7 +133,7 @@ fn put_cells(code: &mut Vec<Cell>, cells: &[Symbol], places: &[u32]) -> Result<(
     Ok(())
 }
 
-// The cell that stands at the place for a cell of a piece.
+// The cell at the code address for a cell of the fragment.
 fn base_of(places: &[u32], at: u32, cell: Symbol) -> Cell
     requires { at < 2 ^ 30 }
     ensures { result ≡ base places.now (pos at) cell }

@@ -1,7 +1,7 @@
--- What stands behind an answer that was put together.
+-- What comes after a result that was put together.
 use Rattle.std.proofs.Common.{◌≡◌, refl, ℕ, Bool, true, false, cond, Option, Some, None, Result, Ok, Err}
 use Rattle.std.specs.Option.{option_map, option_and_then}
-use Rattle.pisa_asm.specs.Chain.{and_then, or_bad}
+use Rattle.pisa_asm.specs.Chain.{and_then}
 
 pub ok_then : {T U E : Type 0} (o : Result T E) (next : T → Result U E) (u : U) → and_then o next ≡ Ok u
     → (x : T) × (o ≡ Ok x) × (next x ≡ Ok u)
@@ -17,10 +17,6 @@ pub some_map : {T U : Type 0} (f : T → U) (o : Option T) (u : U) → option_ma
     → (x : T) × (o ≡ Some x) × (u ≡ f x)
 some_map f None u h = absurd (cc)
 some_map f (Some x) u h = (x, refl, cc)
-
-pub not_bad : {T : Type 0} (line : ℕ) (o : Option T) (x : T) → or_bad line o ≡ Ok x → o ≡ Some x
-not_bad line None x h = absurd (cc)
-not_bad line (Some y) x h = cc
 
 -- a test that led to a value holds
 pub tested : {T : Type 0} (b : Bool) (o : Option T) (x : T) → cond b o None ≡ Some x → (b ≡ true) × (o ≡ Some x)

@@ -1,4 +1,4 @@
--- A text is its first line and the lines behind it; a line is its first word and the words behind it.
+-- A text is its first line and the lines after it; a line is its first word and the words after it.
 use Rattle.std.proofs.Common.{◌≡◌, ◌∙◌, ap, refl, ℕ, suc, ◌+◌, ◌<◌, Bool, true, false, ◌==◌, arith, List, [], ◌∷◌}
 use Rattle.std.proofs.Common.{length, take, drop}
 use Rattle.std.specs.List.{prefix_len, position_or_len}
@@ -8,11 +8,11 @@ use Rattle.pisa_asm.specs.Lines.{onto_first, lines_of, words_of, is_blank}
 pub one_more : (n : ℕ) → 1 + n ≡ suc n
 one_more n = omega arith
 
--- how many bytes stand before the first line feed
+-- how many bytes come before the first line feed
 abbrev line_length : List ℕ → ℕ
 line_length text = position_or_len (λ b. b == 10) text
 
--- how many bytes stand before the first blank
+-- how many bytes come before the first blank
 abbrev word_length : List ℕ → ℕ
 word_length line = position_or_len is_blank line
 
@@ -40,7 +40,7 @@ lines_cut (b ∷ text) h = by_case (b == 10) refl
     by_case true f = simp (f, one_more)
     by_case false f = line_grows b text f ∙ simp (f, one_more)
 
--- no blank stands between
+-- no blank is between
 pub joined : (b c : ℕ) (line : List ℕ) → is_blank b ≡ false → is_blank c ≡ false
     → words_of (b ∷ c ∷ line) ≡ onto_first b (words_of (c ∷ line))
 joined b c line e f = rw (e, f) refl
@@ -59,7 +59,7 @@ word_grows b (c ∷ line) e = by_case (is_blank c) refl (λ f. word_grows c line
     by_case true f rest = simp (e, f, one_more)
     by_case false f rest = joined b c line e f ∙ ap (onto_first b) (rest refl) ∙ simp (f, one_more)
 
--- blanks stand for nothing
+-- blanks mean nothing
 pub words_skip : (line : List ℕ) → words_of line ≡ words_of (drop (prefix_len is_blank line) line)
 words_skip [] = refl
 words_skip (b ∷ line) = by_case (is_blank b) refl (words_skip line)
@@ -69,7 +69,7 @@ words_skip (b ∷ line) = by_case (is_blank b) refl (words_skip line)
     by_case true f rest = simp (f, one_more) rest
     by_case false f rest = simp (f, one_more)
 
--- the first word of what stands behind blanks, and the words behind it
+-- the first word of what follows blanks, and the words after it
 pub words_cut : (line : List ℕ) → 0 < length (drop (prefix_len is_blank line) line)
     → words_of line ≡ take (word_length (drop (prefix_len is_blank line) line)) (drop (prefix_len is_blank line) line)
     ∷ words_of (drop (word_length (drop (prefix_len is_blank line) line)) (drop (prefix_len is_blank line) line))

@@ -28,7 +28,7 @@ pub record Fit (survey : Surveyed) (code : List Cell) : Type 0 where
   pub cells : All IsCell code
   pub words : All (λ word. word < 2 ^ 32) survey.statics
 
--- what stands on a line keeps that
+-- what is on a line keeps that
 item_keeps : (line : ℕ) (labels : Labels) (survey longer : Surveyed) (code more : List Cell) (item : Item)
     → ItemFits item → Fit survey code
     → counted line survey item ≡ Ok longer → linked_item line labels code item ≡ Ok more → Fit longer more

@@ -1,4 +1,4 @@
--- The labels of a line, and labels none of which stands earlier.
+-- The labels of a line, and labels none of which occurs earlier.
 use Rattle.std.proofs.Common.{◌≡◌, ◌∙◌, ap, sym, subst, refl, ℕ, suc, ◌-◌, ◌<◌, Bool, true, false, ◌==◌, arith, List}
 use Rattle.std.proofs.Common.{[], ◌∷◌, ◌++◌, length, get_or, take, map, Option, Some, None, Ok, length-append}
 use Rattle.std.specs.List.{All}
@@ -108,7 +108,7 @@ names_complete (name ∷ names) words all n =
 
 -- labels that are new
 
--- the labels of these names, each for this place
+-- the labels of these names, each for this code address
 abbrev pub placed : ℕ → List (List ℕ) → Labels
 placed at names = map (λ name. (name, at)) names
 

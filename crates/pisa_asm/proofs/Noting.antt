@@ -1,7 +1,7 @@
--- Notes as they are said and as they are read, and which of them fit an image.
+-- Notes as they are written and as they are read, and which of them fit an image.
 use Rattle.std.proofs.Common.{◌≡◌, ◌∙◌, ap, sym, subst, refl, ℕ, ◌+◌, ◌-◌, ◌≤◌, Bool, true, false, cond, arith, List}
 use Rattle.std.proofs.Common.{[], ◌∷◌, ◌++◌, length, Some, Ok, Err, length-append}
-use Rattle.std.specs.Prelude.{nat_le, nat_lt, ◌&&◌}
+use Rattle.std.specs.Prelude.{nat_le}
 use Rattle.std.specs.List.{list_all}
 use Rattle.std.specs.Option.{option_map, option_and_then}
 use Rattle.std.proofs.lemmas.Bool.{and_from}
@@ -19,7 +19,7 @@ use Rattle.pisa_asm.specs.Numerals.{unsigned_number}
 use Rattle.pisa_asm.specs.Mnemonics.{mark_word, name_word}
 use Rattle.pisa_asm.specs.Operands.{sole}
 use Rattle.pisa_asm.specs.Items.{unsigned_from, mark_from, name_of, name_from}
-use Rattle.pisa_asm.specs.Passes.{with_mark, if_fits}
+use Rattle.pisa_asm.specs.Passes.{if_fits}
 use Rattle.pisa_asm.specs.AssemblyText.{UnsignedText, MarkText, NameText, joined}
 use Rattle.pisa_asm.proofs.Chaining.{some_then, some_map, tested}
 use Rattle.pisa_asm.proofs.Spelling.{both}
@@ -141,7 +141,7 @@ names_front statics left (n ∷ xs) ys h =
     let p = both (name_fits statics left n) (names_fit statics (left - length n.text) (xs ++ ys)) h in
     and_from (name_fits statics left n) _ p.0 (names_front statics (left - length n.text) xs ys p.1)
 
--- where notes fit, those in front fit
+-- if notes fit, those before them fit
 pub fits_front : (image : Segments) (a b : NoteLists) → fits image (joined a b) ≡ true → fits image a ≡ true
 fits_front image a b h =
     let f = fitting image (joined a b) h in
@@ -153,35 +153,6 @@ fits_front image a b h =
       few_names = few_front a.names b.names MOST_NAMES f.few_names;
       names = names_front (length image.statics) MOST_NAME_BYTES a.names b.names f.names;
     })
-
-one_more_few : (n m : ℕ) → nat_le (n + 1) m ≡ nat_lt n m
-one_more_few n m = by_test (nat_lt n m) refl
-  where
-    by_test : (t : Bool) → nat_lt n m ≡ t → nat_le (n + 1) m ≡ t
-    by_test true e = grind (arith, nat_tests)
-    by_test false e = grind (arith, nat_tests)
-
-two_tests : (a b : Bool) → (((a && (true && (b && true))) && true) && true) ≡ (a && b)
-two_tests true true = refl
-two_tests true false = refl
-two_tests false b = refl
-
--- behind notes that fit, a mark fits by itself where there is room for one
-pub mark_behind : (image : Segments) (a : NoteLists) (m : Mark) → fits image a ≡ true
-    → fits image (with_mark a m) ≡ (nat_lt (length a.marks) MOST_MARKS && mark_fits (length image.code) m)
-mark_behind image a m h =
-    let f = fitting image a h in
-    let cells = length image.code in
-    let more : length (a.marks ++ m ∷ []) ≡ length a.marks + 1 = length-append a.marks (m ∷ []) in
-    rw (
-      more,
-      one_more_few (length a.marks) MOST_MARKS,
-      list_all-append (mark_fits cells) a.marks (m ∷ []),
-      f.each_mark,
-      f.few_names,
-      f.names,
-    )
-    (two_tests (nat_lt (length a.marks) MOST_MARKS) (mark_fits cells m))
 
 -- notes that passed are these, and fit
 pub passed : (line : ℕ) (image : Segments) (a b : NoteLists) → if_fits line image a ≡ Ok b

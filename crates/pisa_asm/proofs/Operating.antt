@@ -1,11 +1,11 @@
--- Instructions and static words as they are said and as they are read.
+-- Instructions and static words as they are written and as they are read.
 use Rattle.std.proofs.Common.{◌≡◌, ◌∙◌, ap, refl, ℕ, ◌^◌, ◌<◌, Bool, true, false, cond, arith, List, [], ◌∷◌, ◌++◌}
 use Rattle.std.proofs.Common.{length, Some}
 use Rattle.std.specs.Option.{option_map, option_and_then}
 use Rattle.std.specs.Char.{is_ascii_digit}
 use Rattle.std.specs.Str.{all_ascii_digits}
 use Rattle.std.proofs.lemmas.Bool.Decides.{nat_tests}
-use Rattle.rpp_words.specs.Words.{difference_of}
+use Rattle.pisa_isa.specs.rpp_words.Words.{difference_of}
 use Rattle.pisa_isa.specs.declared.cell.Op.{Op}
 use Rattle.pisa_isa.specs.declared.cell.Cell.{Cell}
 use Rattle.pisa_isa.specs.Table.{has_a, has_b, c_is_source}

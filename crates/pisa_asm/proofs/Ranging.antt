@@ -1,10 +1,10 @@
--- The fields of a cell that is read are in the ranges of its row.
+-- The fields of a cell that is read are in the ranges of its instruction.
 use Rattle.std.proofs.Common.{◌≡◌, ◌∙◌, ap, subst, refl, ℕ, ◌+◌, ◌^◌, ◌<◌, Bool, true, false, cond, ◌==◌, arith, List}
 use Rattle.std.proofs.Common.{[], ◌∷◌, Option, Some, None, Ok, Err, inl, inr, ◌⊎◌}
 use Rattle.std.specs.Prelude.{nat_lt, ◌&&◌}
 use Rattle.std.specs.Option.{option_map, option_and_then}
 use Rattle.std.proofs.lemmas.Bool.Decides.{nat_tests}
-use Rattle.rpp_words.specs.Words.{negated, difference_of}
+use Rattle.pisa_isa.specs.rpp_words.Words.{negated, difference_of}
 use Rattle.pisa_isa.specs.declared.cell.Op.{Op}
 use Rattle.pisa_isa.specs.declared.cell.Op.TheVariants.{Addi, Xori, Rl, Rr, Andix, Orix, Sllx, Srlx, Srax, Bra, Rbra}
 use Rattle.pisa_isa.specs.declared.cell.Op.TheVariants.{Beq, Bne, Bgez, Bgtz, Blez, Bltz, DataWord}
@@ -141,7 +141,7 @@ operand_fits Offset words o h =
         let m = some_map Number (offset_number word) o h in
         rw m.2 (offset_in word m.0 m.1)
 
--- the registers of a row, where they are read
+-- the registers of an instruction, if they are read
 record RegistersFit (op : Op) (cell : Cell) : Type 0 where
   same : cell.op ≡ op
   a_in : cell.a < register_end (has_a op)
@@ -169,7 +169,7 @@ registers_fit op words p h =
       no_imm = refl;
     })
 
--- where a label gives the offset, the row has one
+-- if a label gives the offset, the instruction has one
 abbrev pub TargetFits : Op → Option (List ℕ) → Type 0
 TargetFits op None = Unit {0}
 TargetFits op (Some name) = imm_end op ≡ 2 ^ 32
@@ -216,7 +216,7 @@ given_fits op words given h =
     let o = some_map (with_operand r.0.0) (operand_from (last_of op) r.0.1) given r.2 in
     rw o.2 (with_operand_fits op r.0.0 o.0 (registers_fit op words r.0 r.1) (operand_fits (last_of op) r.0.1 o.0 o.1))
 
--- what stands on a line, as it is read
+-- what is on a line, as it is read
 abbrev pub ItemFits : Item → Type 0
 ItemFits NoItem = Unit {0}
 ItemFits (Code given) = GivenFits given

@@ -7,8 +7,8 @@ use Rattle.std.proofs.lemmas.Bool.Decides.{nat_tests}
 use Rattle.std.proofs.lemmas.List.Elements.{All-cons}
 use Rattle.std.proofs.lemmas.List.Sums.{AllPass-from_list_all}
 use mathlib.Core.List.{append_assoc, append-nil}
-use Rattle.rpp_words.specs.Words.{IsWord}
-use Rattle.rpp_words.specs.declared.input.TheConstants.{FIXED_CELLS}
+use Rattle.pisa_isa.specs.rpp_words.Words.{IsWord}
+use Rattle.pisa_isa.specs.rpp_words.declared.input.TheConstants.{FIXED_CELLS}
 use Rattle.pisa_isa.specs.declared.cell.Cell.{Cell}
 use Rattle.pisa_isa.specs.declared.image.TheConstants.{MOST_CELLS, MOST_STATICS}
 use Rattle.pisa_isa.specs.declared.notes.TheConstants.{LAST_PLACE, MOST_NAME_BYTES}
@@ -129,7 +129,7 @@ names_read statics left (n ∷ names) few h =
     All-cons (λ n. ReadsAs (name_text n) (Named n)) n names (name_reads n i.cell i.text)
     (names_read statics (left - length n.text) names few p.1)
 
--- lines behind one another
+-- lines after one another
 
 -- a number that goes up by one at each line
 abbrev after : {X : Type 0} → ℕ → List X → ℕ
@@ -302,7 +302,7 @@ names_noted number image so_far (n ∷ names) rest all h =
 
 -- all together
 
--- the parts of a listing, each in front of the rest
+-- the parts of a listing, each before the rest
 abbrev names_on : NotedImage → List ℕ
 names_on n = lines_by name_text n.notes.names ++ []
 

@@ -9,7 +9,7 @@ use Rattle.std.specs.Str.{all_ascii_digits}
 use Rattle.std.proofs.lemmas.Bool.Decides.{nat_tests}
 use Rattle.std.proofs.lemmas.Str.Parse.{IsNumeralModel, numerals_by_fold, tells_all_ascii_digits}
 use Rattle.std.proofs.lemmas.Fmt.{digits_value-decimal, decimal_nonempty, decimal_digit, first_decimal}
-use Rattle.rpp_words.specs.Words.{negated}
+use Rattle.pisa_isa.specs.rpp_words.Words.{negated}
 use Rattle.pisa_isa.specs.declared.cell.Op.{Op}
 use Rattle.pisa_isa.specs.declared.cell.Op.TheVariants.{Add}
 use Rattle.pisa_isa.specs.declared.cell.Cell.{Cell}

@@ -96,7 +96,7 @@ line_front (b ∷ line) rest h =
     let p = both (is_clean b) (list_all is_clean line) h in
     rw ((clean_of b p.0).0) (ap (onto_first b) (line_front line rest p.1))
 
--- a first word and others, each behind a space
+-- a first word and others, each after a space
 pub record IsSpacedLine (line : List ℕ) (first : List ℕ) (words : List (List ℕ)) : Type 0 where
   pub clean : list_all is_clean line ≡ true
   pub reads : words_of (content_of line) ≡ first ∷ words

@@ -1,5 +1,5 @@
--- What the seal answers for code whose cells are fit for an image.
-use Rattle.std.proofs.Common.{◌≡◌, ap, refl, ℕ, ◌<◌, Bool, true, false, not, cond, arith, List, [], ◌∷◌, length, Option}
+-- The result of the seal for code whose cells an image may hold.
+use Rattle.std.proofs.Common.{◌≡◌, ap, ℕ, ◌<◌, Bool, true, false, not, cond, arith, List, [], ◌∷◌, length, Option}
 use Rattle.std.proofs.Common.{Some, None}
 use Rattle.std.specs.Prelude.{position, count_by, nat_eq, nat_lt}
 use Rattle.std.specs.List.{All, position_or_len}
@@ -40,21 +40,6 @@ pub tests_of : (code : List Cell) → All IsCell code
     → first_seal_refusal code ≡ refusal_of (nat_eq (count_by is_start code) 1) (nat_eq (count_by is_finish code) 1)
 tests_of code cells = ap (λ o. refusal_by o (count_by is_start code) (count_by is_finish code))
     (every_one_to_one code cells)
-
-pub accepted : (s f : Bool) → refusal_of s f ≡ None → (s ≡ true) × (f ≡ true)
-accepted true true h = (refl, refl)
-accepted true false h = absurd (cc)
-accepted false f h = absurd (cc)
-
-pub no_start : (s f : Bool) → refusal_of s f ≡ Some NoStart → s ≡ false
-no_start true true h = absurd (cc)
-no_start true false h = absurd (cc)
-no_start false f h = refl
-
-pub no_finish : (s f : Bool) → refusal_of s f ≡ Some NoFinish → (s ≡ true) × (f ≡ false)
-no_finish true true h = absurd (cc)
-no_finish true false h = (refl, refl)
-no_finish false f h = absurd (cc)
 
 pub no_other : (s f : Bool) (at : ℕ) → refusal_of s f ≡ Some (NotOneToOne at) → ⊥
 no_other true true at h = cc

@@ -15,7 +15,7 @@ use Rattle.pisa_isa.specs.declared.cell.Op.TheVariants.{Add}
 use Rattle.pisa_isa.specs.declared.cell.Cell.{Cell}
 use Rattle.pisa_isa.specs.declared.notes.Mark.{Mark}
 use Rattle.pisa_isa.specs.declared.notes.FieldName.{FieldName}
-use Rattle.rpp_words.specs.Names.{is_name_byte}
+use Rattle.pisa_isa.specs.rpp_words.Names.{is_name_byte}
 use Rattle.pisa_isa.specs.Notes.{is_name}
 use Rattle.pisa_isa.specs.Table.{has_a, has_b, c_is_source}
 use Rattle.pisa_asm.specs.declared.operand.Last.{Last}
@@ -37,7 +37,7 @@ abbrev pub is_word : List ℕ → Bool
 is_word [] = false
 is_word (b ∷ word) = is_solid b && list_all is_solid word
 
--- words each behind a space
+-- words each after a space
 abbrev pub spaced : List (List ℕ) → List ℕ
 spaced [] = []
 spaced (word ∷ words) = 32 ∷ (word ++ spaced words)

@@ -9,7 +9,7 @@ use Rattle.std.specs.Str.Parse.{IsNumeral, digits_value}
 use Rattle.std.proofs.lemmas.Bool.Decides.{nat_tests}
 use Rattle.std.proofs.lemmas.Slice.Eq.{bytes_eq-Decides}
 use Rattle.std.proofs.lemmas.Fmt.{decimal-digits_value}
-use Rattle.rpp_words.specs.Words.{negated}
+use Rattle.pisa_isa.specs.rpp_words.Words.{negated}
 use Rattle.pisa_isa.specs.declared.cell.Op.{Op}
 use Rattle.pisa_asm.specs.Numerals.{numeral_from, numeral, below, minus, number_in, unsigned_number, plain_digits}
 use Rattle.pisa_asm.specs.Numerals.{register_number}
@@ -30,7 +30,7 @@ digits_from (digit ∷ digits) n v h =
     let t = tested (is_ascii_digit digit) (numeral_from (10 * n + (digit - 48)) digits) v h in
     rw (t.0, digits_from digits (10 * n + (digit - 48)) v t.1) refl
 
--- digits alone, as they are read and as they are said
+-- only digits, as they are read and as they are written
 pub record Numeral (bytes : List ℕ) (v : ℕ) : Type 0 where
   pub some : 0 < length bytes
   pub digits : all_ascii_digits bytes ≡ true
@@ -145,7 +145,7 @@ register_sound (first ∷ digits) r h =
 pub register_complete : (word : List ℕ) (r : ℕ) → RegisterText word r → register_number word ≡ Some r
 register_complete word r t = rw t.written (register_read r t.in_range)
 
--- the words of a register, and those behind them
+-- the words of a register, and those after them
 pub record Taken (has : Bool) (words : List (List ℕ)) (r : ℕ) (rest : List (List ℕ)) : Type 0 where
   pub here : List (List ℕ)
   pub all : words ≡ here ++ rest

@@ -1,4 +1,4 @@
--- The image that is read of lines, with its notes, is the one that they write.
+-- The image that is read from lines, with its notes, is the one that they write.
 use Rattle.std.proofs.Common.{◌≡◌, ◌∙◌, ap, sym, subst, refl, ℕ, ◌+◌, ◌^◌, ◌<◌, ◌≤◌, Bool, true, false, cond, arith}
 use Rattle.std.proofs.Common.{List, [], ◌∷◌, ◌++◌, length, Option, Some, None, Result, Ok, Err, length-append}
 use Rattle.std.specs.Prelude.{nat_lt, nat_eq, count_by}
@@ -47,7 +47,7 @@ use Rattle.pisa_asm.proofs.Noting.{marks_joined, names_joined, same_fits, fits_f
 use Rattle.pisa_asm.proofs.Labeling.{Split, split_sound, NoLabels, item_no_labels, after_complete, names_complete}
 use Rattle.pisa_asm.proofs.Labeling.{placed, Placed, labels_sound, labels_complete, new-append, new_front, new_behind}
 
--- what stands behind the labels, as it is read and as it is said
+-- what follows the labels, as it is read and as it is written
 
 record ItemSaid (labels : Labels) (words : List (List ℕ)) (survey longer : Surveyed) (code more : List Cell)
     (before behind : NoteLists) : Type 0 where
@@ -61,7 +61,7 @@ record ItemSaid (labels : Labels) (words : List (List ℕ)) (survey longer : Sur
   labels_are : longer.labels ≡ survey.labels
   notes_are : behind ≡ joined before notes
 
--- what stands behind the labels, by what it is read as
+-- what follows the labels, by what it is read as
 abbrev IsItem : Labels → ℕ → List (List ℕ) → Item → Type 0
 IsItem labels at words Nothing = words ≡ []
 IsItem labels at words (Code given) = (cell : Cell) → resolved labels at given ≡ Some cell
@@ -401,7 +401,7 @@ read_is_written lines n h =
     let same : noted_image i.0 o.0 ≡ n = cc (o.2) in
     subst (AssemblyText lines) same (image_is_written lines s.0 c.0 i.0 o.0 s.1 c.1 i.1 o.1)
 
--- what is said is read
+-- what is written is read
 
 record ItemRead (line : ℕ) (labels : Labels) (words : List (List ℕ)) (image : Segments) (survey : Surveyed)
     (code cells : List Cell) (statics : List ℕ) (before behind : NoteLists) : Type 0 where
@@ -451,11 +451,11 @@ cell_read line labels words image survey code cell before behind r one room same
       notes = ap Ok same;
     }
 
--- notes behind which no others were joined
+-- notes after which no others were joined
 none_joined : (before here behind : NoteLists) → here ≡ no_notes → behind ≡ joined before here → before ≡ behind
 none_joined before here behind e h = sym (h ∙ ap (λ n. joined before n) e ∙ joined-nil before)
 
--- notes behind which one was joined
+-- notes after which one was joined
 mark_joined : (before here behind : NoteLists) (m : Mark) → here ≡ one_mark m → behind ≡ joined before here
     → with_mark before m ≡ behind
 mark_joined before here behind m e h = marks_joined before (m ∷ []) ∙ sym (h ∙ ap (λ n. joined before n) e)

@@ -3,7 +3,7 @@ use Rattle.std.specs.Prelude.{◌≡◌, ℕ, ◌+◌, ◌^◌, ◌<◌, ◌≤�
 use Rattle.std.specs.Prelude.{length, map, Some, None, All}
 use Rattle.std.specs.Fmt.{decimal}
 use Rattle.std.specs.Str.Parse.{IsNumeral, digits_value}
-use Rattle.rpp_words.specs.Words.{negated, difference_of}
+use Rattle.pisa_isa.specs.rpp_words.Words.{negated, difference_of}
 use Rattle.pisa_isa.specs.declared.cell.Cell.{Cell}
 use Rattle.pisa_isa.specs.Table.{has_a, has_b, c_is_source}
 use Rattle.pisa_isa.specs.declared.notes.Mark.{Mark}
@@ -38,13 +38,13 @@ abbrev pub RegisterWords : Bool → List (List ℕ) → ℕ → Type 0
 RegisterWords false words r = (words ≡ []) × (r ≡ 0)
 RegisterWords true words r = (word : List ℕ) × (words ≡ word ∷ []) × RegisterText word r
 
--- an offset: a number, or a label's name and then its place minus this one
+-- an offset: a number, or a label's name, which means its code address minus this one
 pub data OffsetText (labels : Labels) (at : ℕ) (bytes : List ℕ) (offset : ℕ) : Type 0 where
   by_number : NumberText (2 ^ 31) (2 ^ 31) bytes offset → OffsetText labels at bytes offset
   by_label : (place : ℕ) → is_name bytes ≡ true → place_of bytes labels ≡ Some place
       → offset ≡ difference_of place at → OffsetText labels at bytes offset
 
--- the words for what a row has behind its registers
+-- the words for what an instruction has after its registers
 abbrev pub LastWords : Labels → ℕ → Last → List (List ℕ) → ℕ → Type 0
 LastWords labels at Nothing words imm = (words ≡ []) × (imm ≡ 0)
 LastWords labels at Word words imm = (word : List ℕ) × (words ≡ word ∷ [])
@@ -54,7 +54,8 @@ LastWords labels at Amount words imm = (word : List ℕ) × (words ≡ word ∷ 
 LastWords labels at Offset words imm = (word : List ℕ) × (words ≡ word ∷ [])
     × OffsetText labels at word imm
 
--- an instruction at a place: its mnemonic, its registers in their order, and what else it has
+-- an instruction at a code address: its mnemonic, its registers in their order, and what else it
+-- has
 pub record InstructionText (labels : Labels) (at : ℕ) (words : List (List ℕ)) (cell : Cell) : Type 0
   where
     pub a : List (List ℕ)
@@ -67,13 +68,13 @@ pub record InstructionText (labels : Labels) (at : ℕ) (words : List (List ℕ)
     pub is_c : RegisterWords (c_is_source cell.op) c cell.c
     pub is_last : LastWords labels at (last_of cell.op) last cell.imm
 
--- decimal digits alone, for a word
+-- only decimal digits, for a word
 pub record UnsignedText (bytes : List ℕ) (n : ℕ) : Type 0 where
   pub is_numeral : IsNumeral 10 bytes
   pub in_range : n < 2 ^ 32
   pub value : n ≡ digits_value 10 bytes
 
--- MARK, the first cell, the end and the place
+-- MARK, the first cell, the end and the offset
 pub record MarkText (words : List (List ℕ)) (m : Mark) : Type 0 where
   pub first : List ℕ
   pub end : List ℕ
@@ -96,7 +97,7 @@ one_mark m = record { marks = m ∷ []; names = [] }
 abbrev pub one_name : FieldName → NoteLists
 one_name n = record { marks = []; names = n ∷ [] }
 
--- notes, and behind them those of others
+-- notes, and after them those of others
 abbrev pub joined : NoteLists → NoteLists → NoteLists
 joined before behind =
     record { marks = before.marks ++ behind.marks; names = before.names ++ behind.names }
@@ -120,13 +121,13 @@ pub data ItemText (labels : Labels) (at : ℕ) (words : List (List ℕ)) (code :
 abbrev pub label_word : List ℕ → List ℕ
 label_word name = name ++ 58 ∷ []
 
--- a line has labels and then other words, but for a carriage return at its end and a comment
+-- a line has labels and then other words, except for a carriage return at its end and a comment
 pub record LabeledLine (line : List ℕ) (names words : List (List ℕ)) : Type 0 where
   pub are_names : All (λ name. is_name name ≡ true) names
   pub written : words_of (content_of line) ≡ map label_word names ++ words
 
--- lines, the first of which has this place for its cell, write these labels, code cells, static
--- words and notes
+-- lines, the first of which has this code address for its cell, write these labels, code cells,
+-- static words and notes
 pub data LinesText (labels : Labels) : (at : ℕ) (lines : List (List ℕ)) (written : Labels)
     (code : List Cell) (statics : List ℕ) (notes : NoteLists) → Type 0 where
   finish : (at : ℕ) → LinesText labels at [] [] [] [] no_notes

@@ -1,4 +1,4 @@
--- What stands on a line behind its labels.
+-- What is on a line after its labels.
 use Rattle.std.specs.Prelude.{ℕ, List, [], ◌∷◌, Option, Some, None, Result, Ok, Err, if◌then◌else◌}
 use Rattle.std.specs.Option.{option_map, option_and_then}
 use Rattle.std.specs.Str.{bytes_eq}
@@ -15,16 +15,16 @@ use Rattle.pisa_asm.specs.Mnemonics.{row_named, static_word, mark_word, name_wor
 use Rattle.pisa_asm.specs.Chain.{and_then, or_bad}
 use Rattle.pisa_asm.specs.Operands.{sole, given_from}
 
--- the number behind STATIC
+-- the number after STATIC
 abbrev pub static_from : List (List ℕ) → Option ℕ
 static_from words = option_and_then word_number (sole words)
 
--- the number that the first word writes, and the words behind it
+-- the number that the first word writes, and the words after it
 abbrev pub unsigned_from : List (List ℕ) → Option (ℕ × List (List ℕ))
 unsigned_from [] = None
 unsigned_from (word ∷ words) = option_map (λ n. (n, words)) (unsigned_number word)
 
--- the mark behind MARK: its first cell, its end and its place
+-- the mark after MARK: its first cell, its end and its offset
 abbrev pub mark_from : List (List ℕ) → Option Mark
 mark_from words =
     option_and_then (λ first. option_and_then
@@ -35,7 +35,7 @@ mark_from words =
 abbrev pub name_of : ℕ → List ℕ → Option FieldName
 name_of cell word = if is_name word then Some (record { cell = cell; text = word }) else None
 
--- the name behind NAME: its data cell and its bytes
+-- the name after NAME: its data cell and its bytes
 abbrev pub name_from : List (List ℕ) → Option FieldName
 name_from words = option_and_then (λ cell. option_and_then (name_of cell.0) (sole cell.1))
     (unsigned_from words)

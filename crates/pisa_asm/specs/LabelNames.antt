@@ -1,4 +1,4 @@
--- Labels: their names, and their places.
+-- Labels: their names, and their code addresses.
 use Rattle.std.specs.Prelude.{ℕ, Bool, false, List, [], ◌∷◌, ◌==◌, ◌||◌, ◌&&◌, if◌then◌else◌}
 use Rattle.std.specs.Prelude.{Option, Some, None}
 use Rattle.std.specs.Str.{bytes_eq}
@@ -22,21 +22,21 @@ is_name (first ∷ rest) = begins_name first && list_all is_label_byte rest
 abbrev pub is_label : List ℕ → Bool
 is_label word = ends_in 58 word && is_name (all_but_last word)
 
--- the names of the labels at the front of a line's words
+-- the names of the labels at the beginning of a line's words
 abbrev pub label_names : List (List ℕ) → List (List ℕ)
 label_names [] = []
 label_names (word ∷ words) = if is_label word then all_but_last word ∷ label_names words else []
 
--- the words behind the labels
+-- the words after the labels
 abbrev pub after_labels : List (List ℕ) → List (List ℕ)
 after_labels [] = []
 after_labels (word ∷ words) = if is_label word then after_labels words else word ∷ words
 
--- labels with their places in the code
+-- labels with their code addresses
 abbrev pub Labels : Type 0
 Labels = List (List ℕ × ℕ)
 
--- the place of a label
+-- the code address of a label
 abbrev pub place_of : List ℕ → Labels → Option ℕ
 place_of name [] = None
 place_of name (label ∷ labels) = if bytes_eq name label.0 then Some label.1 else place_of name

@@ -1,4 +1,4 @@
--- The lines of a text, and the words of a line.
+-- The lines of a text, and the words of lines.
 use Rattle.std.specs.Prelude.{ℕ, ◌-◌, Bool, false, not, List, [], ◌∷◌, length, take, ◌==◌, ◌||◌}
 use Rattle.std.specs.Prelude.{slice_index, if◌then◌else◌}
 use Rattle.std.specs.List.{before_first}
@@ -37,7 +37,7 @@ abbrev pub begins_word : List ℕ → Bool
 begins_word [] = false
 begins_word (b ∷ rest) = not (is_blank b)
 
--- what stands between blanks
+-- what is between blanks
 abbrev pub words_of : List ℕ → List (List ℕ)
 words_of [] = []
 words_of (b ∷ rest) = if is_blank b then words_of rest

@@ -21,12 +21,12 @@ abbrev pub offset_text : ℕ → List ℕ
 offset_text offset = if nat_lt offset (2 ^ 31) then 43 ∷ decimal offset
     else 45 ∷ decimal (2 ^ 32 - offset)
 
--- a register behind a space, where the row has it
+-- a register after a space, if the instruction has it
 abbrev pub register_text : Bool → ℕ → List ℕ
 register_text false r = []
 register_text true r = 32 ∷ 36 ∷ decimal r
 
--- the last operand behind a space
+-- the last operand after a space
 abbrev pub last_text : Last → ℕ → List ℕ
 last_text Nothing imm = []
 last_text Word imm = 32 ∷ signed_text imm
@@ -43,7 +43,7 @@ cell_text c =
 abbrev pub static_text : ℕ → List ℕ
 static_text word = static_word ++ 32 ∷ signed_text word
 
--- a number behind a space
+-- a number after a space
 abbrev pub number_text : ℕ → List ℕ
 number_text n = 32 ∷ decimal n
 

@@ -2,9 +2,9 @@
 use Rattle.std.specs.Prelude.{ℕ, ◌+◌, ◌-◌, ◌*◌, ◌^◌, Bool, true, false, not, nat_lt, List, [], ◌∷◌}
 use Rattle.std.specs.Prelude.{◌==◌, ◌&&◌, Option, Some, None, if◌then◌else◌}
 use Rattle.std.specs.Char.{is_ascii_digit}
-use Rattle.rpp_words.specs.Words.{negated}
+use Rattle.pisa_isa.specs.rpp_words.Words.{negated}
 
--- the number that decimal digits write behind those of `before`, where they are digits alone
+-- the number that decimal digits write after those of `before`, if they are only digits
 abbrev pub numeral_from : ℕ → List ℕ → Option ℕ
 numeral_from before [] = Some before
 numeral_from before (digit ∷ rest) =
@@ -42,7 +42,7 @@ amount_number bytes = number_in 0 32 bytes
 abbrev pub offset_number : List ℕ → Option ℕ
 offset_number bytes = number_in (2 ^ 31) (2 ^ 31) bytes
 
--- a word in decimal digits alone
+-- a word of decimal digits only
 abbrev pub unsigned_number : List ℕ → Option ℕ
 unsigned_number bytes = below (2 ^ 32) (numeral bytes)
 

@@ -16,7 +16,7 @@ use Rattle.pisa_asm.specs.declared.operand.Given.{Given}
 use Rattle.pisa_asm.specs.Numerals.{register_number, word_number, amount_number, offset_number}
 use Rattle.pisa_asm.specs.LabelNames.{is_name}
 
--- what a row has behind its registers
+-- what an instruction has after its registers
 abbrev pub last_of : Op → Last
 last_of Addi = Word
 last_of Xori = Word
@@ -38,13 +38,13 @@ last_of Bltz = Offset
 last_of DataWord = Word
 last_of _ = Nothing
 
--- the register that the first word names, where the row has one here, and the words behind it
+-- the register that the first word names, if the instruction has one here, and the words after it
 abbrev pub register_from : Bool → List (List ℕ) → Option (ℕ × List (List ℕ))
 register_from false words = Some (0, words)
 register_from true [] = None
 register_from true (word ∷ words) = option_map (λ r. (r, words)) (register_number word)
 
--- the registers of a row in their order, and the words behind them
+-- the registers of an instruction in their order, and the words after them
 abbrev pub registers_from : Op → List (List ℕ) → Option (Cell × List (List ℕ))
 registers_from op words =
     option_and_then (λ a. option_and_then
@@ -62,12 +62,12 @@ abbrev pub sole : List (List ℕ) → Option (List ℕ)
 sole (word ∷ []) = Some word
 sole words = None
 
--- where no words are left
+-- if no words are left
 abbrev pub no_operand : List (List ℕ) → Option Operand
 no_operand [] = Some (Number 0)
 no_operand words = None
 
--- the last operand of a row, from all the words behind the registers
+-- the last operand of an instruction, from all the words after the registers
 abbrev pub operand_from : Last → List (List ℕ) → Option Operand
 operand_from Nothing words = no_operand words
 operand_from Word words = option_map Number (option_and_then word_number (sole words))

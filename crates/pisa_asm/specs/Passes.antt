@@ -1,8 +1,8 @@
--- The meaning of a text: its lines are tried three times from the first on.
+-- The meaning of a text: three passes over its lines.
 use Rattle.std.specs.Prelude.{ℕ, ◌+◌, nat_lt, nat_eq, List, [], ◌∷◌, ◌++◌, length, Option, Some}
 use Rattle.std.specs.Prelude.{None, Result, Ok, Err, count_by, if◌then◌else◌}
 use Rattle.std.specs.Option.{option_map}
-use Rattle.rpp_words.specs.Words.{difference_of}
+use Rattle.pisa_isa.specs.rpp_words.Words.{difference_of}
 use Rattle.pisa_isa.specs.declared.cell.Cell.{Cell}
 use Rattle.pisa_isa.specs.declared.image.TheConstants.{MOST_CELLS, MOST_STATICS}
 use Rattle.pisa_isa.specs.Table.{is_one_to_one}
@@ -31,19 +31,19 @@ pub record Surveyed : Type 0 where
 abbrev pub no_lines : Surveyed
 no_lines = record { labels = []; cells = 0; statics = [] }
 
--- a label at a place
+-- a label at a code address
 abbrev pub label_at : ℕ → List ℕ → ℕ → Labels → Option ℕ → Result Labels AsmError
 label_at line name place labels None = Ok (labels ++ (name, place) ∷ [])
 label_at line name place labels (Some earlier) = Err (DuplicateLabel line)
 
--- the labels of a line: each stands for the place of the next code cell
+-- the labels of a line: each is the address of the next code cell
 abbrev pub labels_at : ℕ → ℕ → Labels → List (List ℕ) → Result Labels AsmError
 labels_at line place labels [] = Ok labels
 labels_at line place labels (name ∷ names) =
     and_then (label_at line name place labels (place_of name labels))
     (λ longer. labels_at line place longer names)
 
--- what stands behind the labels, counted
+-- what follows the labels, counted
 abbrev pub counted : ℕ → Surveyed → Item → Result Surveyed AsmError
 counted line so_far Nothing = Ok so_far
 counted line so_far (Code given) =
@@ -58,7 +58,7 @@ counted line so_far (Static word) =
 counted line so_far (Marked mark) = Ok so_far
 counted line so_far (Named name) = Ok so_far
 
--- the words of a line, surveyed
+-- a line's words, surveyed
 abbrev pub surveyed_words : ℕ → Surveyed → List (List ℕ) → Result Surveyed AsmError
 surveyed_words line so_far words =
     and_then (item_from line (after_labels words)) (λ item.
@@ -72,7 +72,8 @@ surveyed number so_far (line ∷ lines) =
     and_then (surveyed_words number so_far (words_of (content_of line)))
     (λ longer. surveyed (number + 1) longer lines)
 
--- a cell at a place, with its offset where a label gives it: the label's place minus this one
+-- a cell at a code address, with its offset if a label gives it: the label's code address minus
+-- this one
 abbrev pub resolved_by : Labels → ℕ → Cell → Option (List ℕ) → Option Cell
 resolved_by labels at cell None = Some cell
 resolved_by labels at cell (Some name) =
@@ -86,7 +87,7 @@ abbrev pub with_cell : ℕ → List Cell → Option Cell → Result (List Cell) 
 with_cell line code None = Err (UnknownLabel line)
 with_cell line code (Some cell) = Ok (code ++ cell ∷ [])
 
--- the code with what stands behind the labels of a line
+-- the code with what follows the labels of a line
 abbrev pub linked_item : ℕ → Labels → List Cell → Item → Result (List Cell) AsmError
 linked_item line labels code Nothing = Ok code
 linked_item line labels code (Code given) = with_cell line code
@@ -119,11 +120,11 @@ with_mark notes mark = record notes { marks = notes.marks ++ mark ∷ [] }
 abbrev pub with_name : NoteLists → FieldName → NoteLists
 with_name notes name = record notes { names = notes.names ++ name ∷ [] }
 
--- the notes up to a line, where they fit the image
+-- the notes up to a line, if they fit the image
 abbrev pub if_fits : ℕ → Segments → NoteLists → Result NoteLists AsmError
 if_fits line image notes = if fits image notes then Ok notes else Err (BadNote line)
 
--- the notes with what stands behind the labels of a line
+-- the notes with what follows the labels of a line
 abbrev pub noted_item : ℕ → Segments → NoteLists → Item → Result NoteLists AsmError
 noted_item line image notes (Marked mark) = if_fits line image (with_mark notes mark)
 noted_item line image notes (Named name) = if_fits line image (with_name notes name)

@@ -16,7 +16,8 @@ use std::alloc::Global;
 /// The most bytes of an assembly text.
 pub const MOST_TEXT: usize = 268_435_456;
 
-/// An image of cells each of which an image may hold, or which of START and FINISH is wrong.
+/// An image of cells, each of which an image may hold. Otherwise which of START and FINISH is
+/// wrong.
 fn seal(code: Vec<Cell>, statics: Vec<u32>) -> Result<Image, AsmError>
     requires code_in_limit { vec_len code ≤ MOST_CELLS }
     requires statics_in_limit { vec_len statics ≤ MOST_STATICS }
@@ -40,7 +41,7 @@ pub fn assemble(alloc: Global, text: &[u8]) -> Result<Noted, AsmError>
     ensures noted { IfOk result (λ n. noted_of_text text.now ≡ Ok n) }
     ensures written { IfOk result (λ n. AssemblyText (lines_of text.now) n) }
 
-    // Where memory does not run out, a refusal is the first one of the text.
+    // Unless memory runs out, a refusal is the first one of the text.
     ensures refusal { IfErr result (Refuses (noted_of_text text.now)) }
 {
     let survey = survey_of(alloc, text)?;

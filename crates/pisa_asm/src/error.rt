@@ -11,7 +11,7 @@ pub enum AsmError {
     /// The line is not of the form of a line.
     #[error("line {line} is no line of assembly text")]
     BadLine { line: u32 },
-    /// The first word behind the line's labels begins nothing.
+    /// The first word after the line's labels begins nothing.
     #[error("line {line} begins with no mnemonic")]
     UnknownMnemonic { line: u32 },
     /// An earlier label has the name of a label of this line.

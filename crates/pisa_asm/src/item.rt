@@ -1,4 +1,4 @@
-// What stands on a line behind its labels.
+// What is on a line after its labels.
 ghost use Rattle.std.specs.Prelude.{◌≡◌, MatchOption, MatchResult, None, Ok, Some};
 ghost use Rattle.pisa_asm.specs.Chain.{or_bad, Refuses};
 ghost use Rattle.pisa_asm.specs.Lines.{words_of};
@@ -12,7 +12,7 @@ use crate::operand::{Given, given_from, sole_word};
 use pisa_isa::{FieldName, Mark, NoteText, is_name};
 use std::alloc::Global;
 
-/// What stands on a line behind its labels.
+/// What is on a line after its labels.
 #[derive(Drop)]
 pub enum Item {
     /// Nothing.
@@ -27,7 +27,7 @@ pub enum Item {
     Named(FieldName),
 }
 
-/// The number behind STATIC.
+/// The number after STATIC.
 fn static_from(words: &[u8]) -> Option<u32>
     ensures { result ≡ static_from (words_of words.now) }
 {
@@ -37,7 +37,7 @@ fn static_from(words: &[u8]) -> Option<u32>
     }
 }
 
-/// The number that the first word writes, and what stands behind it.
+/// The number that the first word writes, and what follows it.
 fn unsigned_from(words: &[u8]) -> Option<(u32, &[u8])>
     ensures { MatchOption result (unsigned_from (words_of words.now) ≡ None)
         (λ p. unsigned_from (words_of words.now) ≡ Some (p.0, words_of p.1.now)) }
@@ -51,7 +51,7 @@ fn unsigned_from(words: &[u8]) -> Option<(u32, &[u8])>
     }
 }
 
-/// The mark behind MARK: its first cell, its end and its place.
+/// The mark after MARK: its first cell, its end and its offset.
 fn mark_from(words: &[u8]) -> Option<Mark>
     ensures { result ≡ mark_from (words_of words.now) }
 {
@@ -61,7 +61,7 @@ fn mark_from(words: &[u8]) -> Option<Mark>
     Some(Mark { first, end, at })
 }
 
-/// The name behind NAME: its data cell and its bytes.
+/// The name after NAME: its data cell and its bytes.
 fn name_from(alloc: Global, words: &[u8], line: u32) -> Result<FieldName, AsmError>
     ensures { MatchResult result
         (λ name. or_bad line (name_from (words_of words.now)) ≡ Ok name)
@@ -106,7 +106,7 @@ fn other_item(alloc: Global, first: &[u8], rest: &[u8], line: u32) -> Result<Ite
     Err(AsmError::UnknownMnemonic { line })
 }
 
-/// What stands behind the labels of a line, given all that does.
+/// What follows the labels of a line, given all the words that do.
 pub fn item_from(alloc: Global, behind: &[u8], line: u32) -> Result<Item, AsmError>
     ensures { MatchResult result
         (λ item. item_from line (words_of behind.now) ≡ Ok item)

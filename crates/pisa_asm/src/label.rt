@@ -50,7 +50,7 @@ fn is_label(word: &[u8]) -> bool
     ends_in(b':', word) && is_name(all_but_last(word))
 }
 
-/// What stands behind the labels of a line.
+/// What follows the labels of a line.
 pub fn after_labels(line: &[u8]) -> &[u8]
     ensures { words_of result.now ≡ after_labels (words_of line.now) }
 {
@@ -64,7 +64,7 @@ pub fn after_labels(line: &[u8]) -> &[u8]
     rest
 }
 
-/// Puts a label last, unless there is one of this name.
+/// Adds a label at the end, unless there is one of this name.
 fn note_label(
     alloc: Global,
     labels: &mut IndexMap<Text, u32>,
@@ -84,7 +84,7 @@ fn note_label(
     }
 }
 
-/// Puts the labels of a line last, each for this place.
+/// Adds the labels of a line at the end, each for this code address.
 pub fn note_labels(
     alloc: Global,
     labels: &mut IndexMap<Text, u32>,
@@ -108,7 +108,7 @@ pub fn note_labels(
     Ok(())
 }
 
-/// The place of the label of this name.
+/// The code address of the label of this name.
 pub fn place_of(labels: &IndexMap<Text, u32>, name: &Text) -> Option<u32>
     ensures { result ≡ place_of name.now labels.now.entries }
 {

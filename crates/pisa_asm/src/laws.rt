@@ -1,6 +1,6 @@
-// What holds of all images with their notes.
+// What holds for all images with their notes.
 ghost use Rattle.std.specs.Prelude.{◌≡◌, List, ℕ, Ok, true, All};
-ghost use Rattle.rpp_words.specs.Words.{IsWord};
+ghost use Rattle.pisa_isa.specs.rpp_words.Words.{IsWord};
 ghost use Rattle.pisa_isa.specs.Image.{IsImage};
 ghost use Rattle.pisa_isa.specs.Notes.{NotedImage, fits};
 ghost use Rattle.pisa_asm.specs.Passes.{noted_of_lines, noted_of_text};
@@ -14,8 +14,8 @@ pub fn listing_reads_back()
         → noted_of_text (listing n) ≡ Ok n }
 {}
 
-/// The image that is read of a text, with its notes, is the one that its lines write, and where no
-/// image is read, they write none.
+/// The image that is read from a text, with its notes, is the one that its lines write. If no image
+/// is read, they write none.
 pub fn what_is_read_is_written()
     ensures sound { (lines : List (List ℕ)) (n : NotedImage) → noted_of_lines lines ≡ Ok n
         → AssemblyText lines n }

@@ -1,8 +1,8 @@
-//! Assembly text of the machine PISA: `assemble` reads an image with its notes from it or answers
-//! its first refusal, and `list` writes the one listing of an image with its notes. The layers
-//! above use these two calls, the errors, what lines write (specs/AssemblyText), the order of
-//! refusals (specs/Passes), the listing (specs/Listing), and the two laws: what is read is what is
-//! written, and a listing reads back.
+//! Assembly text of the machine PISA, read and written. `assemble` reads an image with its notes,
+//! or returns the first refusal. `list` writes the one listing of an image with its notes. The
+//! layers above use these two calls, the errors, what lines write (specs/AssemblyText), the order
+//! of refusals (specs/Passes) and the listing (specs/Listing). They also use the two laws: what is
+//! read is what is written, and a listing reads back.
 #![tactic(auto)]
 
 mod assembler;

@@ -3,7 +3,7 @@ ghost use Rattle.std.specs.Prelude.{◌≡◌, ◌<◌, ◌≤◌, ◌∷◌, []
 ghost use Rattle.std.specs.List.{prefix_len, position_or_len};
 ghost use Rattle.pisa_asm.specs.Lines.{lines_of, content_of, without_return, words_of, is_blank, ends_in, all_but_last};
 
-/// How many bytes stand before the first line feed, or in all.
+/// How many bytes come before the first line feed, or in all.
 #[tactic(auto, using(std::proofs::lemmas::List::Sums::prefix_len_is))]
 fn line_len(text: &[u8]) -> usize
     ensures length { result ≡ position_or_len (λ b. nat_eq b 10) text.now }
@@ -17,7 +17,7 @@ fn line_len(text: &[u8]) -> usize
     text.len()
 }
 
-/// What stands behind so many bytes.
+/// What comes after so many bytes.
 fn behind(bytes: &[u8], len: usize) -> &[u8]
     requires { len ≤ length bytes.now }
     ensures { result.now ≡ drop len bytes.now }
@@ -36,7 +36,7 @@ fn all_but_first(bytes: &[u8]) -> &[u8]
     }
 }
 
-/// The first line of a text, and the text behind it.
+/// The first line of a text, and the text after it.
 pub fn first_line(text: &[u8]) -> (&[u8], &[u8])
     requires { 0 < length text.now }
     ensures lines { lines_of text.now ≡ result.0.now ∷ lines_of result.1.now }
@@ -76,7 +76,7 @@ fn without_return(line: &[u8]) -> &[u8]
     }
 }
 
-/// How many bytes stand before a comment, or in all.
+/// How many bytes come before a comment, or in all.
 #[tactic(auto, using(std::proofs::lemmas::List::Sums::prefix_len_is))]
 fn content_len(line: &[u8]) -> usize
     ensures length { result ≡ position_or_len (λ b. nat_eq b 59) line.now }
@@ -105,7 +105,7 @@ fn is_blank(byte: u8) -> bool
     byte == b' ' || byte == b'\t'
 }
 
-/// How many blanks stand at the front.
+/// How many blanks are at the beginning.
 #[tactic(auto, using(std::proofs::lemmas::List::Sums::prefix_len_is))]
 fn blank_len(line: &[u8]) -> usize
     ensures length { result ≡ prefix_len is_blank line.now }
@@ -119,7 +119,7 @@ fn blank_len(line: &[u8]) -> usize
     line.len()
 }
 
-/// How many bytes stand before the first blank, or in all.
+/// How many bytes come before the first blank, or in all.
 #[tactic(auto, using(std::proofs::lemmas::List::Sums::prefix_len_is))]
 fn word_len(line: &[u8]) -> usize
     ensures length { result ≡ position_or_len is_blank line.now }
@@ -133,7 +133,7 @@ fn word_len(line: &[u8]) -> usize
     line.len()
 }
 
-/// The first word, and what stands behind it; none where only blanks are left.
+/// The first word, and what follows it; none if only blanks are left.
 pub fn next_word(line: &[u8]) -> Option<(&[u8], &[u8])>
     ensures { MatchOption result (words_of line.now ≡ [])
         (λ p. (words_of line.now ≡ p.0.now ∷ words_of p.1.now)

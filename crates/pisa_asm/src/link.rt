@@ -1,4 +1,4 @@
-// The second pass: the code, with labels in the place of offsets resolved.
+// The second pass: the code, with labels resolved to offsets.
 ghost use Rattle.std.specs.Prelude.{◌≡◌, ◌≤◌, ◌<◌, ◌^◌, ◌+◌, length, vec_len, [], MatchResult, Ok};
 ghost use Rattle.pisa_asm.specs.declared.assembler.TheConstants.{MOST_TEXT};
 ghost use Rattle.pisa_asm.specs.Chain.{Refuses, and_then};
@@ -18,7 +18,7 @@ use pisa_isa::Cell;
 use rpp_words::wrap_sub;
 use std::alloc::Global;
 
-/// An instruction at a place, with its offset where a label gives it.
+/// An instruction at a code address, with its offset if a label gives it.
 fn resolved(survey: &Survey, at: u32, given: &Given) -> Option<Cell>
     ensures { result ≡ resolved survey.now.labels at given.now }
 {
@@ -34,7 +34,7 @@ fn resolved(survey: &Survey, at: u32, given: &Given) -> Option<Cell>
     }
 }
 
-/// Adds what stands behind the labels of a line to the code.
+/// Adds what follows the labels of a line to the code.
 fn add_item(survey: &Survey, code: &mut Vec<Cell>, item: &Item, line: u32) -> Result<(), AsmError>
     requires { vec_len code.old < 2 ^ 32 }
     ensures added { MatchResult result

@@ -3,7 +3,7 @@ ghost use Rattle.std.specs.Prelude.{◌≡◌, ◌≤◌, ◌<◌, ◌^◌, ◌+
 ghost use Rattle.std.specs.Str.{IsAscii};
 ghost use Rattle.pisa_isa.specs.Table.{has_a, has_b, c_is_source};
 ghost use Rattle.pisa_isa.specs.Notes.{HasAsciiText};
-ghost use Rattle.rpp_words.specs.Words.{IsWord};
+ghost use Rattle.pisa_isa.specs.rpp_words.Words.{IsWord};
 ghost use Rattle.pisa_asm.specs.declared.assembler.TheConstants.{MOST_TEXT};
 ghost use Rattle.pisa_asm.specs.Passes.{noted_of_text};
 ghost use Rattle.pisa_asm.specs.Listing.{signed_text, offset_text, register_text, last_text, cell_text, static_text, number_text, mark_text, name_text, lines_by, listing};
@@ -14,7 +14,7 @@ use pisa_isa::{Cell, FieldName, Mark, Noted};
 use rpp_words::{NoMemory, wrap_sub};
 use std::alloc::{AllocError, Global};
 
-/// Puts a word in signed decimal last.
+/// Adds a word in signed decimal.
 fn add_signed(out: &mut String, word: u32) -> Result<(), AllocError>
     ensures { OnOk result (string_bytes out.new ≡ string_bytes out.old ++ 32 ∷ signed_text word) }
 {
@@ -26,7 +26,7 @@ fn add_signed(out: &mut String, word: u32) -> Result<(), AllocError>
     }
 }
 
-/// Puts an offset in signed decimal with its sign last.
+/// Adds an offset in signed decimal with its sign.
 fn add_offset(out: &mut String, offset: u32) -> Result<(), AllocError>
     ensures { OnOk result (string_bytes out.new ≡ string_bytes out.old ++ 32 ∷ offset_text offset) }
 {
@@ -38,7 +38,7 @@ fn add_offset(out: &mut String, offset: u32) -> Result<(), AllocError>
     }
 }
 
-/// Puts a register last, where a row has it.
+/// Adds a register, if the instruction has it.
 fn add_register(out: &mut String, has: bool, register: u8) -> Result<(), AllocError>
     ensures { OnOk result (string_bytes out.new ≡ string_bytes out.old ++ register_text has register) }
 {
@@ -49,7 +49,7 @@ fn add_register(out: &mut String, has: bool, register: u8) -> Result<(), AllocEr
     }
 }
 
-/// Puts the last operand of a row last.
+/// Adds the last operand of an instruction.
 fn add_last(out: &mut String, last: Last, imm: u32) -> Result<(), AllocError>
     ensures { OnOk result (string_bytes out.new ≡ string_bytes out.old ++ last_text last imm) }
 {
@@ -61,7 +61,7 @@ fn add_last(out: &mut String, last: Last, imm: u32) -> Result<(), AllocError>
     }
 }
 
-/// Puts the line of a cell last.
+/// Adds the line of a cell.
 fn add_cell(out: &mut String, cell: &Cell) -> Result<(), AllocError>
     ensures { OnOk result (string_bytes out.new
         ≡ string_bytes out.old ++ (cell_text cell.now ++ 10 ∷ [])) }
@@ -75,7 +75,7 @@ fn add_cell(out: &mut String, cell: &Cell) -> Result<(), AllocError>
     out.push('\n')
 }
 
-/// Puts the line of a static word last.
+/// Adds the line of a static word.
 fn add_static(out: &mut String, word: u32) -> Result<(), AllocError>
     ensures { OnOk result (string_bytes out.new ≡ string_bytes out.old ++ (static_text word ++ 10 ∷ [])) }
 {
@@ -84,7 +84,7 @@ fn add_static(out: &mut String, word: u32) -> Result<(), AllocError>
     out.push('\n')
 }
 
-/// Puts the lines of cells last.
+/// Adds the lines of cells.
 fn add_code(out: &mut String, code: &[Cell]) -> Result<(), AllocError>
     ensures { OnOk result (string_bytes out.new ≡ string_bytes out.old ++ lines_by cell_text code.now) }
 {
@@ -94,7 +94,7 @@ fn add_code(out: &mut String, code: &[Cell]) -> Result<(), AllocError>
     Ok(())
 }
 
-/// Puts the lines of static words last.
+/// Adds the lines of static words.
 fn add_statics(out: &mut String, statics: &[u32]) -> Result<(), AllocError>
     ensures { OnOk result (string_bytes out.new
         ≡ string_bytes out.old ++ lines_by static_text statics.now) }
@@ -105,14 +105,14 @@ fn add_statics(out: &mut String, statics: &[u32]) -> Result<(), AllocError>
     Ok(())
 }
 
-/// Puts a number last.
+/// Adds a number.
 fn add_number(out: &mut String, number: u32) -> Result<(), AllocError>
     ensures { OnOk result (string_bytes out.new ≡ string_bytes out.old ++ number_text number) }
 {
     write!(out, " {number}")
 }
 
-/// Puts the line of a mark last.
+/// Adds the line of a mark.
 fn add_mark(out: &mut String, mark: &Mark) -> Result<(), AllocError>
     ensures { OnOk result (string_bytes out.new
         ≡ string_bytes out.old ++ (mark_text mark.now ++ 10 ∷ [])) }
@@ -124,7 +124,7 @@ fn add_mark(out: &mut String, mark: &Mark) -> Result<(), AllocError>
     out.push('\n')
 }
 
-/// Puts the lines of marks last.
+/// Adds the lines of marks.
 fn add_marks(out: &mut String, marks: &[Mark]) -> Result<(), AllocError>
     ensures { OnOk result (string_bytes out.new ≡ string_bytes out.old ++ lines_by mark_text marks.now) }
 {
@@ -134,7 +134,7 @@ fn add_marks(out: &mut String, marks: &[Mark]) -> Result<(), AllocError>
     Ok(())
 }
 
-/// Puts bytes last.
+/// Adds bytes.
 fn add_bytes(out: &mut String, bytes: &[u8]) -> Result<(), AllocError>
     requires { IsAscii bytes.now }
     ensures { OnOk result (string_bytes out.new ≡ string_bytes out.old ++ bytes.now) }
@@ -145,7 +145,7 @@ fn add_bytes(out: &mut String, bytes: &[u8]) -> Result<(), AllocError>
     Ok(())
 }
 
-/// Puts the line of a name last.
+/// Adds the line of a name.
 fn add_name(out: &mut String, name: &FieldName) -> Result<(), AllocError>
     requires { IsAscii name.now.text }
     ensures { OnOk result (string_bytes out.new
@@ -158,7 +158,7 @@ fn add_name(out: &mut String, name: &FieldName) -> Result<(), AllocError>
     out.push('\n')
 }
 
-/// Puts the lines of names last.
+/// Adds the lines of names.
 fn add_names(out: &mut String, names: &[FieldName]) -> Result<(), AllocError>
     requires { All HasAsciiText names.now }
     ensures { OnOk result (string_bytes out.new ≡ string_bytes out.old ++ lines_by name_text names.now) }
@@ -169,7 +169,7 @@ fn add_names(out: &mut String, names: &[FieldName]) -> Result<(), AllocError>
     Ok(())
 }
 
-/// That the words of a slice are words.
+/// The lemma that the words of a slice are words.
 fn are_words(words: &[u32])
     ensures { All IsWord words.now }
 {}

@@ -14,7 +14,7 @@ use crate::line::{content, first_line};
 use pisa_isa::{FieldName, Image, MOST_MARKS, Mark, Notes, fits, mark_fits};
 use std::alloc::Global;
 
-/// Notes that fit the image, and behind them a mark.
+/// Notes that fit the image, followed by a mark.
 fn with_mark(image: &Image, notes: Notes, mark: Mark, line: u32) -> Result<Notes, AsmError>
     requires { IsTrue (fits image.now notes) }
     ensures { MatchResult result
@@ -31,7 +31,7 @@ fn with_mark(image: &Image, notes: Notes, mark: Mark, line: u32) -> Result<Notes
     Ok(Notes { marks, names })
 }
 
-/// Notes, and behind them a name.
+/// Notes, followed by a name.
 fn with_name(image: &Image, notes: Notes, name: FieldName, line: u32) -> Result<Notes, AsmError>
     ensures { MatchResult result
         (λ longer. if_fits line image.now (with_name notes name) ≡ Ok longer)
@@ -47,7 +47,7 @@ fn with_name(image: &Image, notes: Notes, name: FieldName, line: u32) -> Result<
     }
 }
 
-/// Notes that fit the image, and behind them what stands behind the labels of a line.
+/// Notes that fit the image, followed by what comes after the labels of a line.
 fn with_item(image: &Image, notes: Notes, item: Item, line: u32) -> Result<Notes, AsmError>
     requires { IsTrue (fits image.now notes) }
     ensures noted { MatchResult result

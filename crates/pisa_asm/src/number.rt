@@ -4,7 +4,7 @@ ghost use Rattle.pisa_asm.specs.Numerals.{below, minus, numeral, number_in, word
 
 use rpp_words::wrap_sub;
 
-/// The number that these digits write, where it is below the end.
+/// The number that these digits write, if it is below the end.
 fn number_below(end: u64, digits: &[u8]) -> Option<u32>
     requires { end ≤ 2 ^ 32 }
     ensures { result ≡ below end (numeral digits.now) }
@@ -60,7 +60,7 @@ pub fn word_number(bytes: &[u8]) -> Option<u32>
     number_in(1 << 31, 1 << 32, bytes)
 }
 
-/// The word that these bytes write in digits alone.
+/// The word that these bytes write only in digits.
 pub fn unsigned_number(bytes: &[u8]) -> Option<u32>
     ensures { result ≡ unsigned_number bytes.now }
 {

@@ -16,7 +16,7 @@ use pisa_isa::{Cell, Op};
 use rpp_tree::Text;
 use std::alloc::Global;
 
-/// What a row has behind its registers.
+/// What an instruction has after its registers.
 #[derive(Clone, Copy, PartialEq, Eq, Debug)]
 pub enum Last {
     /// Nothing.
@@ -32,7 +32,7 @@ pub enum Last {
 /// The last operand of an instruction.
 #[derive(Drop)]
 pub enum Operand {
-    /// A number, wrapped to a word; 0 where the row has none.
+    /// A number, wrapped to a word; 0 if the instruction has none.
     Number(u32),
     /// The name of a label.
     Label(Text),
@@ -41,13 +41,13 @@ pub enum Operand {
 /// An instruction as it is given.
 #[derive(Drop)]
 pub struct Given {
-    /// The cell; its offset is 0 where a label gives it.
+    /// The cell; its offset is 0 if a label gives it.
     pub cell: Cell,
     /// The label that gives the offset.
     pub target: Option<Text>,
 }
 
-/// What a row has behind its registers.
+/// What an instruction has after its registers.
 pub fn last_of(op: Op) -> Last
     ensures { result ≡ last_of op }
 {
@@ -83,7 +83,7 @@ pub fn has_registers(op: Op) -> (bool, bool, bool)
     }
 }
 
-/// The register that the first word names, where the row has one here, and what stands behind it.
+/// The register that the first word names, if the instruction has one here, and what follows it.
 fn register_from(has: bool, words: &[u8]) -> Option<(u8, &[u8])>
     ensures { MatchOption result (register_from has (words_of words.now) ≡ None)
         (λ p. register_from has (words_of words.now) ≡ Some (p.0, words_of p.1.now)) }
@@ -100,7 +100,7 @@ fn register_from(has: bool, words: &[u8]) -> Option<(u8, &[u8])>
     }
 }
 
-/// The registers of a row, and what stands behind them.
+/// The registers of an instruction, and what follows them.
 fn registers_from(op: Op, words: &[u8]) -> Option<(Cell, &[u8])>
     ensures { MatchOption result (registers_from op (words_of words.now) ≡ None)
         (λ p. registers_from op (words_of words.now) ≡ Some (p.0, words_of p.1.now)) }
@@ -135,7 +135,7 @@ pub fn sole_word(words: &[u8]) -> Option<&[u8]>
     }
 }
 
-/// The operand of a row that has none.
+/// The operand of an instruction that has none.
 fn no_operand(words: &[u8]) -> Option<u32>
     ensures { option_map Number result ≡ no_operand (words_of words.now) }
 {
@@ -145,7 +145,7 @@ fn no_operand(words: &[u8]) -> Option<u32>
     }
 }
 
-/// The last operand of a row whose last operand is no offset.
+/// The last operand of an instruction, if it is no offset.
 fn number_from(last: Last, words: &[u8]) -> Option<u32>
     requires { last ≢ Offset }
     ensures { option_map Number result ≡ operand_from last (words_of words.now) }
@@ -191,7 +191,7 @@ fn offset_from(alloc: Global, words: &[u8], line: u32) -> Result<Operand, AsmErr
     }
 }
 
-/// The last operand of a row.
+/// The last operand of an instruction.
 fn operand_from(alloc: Global, last: Last, words: &[u8], line: u32) -> Result<Operand, AsmError>
     ensures { MatchResult result
         (λ operand. or_bad line (operand_from last (words_of words.now)) ≡ Ok operand)
@@ -219,7 +219,7 @@ fn with_operand(cell: Cell, operand: Operand) -> Given
     }
 }
 
-/// The instruction of a row with these operands.
+/// The instruction of a mnemonic's row with these operands.
 pub fn given_from(alloc: Global, op: Op, words: &[u8], line: u32) -> Result<Given, AsmError>
     ensures { MatchResult result
         (λ given. or_bad line (given_from op (words_of words.now)) ≡ Ok given)

@@ -38,7 +38,7 @@ impl Model for Survey {
 }
 
 impl Survey {
-    /// Of no lines.
+    /// The survey of no lines.
     fn new(alloc: Global) -> Survey
         ensures { result ≡ no_lines }
     {
@@ -49,7 +49,7 @@ impl Survey {
         }
     }
 
-    /// The place of the label of this name.
+    /// The code address of the label of this name.
     pub fn place_of(&self, name: &Text) -> Option<u32>
         ensures { result ≡ place_of name.now self.now.labels }
     {
@@ -63,7 +63,7 @@ impl Survey {
         self.statics
     }
 
-    /// Counts what stands behind the labels of a line.
+    /// Counts what follows the labels of a line.
     fn count(&mut self, item: &Item, line: u32) -> Result<(), AsmError>
         ensures { MatchResult result
             (λ _. counted line self.old item.now ≡ Ok self.new)

@@ -18,7 +18,6 @@ use Rattle.pisa_cluster.proofs.Commuting.{slice_get-set_same, set_there}
 use Rattle.pisa_cluster.proofs.Undoing.{made, Back, free_step, drop_next, removed, found_at, replayed-start}
 use lib.Seq.{set-set, set-get_or}
 use lib.ListN.{length-replicate}
-use Rattle.pisa_cluster.proofs.Keeping.{cstep-start}
 use Rattle.std.proofs.lemmas.List.Edits.{length-remove}
 
 pub get_or-same : {X : Type 0} (xs : List X) (i : ℕ) (d e : X) → i < length xs → get_or xs i d ≡ get_or xs i e
@@ -112,7 +111,7 @@ stopped_by c d who p why low high read stops stays = record {
   stays = stays;
 }
 
--- the step that is taken back
+-- the step that is undone
 pub back_at : (c : Schedule) (at : ℕ) (step : Kept) → IsCluster c → IsFree at c.kept → step ≡ get_or c.kept at step
     → Back c (replay (start_of_joint c.joint) (makers (remove c.kept at))) step
 back_at c at step h f read =
@@ -120,7 +119,7 @@ back_at c at step h f read =
     subst (Back c (replay (start_of_joint c.joint) (makers (remove c.kept at)))) (sym (read ∙ free.there step))
     free.back
 
--- the processor of a step, as it stands behind the step
+-- the processor of a step, as it is after the step
 abbrev pub behind_step : {c : Schedule} {s : Joint} {step : Kept} → Back c s step → Processor
 behind_step {c} {s} {step} b = in_state b.processor (next b.processor.image.code (seen b.processor s.cells))
 
@@ -206,7 +205,7 @@ last_found kept who at step lt read own all = (
   length-take-le at kept (le_of_lt lt),
 )
 
--- what the search from the end tells
+-- what the search from the end finds
 pub record Found (who at : ℕ) (kept : List Kept) (step : Kept) : Type 0 where
   pub last : LastOf who kept
   pub place : length last.earlier ≡ at
@@ -319,11 +318,6 @@ pub same_cells : (s t : Joint) → start_of_joint s ≡ start_of_joint t → len
 same_cells s t same =
     sym (length-replicate (length s.cells) zero_word) ∙ ap (λ (x : Joint). length x.cells) same
     ∙ length-replicate (length t.cells) zero_word
-
-pub stepped_cells : (who serial : ℕ) (c d : Schedule) → IsMade who serial c d
-    → length d.joint.cells ≡ length c.joint.cells
-stepped_cells who serial c d m = same_cells d.joint c.joint
-    (ap (λ (x : Schedule). start_of_joint x.joint) m.leads ∙ cstep-start c.joint who)
 
 pub replayed_cells : (c d : Schedule) (kept : List Kept) → d.joint ≡ replay (start_of_joint c.joint) (makers kept)
     → length d.joint.cells ≡ length c.joint.cells

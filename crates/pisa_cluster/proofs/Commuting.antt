@@ -14,7 +14,7 @@ use Rattle.pisa_cluster.specs.Schedules.{is_same_cell, next_touch}
 use Rattle.pisa_cluster.proofs.Locality.{written, put_by, next-same, stop-same, next-cells, length-written}
 use Rattle.pisa_cluster.proofs.Locality.{read-written, written-written}
 
--- look-ups behind a change of a list
+-- look-ups after a change of a list
 module _ {X : Type 0} where
   none-some : (x : X) → None ≡ Some x → ⊥
   none-some x e = cc
@@ -36,7 +36,7 @@ module _ {X : Type 0} where
   set_there (y ∷ xs) zero x h = ap (λ (z : X). z ∷ xs) (sym (same_Some y x h))
   set_there (y ∷ xs) (suc i) x h = ap (λ (zs : List X). y ∷ zs) (set_there xs i x h)
 
--- the next state of a processor, whatever stands in the cells that it does not touch
+-- the next state of a processor, whatever the cells that it does not touch hold
 in_next : (p : Processor) (t : Option ℕ) (w : ℕ) (cells : List ℕ) → is_same_cell (touches p) t ≡ false
     → in_state p (next p.image.code (seen p (written t w cells))) ≡ in_state p (next p.image.code (seen p cells))
 in_next p t w cells apart = ap (in_state p) (next-same p (written t w cells) cells
@@ -73,7 +73,7 @@ module _ (s : Joint) (i k : ℕ) (p q : Processor) where
       (written-written (touches q) (touches p) (put_by q) (put_by p) s.cells turned)
       ∙ sym (ap₂ (λ x c. record { processors = slice_set (slice_set s.processors k q1) i x; cells = c }) p2 right_cells)
 
--- a step, and a step of another processor behind it
+-- a step, and a step of another processor after it
 pub record Swapped (s : Joint) (step later : Kept) : Type 0 where
   pub first : Goes s later
   pub second : Goes (cstep s later.who) step
@@ -141,7 +141,7 @@ swapped s step later apart g h free =
     let its = numbered (cstep s step.who) later.who h.processor h.there in
     swapped_at s mine.0 its.0 step later mine.1 its.1 (λ e. apart (its.1 ∙ ap suc (sym e) ∙ sym mine.1)) g h free
 
--- a step made behind all later ones
+-- a step made after all later ones
 pub record Behind (s : Joint) (step : Kept) (later : List Kept) : Type 0 where
   pub follows : AllGo s later
   pub goes : Goes (replay s (makers later)) step

@@ -5,7 +5,7 @@ use Rattle.std.proofs.lemmas.List.Elements.{All-head, All-tail, All-nil, All-con
 use Rattle.std.proofs.lemmas.List.Elements.{All-weaker}
 use Rattle.std.proofs.lemmas.Option.{same_Some}
 use lib.ListN.{length-replicate}
-use Rattle.rpp_words.specs.Words.{IsWord}
+use Rattle.pisa_isa.specs.rpp_words.Words.{IsWord}
 use Rattle.pisa_isa.specs.Image.{Segments, IsImage}
 use Rattle.pisa_isa.specs.Machine.{IsState, stop, next}
 use Rattle.pisa_isa.proofs.Keeps.{next-IsState}
@@ -61,14 +61,6 @@ from_images (p ∷ ps) h =
 to_images : (ps : List Processor) → All (λ (p : Processor). IsImage p.image) ps
     → All IsImage (map (λ (p : Processor). p.image) ps)
 to_images ps h = All-map IsImage (λ (p : Processor). p.image) ps h
-
-pub images_begun : (images : List Segments) (n : ℕ) → All IsImage images → HasImages (begun images n)
-images_begun images n h = from_images (map started_processor images)
-    (subst (All IsImage) (sym (images_started images)) h)
-
-pub images_start : (s : Joint) → HasImages s → HasImages (start_of_joint s)
-images_start s h = images_begun (map (λ (p : Processor). p.image) s.processors) (length s.cells)
-    (to_images s.processors h)
 
 -- a state with the same start has the same images
 pub images_same : (s t : Joint) → start_of_joint s ≡ start_of_joint t → HasImages t → HasImages s

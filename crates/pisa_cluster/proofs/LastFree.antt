@@ -21,7 +21,7 @@ all_last : (P : Kept → Type 0) (k : Kept) (ks : List Kept) → All P (k ∷ ks
 all_last P k [] h = h 0 k (omega arith)
 all_last P k (j ∷ js) h = all_last P j js (λ i d l. h (suc i) d (omega arith))
 
--- nothing stands behind the last step of its processor
+-- nothing comes after the last step of its processor
 free_by : (who : ℕ) (earlier : List Kept) (step : Kept) (front : List Kept) (own : Kept) (later : List Kept)
     (touched : Kept) → earlier ++ step ∷ [] ≡ front ++ own ∷ later → step.who ≡ who
     → All (λ (k : Kept). k.who ≢ who) later → next_touch own later ≡ Some touched → ⊥

@@ -93,7 +93,7 @@ module _ (core : Core) where
       (written (address_at (fetch code core.pc) core.regs) (put_at (fetch code core.pc) core.regs) cells)
       (effect-local (fetch code core.pc) cells others h)
 
-  -- stops depend on the number of cells alone
+  -- stops depend only on the number of cells
   stop_in-local : (op : Op) (c : Cell) (cells others : List ℕ) → length cells ≡ length others
       → stop_in op c (at cells) ≡ stop_in op c (at others)
   stop_in-local Exch c cells others h = ap (λ (n : ℕ). if nat_lt (slice_index core.regs c.b) n then None else Some

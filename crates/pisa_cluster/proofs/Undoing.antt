@@ -160,7 +160,7 @@ back_of c s step (suc i) p same there goes words led =
       led = led ∙ ap (cstep s) same ∙ ap (step_of s i) there;
     }
 
--- what stands at the place of a step that is free, and how the processors are when it is taken back
+-- what is at the index of a step that is free, and how the processors are when it is undone
 pub record FreeStep (c : Schedule) (at : ℕ) (kept : List Kept) : Type 0 where
   pub step : Kept
   pub there : (d : Kept) → get_or kept at d ≡ step

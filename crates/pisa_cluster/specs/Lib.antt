@@ -1,2 +1,3 @@
+pub use Rattle.pisa_isa.specs as pisa_isa
 pub mod Replay
 pub mod Schedules

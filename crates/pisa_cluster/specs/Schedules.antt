@@ -87,7 +87,7 @@ pub record IsFree (at : ℕ) (kept : List Kept) : Type 0 where
   pub place : length last.earlier ≡ at
   pub free : next_touch last.step last.later ≡ None
 
--- the last step of a processor is taken back: the state is the replay of the start over the others
+-- the last step of a processor is undone: the state is the replay of the start over the others
 pub record IsTakenBack (who serial : ℕ) (c d : Schedule) : Type 0 where
   pub last : LastOf who c.kept
   pub free : next_touch last.step last.later ≡ None
@@ -127,7 +127,7 @@ pub data Move : Type 0 where
   Undo : (who : ℕ) → Move
   Rewind : Move
 
--- a move leads from a cluster to another, whatever it answers
+-- a move leads from a cluster to another, whatever it returns
 abbrev pub Performs : Move → (c d : Schedule) → Type 0
 Performs (Step who) c d = (answer : Moved) × Moves who answer c d
 Performs (Undo who) c d = (answer : Undone) × Undoes who answer c d

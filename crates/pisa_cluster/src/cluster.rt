@@ -33,7 +33,7 @@ pub enum Moved {
 /// What undoing the last step of a processor comes to.
 #[derive(Clone, Copy, PartialEq, Eq, Debug)]
 pub enum Undone {
-    /// The step with this serial number was taken back.
+    /// The step with this serial number was undone.
     Done(u64),
     /// No step of the processor is kept.
     Nothing,
@@ -126,8 +126,8 @@ impl Cluster {
         }
     }
 
-    /// Takes back the last kept step of a processor, unless a later step of another touched the
-    /// same cell.
+    /// Undoes the last kept step of a processor, unless a later step of another touched the same
+    /// cell.
     pub fn undo(&mut self, who: u32) -> Undone
         requires first { 1 ≤ who }
         requires last { who ≤ length self.old.joint.processors }
@@ -149,7 +149,7 @@ impl Cluster {
         Undone::Done(step.serial)
     }
 
-    /// Takes back all kept steps, from the last one on, and answers how many they were.
+    /// Undoes all kept steps, from the last one on, and returns how many they were.
     pub fn rewind(&mut self) -> u64
         ensures count { result ≡ length self.old.kept }
         ensures rewinds { self.new ≡ rewound self.old }
@@ -163,8 +163,7 @@ impl Cluster {
         count as u64
     }
 
-    /// Takes back a kept step that is its processor's last one, where no later step touched the
-    /// same cell.
+    /// Undoes a kept step that is its processor's last one, if no later step touched the same cell.
     fn take_back(&mut self, at: usize)
         requires there { at < length self.old.kept }
         requires free { IsFree at self.old.kept }

@@ -6,7 +6,7 @@ ghost use Rattle.pisa_cluster.specs.declared.processor.Kept.{Kept};
 ghost use Rattle.pisa_cluster.specs.declared.cluster.Undone.TheVariants.{Blocked};
 
 /// After any list of steps, undoings and rewinds the state is the replay of the start over the kept
-/// steps in order, no step of that replay is a stop, and each touches what is noted. The start
+/// steps in order. No step of that replay is a stop, and each touches what is noted. The start
 /// stays what it was.
 pub fn schedules_replay()
     ensures keeps { (moves : List Move) (c d : Schedule) → IsCluster c → Leads moves c d → IsCluster d }

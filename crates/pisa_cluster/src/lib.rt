@@ -1,7 +1,7 @@
-//! Several processors that run their images on one memory, a step of one of them at a time. The
-//! cluster keeps the steps that were made, and undoes the last one of any processor where no later
-//! step of another touched the same cell: its state is always where the kept steps, made again from
-//! the start in their order, lead.
+//! A cluster of processors that run their images on one memory. One of them makes a step at a time.
+//! The cluster keeps the steps that were made, and undoes the last step of any processor if no
+//! later step of another touched the same cell. Its state is always where the kept steps lead, made
+//! again from the start in their order.
 #![tactic(auto)]
 
 mod cluster;

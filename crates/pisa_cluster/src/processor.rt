@@ -75,7 +75,7 @@ impl Processor {
         }
     }
 
-    /// Makes one step, or answers why the processor stops, and then changes nothing.
+    /// Makes one step, or returns why the processor stops, and then changes nothing.
     pub(crate) fn step(&mut self, cells: &mut Common) -> Option<Stop>
         ensures stops { result ≡ stop self.old.image.code (seen self.old cells.old.words.items) }
         ensures processor { self.new ≡ (if is_none result
@@ -89,7 +89,7 @@ impl Processor {
         step(&mut self.core, self.image.code(), cells)
     }
 
-    /// Takes back a step that was made.
+    /// Undoes a step that was made.
     pub(crate) fn step_back(&mut self, cells: &mut Common)
         requires made { IsNext self.old.image.code (seen self.old cells.old.words.items) }
         ensures undoes { (m : State) → IsState m → stop self.old.image.code m ≡ None

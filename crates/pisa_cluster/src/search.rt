@@ -20,7 +20,7 @@ pub(crate) fn last_step(kept: &[Kept], who: u32) -> Option<usize>
     None
 }
 
-/// The steps behind a place.
+/// The steps after an index.
 pub(crate) fn steps_after(kept: &[Kept], at: usize) -> &[Kept]
     requires { at < length kept.now }
     ensures { result.now ≡ drop (at + 1) kept.now }

@@ -4,7 +4,7 @@ use Rattle.std.proofs.Common.{None, Result, Ok, Err, refl, sym, ap, subst, â—Œâˆ
 use Rattle.pisa_isa.specs.declared.cell.Op.{Op}
 use Rattle.pisa_isa.specs.declared.cell.Cell.{Cell}
 use Rattle.pisa_isa.specs.Table.{has_a, has_b, c_is_source, register_end, imm_end, is_one_to_one, IsCell, IsInRange}
-use Rattle.rpp_words.specs.Words.{IsWord}
+use Rattle.pisa_isa.specs.rpp_words.Words.{IsWord}
 use Rattle.pisa_image.specs.declared.error.ImageError.{ImageError}
 use Rattle.pisa_image.specs.declared.error.NumberError.{NumberError}
 use Rattle.pisa_image.specs.declared.error.ImageError.TheVariants.{NotOneToOne, ImageField}

@@ -50,7 +50,7 @@ is_done {A = A} one size front count i at bytes total le so_far =
     rw k (ap (λ (ns : List A). Ok (ns, bytes)) (append-nil front)) in
     sym so_far ∙ here
 
--- bytes, and what a reader took from their front
+-- bytes, and what a reader took from their beginning
 
 abbrev pub IsBytes : List ℕ → Type 0
 IsBytes bytes = (i : ℕ) → get_or bytes i 0 < 256

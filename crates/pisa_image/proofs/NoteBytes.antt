@@ -9,9 +9,9 @@ use Rattle.std.proofs.lemmas.Bool.{and_parts, and_from}
 use Rattle.std.proofs.lemmas.Bool.Decides.{nat_tests}
 use Rattle.std.proofs.lemmas.List.{append-nil}
 use Rattle.std.proofs.lemmas.List.Concat.{flat_map-cons}
-use Rattle.rpp_words.specs.Words.{IsWord}
-use Rattle.rpp_words.specs.declared.input.TheConstants.{FIXED_CELLS}
-use Rattle.rpp_words.specs.Names.{is_name_byte}
+use Rattle.pisa_isa.specs.rpp_words.Words.{IsWord}
+use Rattle.pisa_isa.specs.rpp_words.declared.input.TheConstants.{FIXED_CELLS}
+use Rattle.pisa_isa.specs.rpp_words.Names.{is_name_byte}
 use Rattle.pisa_isa.specs.declared.image.TheConstants.{MOST_CELLS, MOST_STATICS}
 use Rattle.pisa_isa.specs.declared.notes.TheConstants.{MOST_MARKS, LAST_PLACE, MOST_NAMES, MOST_NAME_BYTES}
 use Rattle.pisa_isa.specs.declared.notes.Mark.{Mark}
@@ -358,7 +358,7 @@ names_take statics left (suc count) at bytes x fits e =
       fit = and_from (name_fits statics left a.0.0) _ ta.fit tb.fit;
     })
 
--- the place behind names
+-- the offset after names
 abbrev pub names_end : (at : ℕ) → List FieldName → ℕ
 names_end at [] = at
 names_end at (n ∷ names) = names_end (at + 8 + length n.text) names
@@ -427,7 +427,7 @@ notes_take cells statics at bytes x fits e =
     tb.fit) (le_test (length d.0.0) MOST_NAMES (omega arith))) td.fit in
     subst (NotesRead cells statics bytes) (ok_is made x d.2) (record { takes = all; fit = fit })
 
--- the place behind notes
+-- the offset after notes
 abbrev pub notes_end : (at : ℕ) → NoteLists → ℕ
 notes_end at notes = names_end (at + 8 + 12 * length notes.marks) notes.names
 

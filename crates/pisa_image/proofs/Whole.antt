@@ -9,7 +9,7 @@ use Rattle.std.proofs.lemmas.Bool.Decides.{nat_tests}
 use Rattle.std.proofs.lemmas.List.{append-nil, nil_from_length}
 use Rattle.std.proofs.lemmas.List.Elements.{recursion_from_All}
 use Rattle.std.proofs.lemmas.List.Sums.{passes_at_first, sum_by-cons}
-use Rattle.rpp_words.specs.Words.{IsWord}
+use Rattle.pisa_isa.specs.rpp_words.Words.{IsWord}
 use Rattle.pisa_isa.specs.declared.cell.Op.{Op}
 use Rattle.pisa_isa.specs.declared.cell.Op.TheVariants.{Start}
 use Rattle.pisa_isa.specs.declared.cell.Cell.{Cell}
@@ -177,12 +177,6 @@ counts_refuse false finishes image refusal e = let same : the_start ≡ refusal 
     the_start : SealError
     the_start = seal.NoStart
 
-counts_accept : (starts finishes : Bool) (image : Segments) → refused starts finishes ≡ None
-    → judged starts finishes image ≡ Ok image
-counts_accept true true image e = refl
-counts_accept true false image e = absurd cc
-counts_accept false finishes image e = absurd cc
-
 pub is_refused : (code : List Cell) (statics : List ℕ) (refusal : SealError) → All IsCell code
     → first_seal_refusal code ≡ Some refusal
     → (is_of_counts refusal ≡ true) × Fails (as_image_error refusal) (sealed (segments code statics))
@@ -190,12 +184,6 @@ is_refused code statics refusal cells e =
     let h = counts_refuse (nat_eq (count_by is_start code) 1) (nat_eq (count_by is_finish code) 1)
     (segments code statics) refusal (sym (by_counts code cells) ∙ e) in
     (h.counted, h.same)
-
-pub is_accepted : (code : List Cell) (statics : List ℕ) → All IsCell code → first_seal_refusal code ≡ None
-    → sealed (segments code statics) ≡ Ok (segments code statics)
-is_accepted code statics cells e =
-    counts_accept (nat_eq (count_by is_start code) 1) (nat_eq (count_by is_finish code) 1) (segments code statics)
-    (sym (by_counts code cells) ∙ e)
 
 -- the whole
 
@@ -325,7 +313,7 @@ counts image notes = sealed image >>= λ known. Ok (noted notes known)
 sealed_again : (image : Segments) (notes : NoteLists) → IsImage image → counts image notes ≡ Ok (noted notes image)
 sealed_again image notes i = rw (i.one_start, i.one_finish) refl
 
--- the segments at the front of these bytes are read
+-- the segments at the beginning of these bytes are read
 front_again : (version : ℕ) (image : Segments) (rest : List ℕ) → IsImage image → All IsWord image.statics
     → OLD_VERSION ≤ version → version ≤ VERSION
     → image_at (segment_bytes version image ++ rest) ≡ noted_at version (length image.code) (length image.statics) image

@@ -6,7 +6,7 @@ use Rattle.std.proofs.lemmas.Bool.{cases_lt, ltb-false, le-ltb}
 use Rattle.std.proofs.lemmas.List.{take_at, drop_at, take-append-drop, length-append, length-take, get_or-drop}
 use Rattle.std.proofs.lemmas.List.{get_or-take, get_or_past}
 use Rattle.std.proofs.lemmas.Nat.{le_bytes_4, from_le_bytes-to_le_bytes_4}
-use Rattle.rpp_words.specs.Words.{IsWord}
+use Rattle.pisa_isa.specs.rpp_words.Words.{IsWord}
 use Rattle.pisa_image.specs.declared.error.NumberError.{NumberError}
 use Rattle.pisa_image.specs.declared.error.NumberError.TheVariants.{Cut, NoMemory}
 use Rattle.pisa_image.specs.Numbers.{refused_as, word_bytes, word_at, Fails}

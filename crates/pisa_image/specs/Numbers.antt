@@ -12,7 +12,7 @@ word_bytes n = to_le_bytes w32 n
 abbrev pub words_bytes : List ℕ → List ℕ
 words_bytes words = flat_map word_bytes words
 
--- a step of reading, and the next one where it refuses nothing
+-- a step of reading, and the next one if it refuses nothing
 infixl 10 ◌>>=◌
 abbrev pub ◌>>=◌ : {E A B : Type 0} → Result A E → (A → Result B E) → Result B E
 (Ok x) >>= f = f x
@@ -23,13 +23,13 @@ abbrev pub refused_as : {E F A : Type 0} → (words : E → F) → Result A E �
 refused_as words (Ok x) = Ok x
 refused_as words (Err e) = Err (words e)
 
--- the number at the front and the bytes behind it, where these bytes stand at a place; else they
--- are refused as cut at their end
+-- the number at the beginning and the bytes after it, if these bytes begin at an offset; otherwise
+-- they are refused as cut at their end
 abbrev pub word_at : (at : ℕ) → List ℕ → Result (ℕ × List ℕ) NumberError
 word_at at bytes = if nat_lt (length bytes) 4 then Err (Cut (at + length bytes))
     else Ok (from_le_bytes w32 (take 4 bytes), drop 4 bytes)
 
--- so many items by a reader of one, each of so many bytes, and the bytes behind them
+-- so many items by a reader of one, each of so many bytes, and the bytes after them
 unfoldable pub many_at : {E A : Type 0} → (one : ℕ → List ℕ → Result (A × List ℕ) E)
     → (size count at : ℕ) → List ℕ → Result (List A × List ℕ) E
 many_at one size zero at bytes = Ok ([], bytes)

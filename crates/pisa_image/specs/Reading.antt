@@ -1,4 +1,4 @@
--- Reading an image from its front, with the first refusal that is met.
+-- Reading an image from its beginning, with the first refusal that is met.
 use Rattle.std.specs.Prelude.{◌≡◌, ℕ, zero, suc, ◌+◌, ◌-◌, ◌*◌, Bool, true, false, ◌&&◌, List, []}
 use Rattle.std.specs.Prelude.{◌∷◌, length, Option, Some, None, Result, Ok, Err, nat_eq, nat_lt}
 use Rattle.std.specs.Prelude.{nat_le, count_by, if◌then◌else◌}
@@ -7,8 +7,8 @@ use Rattle.pisa_isa.specs.declared.cell.Cell.{Cell}
 use Rattle.pisa_isa.specs.declared.image.TheConstants.{MOST_CELLS, MOST_STATICS}
 use Rattle.pisa_isa.specs.declared.image.SealError.{SealError}
 use Rattle.pisa_isa.specs.declared.image.SealError.TheVariants as seal
-use Rattle.rpp_words.specs.declared.input.TheConstants.{FIXED_CELLS}
-use Rattle.rpp_words.specs.Names.{is_name_byte}
+use Rattle.pisa_isa.specs.rpp_words.declared.input.TheConstants.{FIXED_CELLS}
+use Rattle.pisa_isa.specs.rpp_words.Names.{is_name_byte}
 use Rattle.std.specs.Char.{is_ascii_alphabetic}
 use Rattle.pisa_isa.specs.declared.notes.TheConstants.{MOST_MARKS, LAST_PLACE, MOST_NAMES}
 use Rattle.pisa_isa.specs.declared.notes.TheConstants.{MOST_NAME_BYTES}
@@ -42,7 +42,7 @@ abbrev pub number_refusal : NumberError → ImageError
 number_refusal (number.Cut at) = ImageTruncated at
 number_refusal number.NoMemory = NoMemory
 
--- a field is a value and the bytes behind it; `at` is the place of its first byte
+-- a field is a value and the bytes after it; `at` is the offset of its first byte
 
 -- a byte below an end
 abbrev pub byte_below : (at end : ℕ) → List ℕ → Result (ℕ × List ℕ) ImageError
@@ -137,7 +137,7 @@ text_at count at bytes = do
   first ← tested_byte is_ascii_alphabetic at bytes
   text_from first.0 (count - 1) (at + 1) first.1
 
--- a name of one of so many static cells, where the names have so many bytes left
+-- a name of one of so many static cells, if the names have so many bytes left
 unfoldable pub name_at : (statics left at : ℕ) → List ℕ → Result (FieldName × List ℕ) ImageError
 name_at statics left at bytes = do
   cell ← number_between FIXED_CELLS (FIXED_CELLS + statics - 1) at bytes
@@ -145,7 +145,7 @@ name_at statics left at bytes = do
   text ← text_at count.0 (at + 8) count.1
   Ok (record { cell = cell.0; text = text.0 }, text.1)
 
--- so many names, and the place behind them
+-- so many names, and the offset after them
 unfoldable pub names_at : (statics left count at : ℕ) → List ℕ
     → Result (List FieldName × ℕ × List ℕ) ImageError
 names_at statics left zero at bytes = Ok ([], at, bytes)
@@ -155,7 +155,7 @@ names_at statics left (suc count) at bytes = do
       first.1
   Ok (first.0 ∷ others.0, others.1, others.2)
 
--- the notes of code of so many cells and so many static cells, and the place behind them
+-- the notes of code of so many cells and so many static cells, and the offset after them
 unfoldable pub notes_at : (cells statics at : ℕ) → List ℕ
     → Result (NoteLists × ℕ × List ℕ) ImageError
 notes_at cells statics at bytes = do
@@ -185,7 +185,7 @@ sealed image =
 abbrev pub noted : NoteLists → Segments → NotedImage
 noted notes image = record { image = image; notes = notes }
 
--- the image of these segments with the notes behind them, which end the bytes
+-- the image of these segments with the notes after them, which end the bytes
 unfoldable pub noted_at : (version cells statics : ℕ) → Segments → List ℕ
     → Result NotedImage ImageError
 noted_at version cells statics image bytes = do

@@ -46,7 +46,7 @@ number_of Start = 33
 number_of Finish = 34
 number_of DataWord = 35
 
--- the row with a number, where the rows are numbered from 1 on
+-- the row with a number, if the rows are numbered from 1 on
 abbrev pub row_in : List Op → ℕ → Option Op
 row_in rows number = if nat_eq number 0 then None else slice_get rows (number - 1)
 

@@ -31,7 +31,7 @@ pub enum ImageError {
     /// Bytes follow the image, from this one on.
     #[error("bytes behind the image at {at}")]
     ImageTrailing { at: u32 },
-    /// Want of memory.
+    /// Memory ran out.
     #[error("no memory")]
     NoMemory,
 }
@@ -66,7 +66,7 @@ pub enum NumberError {
     /// The bytes end within a number; the place is their end.
     #[error("the bytes end at {at}")]
     Cut { at: u32 },
-    /// Want of memory.
+    /// Memory ran out.
     #[error("no memory")]
     NoMemory,
 }

@@ -1,7 +1,7 @@
-//! The bytes of image files. The bytes of an image with its notes are one function of it, `image_bytes`;
-//! the reader accepts exactly those bytes and those of the version before, which has no notes, and else
-//! answers the first field that is wrong. A layer above may use both, and the reading and writing of
-//! numbers of 32 bits, which state files share.
+//! The bytes of image files. One function, `image_bytes`, gives the bytes of an image with its
+//! notes. The reader accepts exactly those bytes and those of the version before, which has no
+//! notes. Otherwise it returns the first field that is wrong. A layer above may use both, and the
+//! reading and writing of numbers of 32 bits, which state files share.
 #![tactic(auto)]
 
 mod error;

@@ -2,8 +2,8 @@
 ghost use Rattle.std.specs.Prelude.{◌≡◌, ◌≤◌, ◌<◌, ◌+◌, ◌*◌, ◌-◌, ◌^◌, ◌∷◌, ℕ, List, Ok, length, vec_len, IfOk, IsTrue};
 ghost use Rattle.std.specs.List.{list_all};
 ghost use Rattle.std.specs.Char.{is_ascii_alphabetic};
-ghost use Rattle.rpp_words.specs.declared.input.TheConstants.{FIXED_CELLS};
-ghost use Rattle.rpp_words.specs.Names.{is_name_byte};
+ghost use Rattle.pisa_isa.specs.rpp_words.declared.input.TheConstants.{FIXED_CELLS};
+ghost use Rattle.pisa_isa.specs.rpp_words.Names.{is_name_byte};
 ghost use Rattle.pisa_isa.specs.Notes.{NoteLists, is_name, mark_fits, name_fits, names_fit, notes_fit};
 ghost use Rattle.pisa_image.specs.Reading.{Gives, number_between, tested_byte, mark_at, marks_at, text_from as text_behind, text_at, name_at, names_at, notes_at, notes_of};
 
@@ -16,8 +16,8 @@ use pisa_isa::{
 use rpp_words::{FIXED_CELLS, is_name_byte};
 use std::alloc::Global;
 
-/// The notes behind so many code cells and static cells, where the version has them, and the place
-/// behind them.
+/// The notes after so many code cells and static cells, if the version has them, and the offset
+/// after them.
 pub(crate) fn notes_of(
     alloc: Global,
     version: u32,
@@ -109,7 +109,7 @@ fn mark_at(cells: u32, at: u32, bytes: &[u8]) -> Result<(Mark, &[u8]), ImageErro
     ))
 }
 
-/// So many names, the first of which begins at a place, and the place behind them.
+/// So many names, the first of which begins at an offset, and the offset after them.
 fn names_at(
     alloc: Global,
     statics: u32,

@@ -5,7 +5,7 @@ ghost use Rattle.pisa_image.specs.Numbers.{Gives, word_at, words_at};
 use crate::error::NumberError;
 use std::alloc::Global;
 
-/// The number at a place, and the bytes behind it.
+/// The number at an offset, and the bytes after it.
 pub fn word_at(at: u32, bytes: &[u8]) -> Result<(u32, &[u8]), NumberError>
     requires { at < 2 ^ 31 }
     ensures { Gives (λ x. (x.0, x.1.now)) result (word_at at bytes.now) }
@@ -20,7 +20,7 @@ pub fn word_at(at: u32, bytes: &[u8]) -> Result<(u32, &[u8]), NumberError>
     Ok((number, rest))
 }
 
-/// So many numbers, the first of which begins at a place, and the bytes behind them.
+/// So many numbers, the first of which begins at an offset, and the bytes after them.
 pub fn words_at(
     alloc: Global,
     count: u32,

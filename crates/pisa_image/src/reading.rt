@@ -1,6 +1,6 @@
 // Reads images.
 ghost use Rattle.std.specs.Prelude.{◌≡◌, ◌≤◌, ◌<◌, ◌+◌, ◌*◌, ◌^◌, ℕ, List, All, length, vec_len, IfOk, IsTrue, Ok};
-ghost use Rattle.rpp_words.specs.Words.{IsWord};
+ghost use Rattle.pisa_isa.specs.rpp_words.Words.{IsWord};
 ghost use Rattle.pisa_isa.specs.Table.{IsCell};
 ghost use Rattle.pisa_isa.specs.Image.{Segments, IsImage};
 ghost use Rattle.pisa_isa.specs.Notes.{NotedImage, no_notes, fits};
@@ -24,7 +24,7 @@ pub const OLD_VERSION: u32 = 1;
 
 /// The image that the bytes are, with its notes. One of the version before has none.
 pub fn read_image(alloc: Global, bytes: &[u8]) -> Result<Noted, ImageError>
-    // What it answers, the first refusal included.
+    // What it returns, the first refusal included.
     ensures exact { Gives (λ n. n) result (image_at bytes.now) }
     // What is read as an image is its bytes, or those without notes of the version before.
     ensures found { IfOk result (λ n. AreBytesOf n bytes.now) }
@@ -66,7 +66,7 @@ fn header_at(bytes: &[u8]) -> Result<(u32, u32, u32, &[u8]), ImageError>
     Ok((version, cells, statics, rest))
 }
 
-/// The code and the static cells behind the header.
+/// The code and the static cells after the header.
 #[tactic(auto, unfolding(crate::specs::Reading::segments_at))]
 fn segments_at(
     alloc: Global,
@@ -87,7 +87,7 @@ fn segments_at(
     Ok((code, words, rest))
 }
 
-/// The image of these cells with the notes behind them.
+/// The image of these cells with the notes after them.
 #[tactic(auto, unfolding(crate::specs::Reading::noted_at))]
 fn noted_at(
     alloc: Global,
@@ -111,7 +111,7 @@ fn noted_at(
     Ok(Noted::seal(image, notes))
 }
 
-/// The notes, where nothing follows them.
+/// The notes, if nothing follows them.
 fn ended(notes: Notes, at: u32, rest: &[u8]) -> Result<Notes, ImageError>
     ensures { Gives (λ n. n) result (ended notes at rest.now) }
 {

@@ -54,7 +54,7 @@ pub(crate) fn row_with(number: u8) -> Option<Op>
     row_in(&ROWS, number)
 }
 
-/// The row with a number, where the rows are numbered from 1 on.
+/// The row with a number, if the rows are numbered from 1 on.
 fn row_in(rows: &[Op], number: u8) -> Option<Op>
     ensures { result ≡ row_in rows.now number }
 {

@@ -1,7 +1,7 @@
 // Writes images.
 ghost use Rattle.std.specs.Prelude.{◌≡◌, ◌≤◌, ◌++◌, OnOk, Ok, All, length, IfOk};
 ghost use Rattle.std.specs.List.{flat_map};
-ghost use Rattle.rpp_words.specs.Words.{IsWord};
+ghost use Rattle.pisa_isa.specs.rpp_words.Words.{IsWord};
 ghost use Rattle.pisa_image.specs.Numbers.{word_bytes, words_bytes};
 ghost use Rattle.pisa_image.specs.ImageBytes.{cell_bytes, image_bytes};
 ghost use Rattle.pisa_image.specs.Reading.{image_at};
@@ -48,9 +48,10 @@ pub fn add_words(bytes: &mut Vec<u8>, words: &[u32]) -> Result<(), AllocError>
     Ok(())
 }
 
-/// The bytes of an image: `RPPI`, the version, the numbers of code cells and of static cells, the code
-/// cells of eight bytes each, and the static cells of four; then its notes: the number of marks and the
-/// marks of twelve bytes each, the number of names, and for each its cell, its length and its bytes.
+/// The bytes of an image: `RPPI`, the version, the numbers of code cells and of static cells, the
+/// code cells of eight bytes each, and the static cells of four. Then its notes: the number of
+/// marks and the marks of twelve bytes each, the number of names, and for each its cell, its length
+/// and its bytes.
 pub fn write_image(alloc: Global, noted: &Noted) -> Result<Vec<u8>, NoMemory>
     ensures bytes { IfOk result (λ bytes. bytes.items ≡ image_bytes noted.now) }
     // They are read as the image with its notes.

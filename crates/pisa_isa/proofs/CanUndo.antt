@@ -1,4 +1,4 @@
--- What stepping back needs, where a step led here.
+-- What stepping back needs, if a step led here.
 use Rattle.std.proofs.Common.{◌≡◌, ◌≢◌, ◌∙◌, sym, ap, refl, ℕ, ◌^◌, ◌<◌, Bool, true, false, not, cond, arith, List}
 use Rattle.std.proofs.Common.{length, get_or, ℤ, pos, negsuc, ◌+ℤ◌, ◌≤ℤ◌, ◌<ℤ◌, Option, Some, None, length-set}
 use Rattle.std.proofs.lemmas.List.{get_or-set_other}
@@ -108,8 +108,8 @@ came_at code m s (Some c) k ok e h n =
 pub came_by : (code : List Cell) (m : State) → IsCode code → IsNext code m → CameBy code m
 came_by code m k n = came_at code m (back code m) (fetch code (back code m).pc) k n.is_state refl n.goes n.comes
 
--- stepping back in one go: the effect for the other direction where the machine stands, and then
--- the place before
+-- stepping back in one go: the effect for the other direction at the machine's code address, and
+-- then the code address before
 
 row-apart : (op : Op) (a b c i : ℕ) (pc p : ℤ) (br : ℕ) (back : Bool) (regs cells : List ℕ)
     → record (row op a b c i (state pc br back regs cells)) { pc = p }

@@ -1,4 +1,4 @@
--- The one START and the one FINISH cell: where they stand in code and in the flipped code, and what
+-- The one START and the one FINISH cell: their addresses in code and in the inverse code, and what
 -- steps there do.
 use Rattle.std.proofs.Common.{◌≡◌, ◌∙◌, sym, ap, refl, ℕ, zero, suc, ◌-◌, ◌<◌, Bool, true, false, not, ◌&&◌, cond}
 use Rattle.std.proofs.Common.{arith, List, [], ◌∷◌, length, get_or, map, ℤ, pos, negsuc, Option, Some, None}
@@ -47,7 +47,7 @@ pub only_one : {X : Type 0} (p : X → Bool) (xs : List X) (i j : ℕ) (d : X) �
     → j < length xs → p (get_or xs i d) ≡ true → p (get_or xs j d) ≡ true → i ≡ j
 only_one p xs i j d e = one_only p xs i j d (length-filter p xs ∙ e)
 
--- a cell that passes stands at a place
+-- a cell that passes is at a code address
 
 pub record Stands (p : Cell → Bool) (code : List Cell) (place : ℕ) : Type 0 where
   pub cell : Cell

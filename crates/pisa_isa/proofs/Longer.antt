@@ -1,11 +1,11 @@
 -- Runs and their bounds: more steps allowed, the states that are visited, and clean finishes.
 use Rattle.std.proofs.Common.{◌≡◌, ◌≢◌, ◌∙◌, sym, ap, refl, ℕ, zero, suc, ◌+◌, Bool, true, false, ◌&&◌, zero-add, arith}
-use Rattle.std.proofs.Common.{List, length, replicate, Option, Some, None}
+use Rattle.std.proofs.Common.{List, Option, Some, None}
 use Rattle.pisa_isa.specs.declared.cell.Cell.{Cell}
 use Rattle.pisa_isa.specs.declared.machine.Stop.{Stop}
 use Rattle.pisa_isa.specs.declared.machine.Stop.TheVariants.{Finished, Bound}
 use Rattle.pisa_isa.specs.Machine.{State, stop, stop_at, next, fetch}
-use Rattle.pisa_isa.specs.Runs.{End, run, steps, visited, counted, at_bound, after_step, before_step, later}
+use Rattle.pisa_isa.specs.Runs.{End, run, steps, at_bound, after_step, later}
 use Rattle.pisa_isa.specs.Ends.{IsCleanFinish, MeetsEndsOnce}
 use Rattle.pisa_isa.proofs.Keeps.{first_step}
 use Rattle.pisa_isa.proofs.Ends.{finished_at}
@@ -50,20 +50,6 @@ run-steps code (suc k) n m e h =
     ∙ ap (λ i. record (run code n e) { spent = i }) s
 
 -- as many states are visited as steps are counted
-
-length-replicated : (n : ℕ) (m : State) → length (replicate n m) ≡ n
-length-replicated zero m = refl
-length-replicated (suc n) m = ap suc (length-replicated n m)
-
-length_by_step : (o : Option Stop) (m : State) (rest : End) (list : List State) → length list ≡ rest.spent
-    → length (before_step o m list) ≡ (after_step o m rest).spent
-length_by_step None m rest list h = ap suc h
-length_by_step (Some why) m rest list h = length-replicated (counted why) m
-
-pub length-visited : (code : List Cell) (n : ℕ) (m : State) → length (visited code n m) ≡ (run code n m).spent
-length-visited code zero m = refl
-length-visited code (suc n) m = length_by_step (stop code m) m (run code n (next code m)) (visited code n (next code m))
-    (length-visited code n (next code m))
 
 -- a run that meets START only first and FINISH only last finishes cleanly
 

@@ -1,12 +1,11 @@
--- The notes of the flipped image fit it, and turning them again gives the notes back.
+-- The notes of the inverse image fit it, and inverting them again gives the same notes.
 use Rattle.std.proofs.Common.{◌≡◌, ◌∙◌, ap, subst, refl, sym, ℕ, ◌-◌, ◌≤◌, Bool, true, false, arith, List, [], ◌∷◌}
-use Rattle.std.proofs.Common.{length, map, get_or}
-use Rattle.std.specs.Prelude.{nat_le, ◌&&◌, IsTrue}
-use Rattle.std.specs.List.{list_all, All}
+use Rattle.std.proofs.Common.{length, map}
+use Rattle.std.specs.Prelude.{nat_le, ◌&&◌}
+use Rattle.std.specs.List.{list_all}
 use Rattle.std.proofs.lemmas.Bool.{and_parts, and_from}
 use Rattle.std.proofs.lemmas.Bool.Decides.{nat_tests}
 use Rattle.std.proofs.lemmas.List.{length-map}
-use Rattle.std.proofs.lemmas.List.Sums.{AllPass-from_list_all}
 use Rattle.pisa_isa.specs.declared.notes.TheConstants.{MOST_MARKS, LAST_PLACE, MOST_NAMES, MOST_NAME_BYTES}
 use Rattle.pisa_isa.specs.declared.notes.Mark.{Mark}
 use Rattle.pisa_isa.specs.Table.{inverse_of}
@@ -65,7 +64,7 @@ fits_by image notes f =
     and_from (marks_fit (length image.code) notes.marks && nat_le (length notes.names) MOST_NAMES) _
     (and_from (marks_fit (length image.code) notes.marks) _ (and_from _ _ f.few_marks f.each_mark) f.few_names) f.names
 
--- the notes of the flipped image fit it
+-- the notes of the inverse image fit it
 pub fits-flipped : (n : NotedImage) → fits n.image n.notes ≡ true
     → fits (flipped_image n.image) (turned_notes (length n.image.code) n.notes) ≡ true
 fits-flipped n e =
@@ -79,14 +78,6 @@ fits-flipped n e =
       few_names = f.few_names;
       names = f.names;
     })
-
--- each mark is within the code
-pub marks_within : (image : Segments) (notes : NoteLists) → fits image notes ≡ true
-    → All (λ m. IsTrue (is_within (length image.code) m)) notes.marks
-marks_within image notes e =
-    let f = fitting image notes e in
-    λ k d h. (and_parts (is_within (length image.code) (get_or notes.marks k d)) _
-    (AllPass-from_list_all (mark_fits (length image.code)) notes.marks f.each_mark k d h)).0
 
 mark_twice : (cells : ℕ) (m : Mark) → mark_fits cells m ≡ true → turned_mark cells (turned_mark cells m) ≡ m
 mark_twice cells m e =

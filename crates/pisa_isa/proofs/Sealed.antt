@@ -23,7 +23,7 @@ passes_all None starts finishes e = record {
   one_finish = grind (arith, nat_tests);
 }
 
--- where no element passes, its place is the length
+-- if no element passes, its place is the length
 none_passes : {X : Type 0} (p : X → Bool) (xs : List X) → position p xs ≡ None → length xs ≤ position_or_len p xs
 none_passes p xs e = none_below (position_or_len p xs) (length xs) e
   where
@@ -54,7 +54,7 @@ IsImage-sealed code statics in_limit statics_in_limit ranges e =
       statics_in_limit = statics_in_limit;
     }
 
--- where no element passes, none is counted
+-- if no element passes, none is counted
 
 filter_none : {X : Type 0} (p : X → Bool) (xs : List X) → length xs ≤ position_or_len p xs → length (filter p xs) ≡ 0
 filter_none p [] h = refl

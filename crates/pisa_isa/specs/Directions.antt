@@ -1,4 +1,4 @@
--- Rows in a direction, with no cell faced: where the registers a and b hold x and y.
+-- Rows in a direction, with no cell faced: if the registers a and b hold x and y.
 use Rattle.std.specs.Prelude.{ℕ, Bool, not, ◌&&◌, true, nat_lt, if◌then◌else◌, length, Option, Some}
 use Rattle.std.specs.Prelude.{None, slice_set}
 use Rattle.rpp_words.specs.Words.{sum_of, difference_of, negated, turned_left, turned_right}

@@ -17,8 +17,9 @@ statics_at = FIXED_CELLS
 abbrev pub heap_base : (heap statics : ℕ) → ℕ
 heap_base heap statics = (statics_at + statics + 2 ^ heap - 1) / 2 ^ heap * 2 ^ heap
 
--- the fixed cells: the order in ORDER_CELL, the addresses of the heap, of the stack and of what is
--- behind it in HEAP_CELL, STACK_CELL and END_CELL, and the heads of the free lists from order 1 on
+-- the fixed cells: the order in ORDER_CELL, and the addresses of the heap, of the stack and of what
+-- follows it in HEAP_CELL, STACK_CELL and END_CELL. Then come the heads of the free lists from
+-- order 1 on.
 abbrev pub fixed_cells : (heap deep base : ℕ) → List ℕ → List ℕ
 fixed_cells heap deep base heads =
     0 ∷ heap ∷ base ∷ (base + 2 ^ heap) ∷ (base + 2 ^ heap + FRAME_WORDS * deep) ∷ 0 ∷ 0 ∷ 0 ∷ 0

@@ -38,7 +38,7 @@ reg m r = slice_index m.regs r
 abbrev pub with_reg : State → ℕ → ℕ → State
 with_reg m r w = record m { regs = slice_set m.regs r w }
 
--- the word in a data cell, and 0 behind the memory
+-- the word in a data cell, and 0 after the memory
 abbrev pub word_at : (cells : List ℕ) → (at : ℕ) → ℕ
 word_at cells at = unwrap_or (slice_get cells at) 0
 
@@ -66,7 +66,7 @@ below_zero x = nat_le (2 ^ 31) x
 abbrev pub is_zero : ℕ → Bool
 is_zero x = nat_eq x 0
 
--- rows 25 and 27 to 32: whether the branch is taken, where its registers hold x and y
+-- rows 25 and 27 to 32: whether the branch is taken, if its registers hold x and y
 abbrev pub is_taken : Op → (x y : ℕ) → Bool
 is_taken Bra x y = true
 is_taken Beq x y = nat_eq x y

@@ -50,7 +50,7 @@ abbrev pub name_fits : (statics left : ℕ) → FieldName → Bool
 name_fits statics left n = nat_le FIXED_CELLS n.cell && nat_lt (n.cell - FIXED_CELLS) statics
     && nat_le (length n.text) left && is_name n.text
 
--- all of these names, where they have so many bytes together
+-- all of these names, if they have so many bytes together
 abbrev pub names_fit : (statics left : ℕ) → List FieldName → Bool
 names_fit statics left [] = true
 names_fit statics left (n ∷ names) =
@@ -65,14 +65,14 @@ notes_fit cells statics notes = marks_fit cells notes.marks
 abbrev pub fits : Segments → NoteLists → Bool
 fits image notes = notes_fit (length image.code) (length image.statics) notes
 
--- the same cells, where so many run from their other end
+-- the same cells, if so many run from their other end
 abbrev pub turned_mark : (cells : ℕ) → Mark → Mark
 turned_mark cells m = record m { first = cells - m.end; end = cells - m.first }
 
 abbrev pub turned_notes : (cells : ℕ) → NoteLists → NoteLists
 turned_notes cells notes = record notes { marks = map (turned_mark cells) notes.marks }
 
--- the flipped image with its notes
+-- the inverse image with its notes
 abbrev pub flipped_noted : NotedImage → NotedImage
 flipped_noted n = record {
   image = flipped_image n.image;

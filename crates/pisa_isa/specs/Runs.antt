@@ -16,7 +16,7 @@ started code regs cells =
 abbrev pub zero_registers : List ℕ
 zero_registers = replicate 32 0
 
--- goes on where there is no stop
+-- goes on if there is no stop
 abbrev pub unless_stop : Option Stop → Option State → Option State
 unless_stop None o = o
 unless_stop (Some e) o = None
@@ -47,7 +47,7 @@ counted (OffCode p) = 0
 counted Bound = 0
 counted _ = 1
 
--- what one step counts for, where it may be a stop
+-- what one step counts for, if it may be a stop
 abbrev pub counted_by : Option Stop → ℕ
 counted_by None = 1
 counted_by (Some e) = counted e
@@ -78,7 +78,7 @@ made_in e = e.spent - counted e.why
 abbrev pub later : ℕ → End → End
 later n e = record e { spent = n + e.spent }
 
--- the state before a step, in front of the states before the later steps
+-- the state before a step, before the states before the later steps
 abbrev pub before_step : Option Stop → State → List State → List State
 before_step (Some e) m rest = replicate (counted e) m
 before_step None m rest = m ∷ rest

@@ -15,11 +15,11 @@ use Rattle.pisa_isa.specs.declared.cell.Cell.{Cell}
 abbrev pub complement : ℕ → ℕ
 complement a = 2 ^ 32 - 1 - a
 
--- 1 where a test holds
+-- 1 if a test holds
 abbrev pub word_of : Bool → ℕ
 word_of b = if b then 1 else 0
 
--- rows 1 to 22: what becomes of the target x, where the sources hold y and z, and the cell has the
+-- rows 1 to 22: what becomes of the target x, if the sources hold y and z, and the cell has the
 -- word i
 abbrev pub new_value : Op → (x y z i : ℕ) → ℕ
 new_value Add x y z i = sum_of x y
@@ -74,7 +74,7 @@ inverse_word _ i = i
 abbrev pub inverse_of : Cell → Cell
 inverse_of c = record c { op = inverse_op c.op; imm = inverse_word c.op c.imm }
 
--- whether b is a source beside the target a
+-- whether b is a source other than the target a
 abbrev pub b_is_source : Op → Bool
 b_is_source Add = true
 b_is_source Sub = true
@@ -128,7 +128,7 @@ has_b Beq = true
 has_b Bne = true
 has_b op = b_is_source op
 
--- the end of the range of a register: 1 where the row names none
+-- the end of the range of a register: 1 if the row names none
 abbrev pub register_end : Bool → ℕ
 register_end true = 32
 register_end false = 1

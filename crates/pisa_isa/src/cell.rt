@@ -36,7 +36,7 @@ pub enum Op {
     Orx,
     /// `NORX d s t`: xors with the complement of s or t.
     Norx,
-    /// `SLTX d s t`: xors with 1 where s is below t as signed numbers.
+    /// `SLTX d s t`: xors with 1 if s is below t as signed numbers.
     Sltx,
     /// `ANDIX d s i`: xors with s and the word.
     Andix,
@@ -62,17 +62,17 @@ pub enum Op {
     Bra,
     /// `RBRA o`: as BRA, then negates the branch register and turns the direction.
     Rbra,
-    /// `BEQ d s o`: as BRA where d equals s.
+    /// `BEQ d s o`: as BRA if d equals s.
     Beq,
-    /// `BNE d s o`: as BRA where d differs from s.
+    /// `BNE d s o`: as BRA if d differs from s.
     Bne,
-    /// `BGEZ d o`: as BRA where d is at least 0, signed.
+    /// `BGEZ d o`: as BRA if d is at least 0, signed.
     Bgez,
-    /// `BGTZ d o`: as BRA where d is above 0, signed.
+    /// `BGTZ d o`: as BRA if d is above 0, signed.
     Bgtz,
-    /// `BLEZ d o`: as BRA where d is at most 0, signed.
+    /// `BLEZ d o`: as BRA if d is at most 0, signed.
     Blez,
-    /// `BLTZ d o`: as BRA where d is below 0, signed.
+    /// `BLTZ d o`: as BRA if d is below 0, signed.
     Bltz,
     /// `START`: where a run begins; stops one that comes backward.
     Start,
@@ -219,7 +219,7 @@ fn inverse_word(op: Op, imm: u32) -> u32
     }
 }
 
-/// The end of the range of a register's number, where a row has it or not.
+/// The end of the range of a register's number, if a row has it or not.
 fn register_end(has: bool) -> u8
     ensures { result ≡ register_end has }
 {

@@ -25,7 +25,7 @@ pub enum SealError {
     /// The number of FINISH cells is not 1.
     #[error("not exactly one FINISH")]
     NoFinish,
-    /// Want of memory, which `Image::seal` never answers.
+    /// Memory ran out, which `Image::seal` never returns.
     #[error("no memory")]
     NoMemory,
 }
@@ -106,7 +106,7 @@ fn first_refusal(code: &[Cell]) -> Option<SealError>
 }
 
 impl Image {
-    /// An image of these cells. It takes no memory, and hands nothing back where it refuses.
+    /// An image of these cells. It takes no memory, and returns nothing if it refuses.
     pub fn seal(code: Vec<Cell>, statics: Vec<u32>) -> Result<Image, SealError>
         requires code_in_limit { vec_len code ≤ MOST_CELLS }
         requires statics_in_limit { vec_len statics ≤ MOST_STATICS }

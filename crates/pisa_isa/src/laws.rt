@@ -20,13 +20,13 @@ pub fn back_undoes_steps()
         → back_by code n e ≡ m }
 {}
 
-/// A flipped image is an image, and flipping it again gives the image.
+/// An inverse image is an image, and the inverse image of it is the original one.
 pub fn flipped_image_is_image()
     ensures image { (image : Segments) → IsImage image → IsImage (flipped_image image) }
     ensures twice { (image : Segments) → IsImage image → flipped_image (flipped_image image) ≡ image }
 {}
 
-/// The notes of a flipped image fit it, and flipping it again gives the image with its notes.
+/// The notes of an inverse image fit it, and inverting both again gives the image with its notes.
 pub fn flipped_notes_fit()
     ensures fits { (n : NotedImage) → IsTrue (fits n.image n.notes)
         → IsTrue (fits (flipped_noted n).image (flipped_noted n).notes) }
@@ -34,9 +34,10 @@ pub fn flipped_notes_fit()
         → flipped_noted (flipped_noted n) ≡ n }
 {}
 
-/// Where a run of an image from START finishes cleanly, the run of the flipped code from START, from
-/// the registers and cells where that run ended, finishes cleanly in as many steps, with those that
-/// it began with. This holds for each bound that these steps are within.
+/// If a run of an image from START finishes cleanly, so does the run of the inverse code from
+/// START, with the registers and cells of that end. It takes as many steps, and ends with the
+/// registers and cells with which the first run began. This holds for each bound that these steps
+/// are within.
 pub fn flipped_run_restores()
     ensures { (image : Segments) (n : ℕ) (regs cells : List ℕ) (bound : ℕ) → IsImage image
         → IsState (started image.code regs cells)

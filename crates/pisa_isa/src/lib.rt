@@ -1,7 +1,7 @@
-//! The reversible machine PISA: its instructions, one step forward and back, and images, the
-//! programs that it runs, with notes on where their cells come from. The definitions that the
-//! contracts of all layers above share stand here: the table of instructions, states, stops, steps,
-//! runs, and the memory that a run begins with.
+//! The reversible machine PISA: its instructions, its single steps, and images. An image is a
+//! program of the machine, with notes on where its cells come from. A step goes forward or back.
+//! The contracts of all layers above share the definitions in this crate: the table of
+//! instructions, states, stops, steps, runs, and the memory that a run begins with.
 #![tactic(auto)]
 
 mod cell;

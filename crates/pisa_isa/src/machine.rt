@@ -24,7 +24,7 @@ pub enum Stop {
     BadAddress(u32),
     /// At this place outside the code. Counts as no step.
     OffCode(i64),
-    /// After all allowed steps. `step` never answers it, and it counts as no step.
+    /// After all allowed steps. `step` never returns it, and it counts as no step.
     Bound,
 }
 
@@ -68,7 +68,7 @@ fn is_in_code(code: &[Cell], pc: i64) -> bool
     pc.cast_unsigned() < code.len() as u64
 }
 
-/// The cell at a place in the code.
+/// The cell at a code address.
 fn cell_at(code: &[Cell], pc: i64) -> &Cell
     requires code { IsCode code.now }
     requires there { IsSome (fetch code.now pc) }
@@ -104,7 +104,7 @@ fn place_after(pc: i64, br: u32, back: bool) -> i64
     }
 }
 
-/// Stands at a place.
+/// Goes to a code address.
 fn stand_at(core: &mut Core, pc: i64)
     ensures { core.new ≡ record core.old { pc = pc } }
 {
@@ -120,7 +120,7 @@ fn advance(core: &mut Core, pc: i64)
     core.pc = place_after(pc, core.br, core.back);
 }
 
-/// The place before the last move, where `back` is the direction against it.
+/// The place before the last move, if `back` is the direction against it.
 fn place_before(core: &Core, back: bool) -> i64
     requires low { pos 0 ≤ℤ (core.now.pc +ℤ pos (2 ^ 32)) }
     requires high { core.now.pc ≤ℤ pos (2 ^ 32) }
@@ -136,7 +136,7 @@ fn is_below_zero(x: u32) -> bool
     x >= 1 << 31
 }
 
-/// Adds an offset to the branch register where a branch is taken.
+/// Adds an offset to the branch register if a branch is taken.
 fn branch_if(core: &mut Core, taken: bool, offset: u32)
     ensures { core.new ≡ record core.old {
       br = if taken then sum_of core.old.br offset
@@ -157,7 +157,7 @@ fn reverse(core: &mut Core, offset: u32)
     core.back = !core.back;
 }
 
-/// Swaps a register with the data cell at an address, or stops where there is none.
+/// Swaps a register with the data cell at an address, or stops if there is none.
 fn exchange<C: Cells>(core: &mut Core, a: usize, at: u32, cells: &mut C) -> Option<Stop>
     requires { a < 32 }
     ensures stops { result ≡ (if nat_lt at (length (C.words cells.old)) then None
@@ -203,9 +203,9 @@ fn offset_by(back: bool, i: u32) -> u32
     if back { wrap_sub(0, i) } else { i }
 }
 
-/// The effect of a row in a direction, where its first two registers hold `x` and `y`, or why the
-/// machine stops there, and then nothing changes. It is the whole work of a step but for the move,
-/// so that one look at the row decides both.
+/// The effect of a row in a direction, if its first two registers hold `x` and `y`, or why the
+/// machine stops there, and then nothing changes. It is the whole work of a step except the move,
+/// so that one look at the instruction decides both.
 #[inline(always)]
 fn act<C: Cells>(
     core: &mut Core,
@@ -291,7 +291,7 @@ fn act_by<C: Cells>(core: &mut Core, cell: &Cell, back: bool, cells: &mut C) -> 
     act(core, cell.op, back, a, x, y, c, cell.imm, cells)
 }
 
-/// One step at a cell, where `back` says that the machine faces direction -1, or why it stops, and
+/// One step at a cell, if `back` says that the machine faces direction -1, or why it stops, and
 /// then nothing changes.
 #[inline(always)]
 fn step_by<C: Cells>(core: &mut Core, cell: &Cell, back: bool, cells: &mut C) -> Option<Stop>
@@ -315,7 +315,7 @@ fn step_by<C: Cells>(core: &mut Core, cell: &Cell, back: bool, cells: &mut C) ->
     None
 }
 
-/// Makes one step, or answers why the machine stops, and then changes nothing.
+/// Makes one step, or returns why the machine stops, and then changes nothing.
 #[inline(always)]
 pub fn step<C: Cells>(core: &mut Core, code: &[Cell], cells: &mut C) -> Option<Stop>
     requires { IsCode code.now }
@@ -336,7 +336,7 @@ pub fn step<C: Cells>(core: &mut Core, code: &[Cell], cells: &mut C) -> Option<S
     }
 }
 
-/// Undoes a step that was made, where `back` says that it was made for direction 1: the move, and
+/// Undoes a step that was made, if `back` says that it was made for direction 1: the move, and
 /// then the effect, each for the other direction. At the ends of a run the effect is nothing, so
 /// that it does not matter that `act` would stop there.
 #[inline(always)]

@@ -27,7 +27,7 @@ pub const MOST_NAME_BYTES: u32 = 1_048_576;
 pub struct Mark {
     /// The first of the cells.
     pub first: u32,
-    /// The cell behind the last of them.
+    /// The cell after the last of them.
     pub end: u32,
     /// The place of the statement, in bytes from the start of the source.
     pub at: u32,
@@ -86,7 +86,7 @@ impl FieldName {
     }
 }
 
-/// What is noted of an image beside its cells.
+/// The notes of an image in addition to its cells.
 #[derive(Drop)]
 pub struct Notes {
     /// The statements of its code cells.
@@ -157,7 +157,7 @@ fn marks_fit(cells: u32, marks: &[Mark]) -> bool
     marks.len() <= MOST_MARKS && each_fits
 }
 
-/// Whether a name fits so many static cells, where the names have so many bytes left.
+/// Whether a name fits so many static cells, if the names have so many bytes left.
 pub fn name_fits(statics: u32, left: u32, name: &FieldName) -> bool
     ensures { result ≡ name_fits statics left name.now }
 {
@@ -191,7 +191,7 @@ pub fn fits(image: &Image, notes: &Notes) -> bool
 }
 
 impl Notes {
-    /// The notes of the flipped image, of so many code cells.
+    /// The notes of the inverse image, of so many code cells.
     pub fn turned(&self, alloc: Global, code: u32) -> Result<Notes, NoMemory>
         requires { All (λ m. IsTrue (is_within code m)) self.now.marks }
         ensures { IfOk result (λ notes. notes ≡ turned_notes code self.now) }

@@ -6,10 +6,10 @@ use Rattle.std.proofs.lemmas.Bool.{eqb-true}
 use Rattle.std.proofs.lemmas.Bool.Decides.{nat_tests}
 use Rattle.std.proofs.lemmas.List.{append-nil, nil_from_length}
 use Rattle.std.proofs.lemmas.List.Elements.{All-from_recursion, recursion_from_All}
-use Rattle.rpp_words.specs.Words.{IsWord}
-use Rattle.pisa_isa.specs.Image.{Segments}
-use Rattle.pisa_isa.specs.Machine.{IsState, Memory}
-use Rattle.pisa_isa.proofs.Keeps.{steps-IsState}
+use Rattle.rpp_tree.specs.rpp_words.Words.{IsWord}
+use Rattle.pisa_machine.specs.pisa_isa.Image.{Segments}
+use Rattle.pisa_machine.specs.pisa_isa.Machine.{IsState, Memory}
+use Rattle.pisa_image.proofs.pisa_isa_laws.Keeps.{steps-IsState}
 use Rattle.pisa_machine.specs.Position.{Position, IsMachine, first_position}
 use Rattle.pisa_image.specs.declared.error.NumberError.{NumberError}
 use Rattle.pisa_image.specs.Numbers.{◌>>=◌, refused_as, word_bytes, words_bytes, word_at, words_at}

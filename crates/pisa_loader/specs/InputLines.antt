@@ -6,10 +6,10 @@ use Rattle.std.specs.List.{prefix_len, take_while, list_all, list_any, slice_spl
 use Rattle.std.specs.Option.{option_and_then}
 use Rattle.std.specs.Char.{is_ascii_alphabetic, is_ascii_digit}
 use Rattle.std.specs.Str.{bytes_eq}
-use Rattle.rpp_words.specs.declared.input.FieldWord.{FieldWord}
-use Rattle.rpp_words.specs.Words.{IsWord, negated}
-use Rattle.rpp_words.specs.Texts.{decimal_from}
-use Rattle.rpp_words.specs.Names.{is_name_byte}
+use Rattle.rpp_tree.specs.rpp_words.declared.input.FieldWord.{FieldWord}
+use Rattle.rpp_tree.specs.rpp_words.Words.{IsWord, negated}
+use Rattle.rpp_tree.specs.rpp_words.Texts.{decimal_from}
+use Rattle.rpp_tree.specs.rpp_words.Names.{is_name_byte}
 use Rattle.pisa_image.specs.Numbers.{◌>>=◌}
 use Rattle.pisa_loader.specs.declared.error.LoadError.{LoadError}
 use Rattle.pisa_loader.specs.declared.error.LoadError.TheVariants.{UnknownField, BadInputLine}
@@ -23,11 +23,11 @@ is_of Letter byte = is_ascii_alphabetic byte
 is_of InName byte = is_name_byte byte
 is_of Digit byte = is_ascii_digit byte
 
--- what stands behind the bytes at the front that pass
+-- what follows the first bytes that pass
 abbrev pub behind : (ℕ → Bool) → List ℕ → List ℕ
 behind passes text = drop (prefix_len passes text) text
 
--- what stands behind a byte that must come first
+-- what follows a byte that must come first
 abbrev pub after : (first : ℕ) → List ℕ → Option (List ℕ)
 after first [] = None
 after first (byte ∷ rest) = if nat_eq byte first then Some rest else None
@@ -58,7 +58,7 @@ pub record Entry : Type 0 where
 abbrev pub entry : List ℕ → ℕ → Entry
 entry name word = record { name = name; word = word }
 
--- a name, `=` and a number, with blanks round each
+-- a name, `=` and a number, with blanks around each
 unfoldable pub entry_in : List ℕ → Option Entry
 entry_in line =
     let text = behind (is_of Blank) line in
@@ -89,7 +89,7 @@ abbrev pub entry_word : List InputField → (line : ℕ) → List FieldWord → 
 entry_word fields line words None = Err (BadInputLine line)
 entry_word fields line words (Some e) = new_word line words (field_named fields e.name) e.word
 
--- what a line sets beside the words of the lines before it
+-- what a line sets in addition to the words of the lines before it
 abbrev pub line_word : List InputField → (line : ℕ) → List FieldWord → List ℕ
     → Result (Option FieldWord) LoadError
 line_word fields line words text = if list_all (is_of Blank) text then Ok None

@@ -1,9 +1,9 @@
 -- The bytes of a state file, and how they are read, with the first refusal.
 use Rattle.std.specs.Prelude.{◌≡◌, ℕ, ◌+◌, ◌*◌, List, ◌++◌, All, length, codes, Result, Ok, Err}
 use Rattle.std.specs.Prelude.{nat_eq, if◌then◌else◌}
-use Rattle.rpp_words.specs.Words.{IsWord}
-use Rattle.pisa_isa.specs.Image.{Segments}
-use Rattle.pisa_isa.specs.Machine.{Memory}
+use Rattle.rpp_tree.specs.rpp_words.Words.{IsWord}
+use Rattle.pisa_machine.specs.pisa_isa.Image.{Segments}
+use Rattle.pisa_machine.specs.pisa_isa.Machine.{Memory}
 use Rattle.pisa_machine.specs.Position.{Position, first_position}
 use Rattle.pisa_image.specs.declared.error.NumberError.{NumberError}
 use Rattle.pisa_image.specs.declared.error.NumberError.TheVariants as number
@@ -41,7 +41,7 @@ abbrev pub number_refusal : NumberError → LoadError
 number_refusal (number.Cut at) = BadState at
 number_refusal number.NoMemory = NoMemory
 
--- a number that must be this one, and the bytes behind it
+-- a number that must be this one, and the bytes after it
 abbrev pub known_word : (known at : ℕ) → List ℕ → Result (List ℕ) LoadError
 known_word known at bytes = refused_as number_refusal (word_at at bytes) >>= λ word.
     if nat_eq word.0 known then Ok word.1 else Err (BadState at)

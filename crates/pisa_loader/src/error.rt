@@ -22,13 +22,13 @@ pub enum LoadError {
     #[error("unknown field in line {line}")]
     UnknownField { line: u32 },
     /// The bytes are no state for this image and these limits. The place is that of the first wrong
-    /// field, of the end where they end early, or of the first byte too many.
+    /// field, of the end if they end early, or of the first byte too many.
     #[error("bad state at {at}")]
     BadState { at: u32 },
     /// The line is neither blank nor a name, `=` and a number.
     #[error("bad input line {line}")]
     BadInputLine { line: u32 },
-    /// Want of memory.
+    /// Memory ran out.
     #[error("no memory")]
     NoMemory,
 }

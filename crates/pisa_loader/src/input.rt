@@ -22,12 +22,12 @@ pub struct InputField {
     pub field: u32,
 }
 
-/// The words that an input gives to fields. A line of it is blank, or a name, `=` and a decimal number
-/// from -2147483648 to 2147483647, with spaces and tabs round each. The first line that is refused
-/// counts; that it has this form is tried before its name.
+/// The words that an input gives to fields. A line of it is blank, or a name, `=` and a decimal
+/// number from -2147483648 to 2147483647, with spaces and tabs around each. The first line that is
+/// refused counts; that it has this form is tried before its name.
 pub fn read_input(alloc: Global, bytes: &[u8], fields: &[InputField]) -> Result<Input, LoadError>
     requires { length bytes.now ≤ MOST_INPUT }
-    // What it answers, the first refusal included.
+    // What it returns, the first refusal included.
     ensures exact { Gives (λ input. input.words.items) result (input_of fields.now bytes.now) }
     // What is read are words for these fields, for none twice.
     ensures input { IfOk result (λ input. AreInput fields.now input.words.items) }
@@ -50,7 +50,7 @@ fn read_lines(alloc: Global, bytes: &[u8], fields: &[InputField]) -> Result<Inpu
     Ok(Input { words })
 }
 
-/// Puts the word of a line at the end, where it has one.
+/// Puts the word of a line at the end, if it has one.
 fn add(words: &mut Vec<FieldWord>, word: Option<FieldWord>) -> Result<(), AllocError>
     ensures { OnOk result (words.new.items ≡ with_word words.old.items word) }
 {
@@ -71,7 +71,7 @@ fn lines(alloc: Global, bytes: &[u8]) -> Result<Vec<&[u8]>, AllocError>
     bytes.split(|byte| *byte == b'\n').collect(alloc)
 }
 
-/// What a line sets beside the words of the lines before it.
+/// What a line sets in addition to the words of the lines before it.
 fn line_word(
     fields: &[InputField],
     words: &[FieldWord],

@@ -1,7 +1,7 @@
-//! The memory that a machine begins with, and the files beside an image: the limits of a run, its
-//! input, and states. A layer above may use that the cells of a machine which `load` makes are the
-//! loaded memory, those of `load_more` the same with zeros behind it, and those of `load_state` the
-//! memory of the state; each refusal is the first one.
+//! The memory that a machine begins with, and the files that come with an image. These files have
+//! the limits of a run, its input, and states. The layer above may use that the cells of a machine
+//! which `load` makes are the loaded memory. Those of `load_more` are the same followed by zeros,
+//! and those of `load_state` are the memory of the state. Each refusal is the first one.
 #![tactic(auto)]
 
 mod error;

@@ -2,7 +2,7 @@
 ghost use Rattle.std.specs.Prelude.{◌≡◌, ◌≤◌, ◌^◌, ◌+◌, min, length, MatchOption, Some, None};
 ghost use Rattle.std.specs.List.{prefix_len, take_while, list_all};
 ghost use Rattle.pisa_loader.specs.InputLines.{is_of, behind, after, word_up_to, digits_word, number_word, entry_in, Entry, entry};
-ghost use Rattle.rpp_words.specs.Texts.{decimal_from};
+ghost use Rattle.rpp_tree.specs.rpp_words.Texts.{decimal_from};
 
 use rpp_words::wrap_sub;
 
@@ -33,7 +33,7 @@ fn is_of(kind: Kind, byte: u8) -> bool
     }
 }
 
-/// How many bytes of a kind stand at the front.
+/// How many bytes of a kind are at the beginning.
 fn front_len(kind: Kind, text: &[u8]) -> usize
     ensures count { result ≡ prefix_len (is_of kind) text.now }
     ensures within { result ≤ length text.now }
@@ -46,7 +46,7 @@ fn front_len(kind: Kind, text: &[u8]) -> usize
     text.len()
 }
 
-/// What stands behind the bytes of a kind at the front.
+/// What follows the first bytes of a kind.
 fn behind(kind: Kind, text: &[u8]) -> &[u8]
     ensures { result.now ≡ behind (is_of kind) text.now }
 {
@@ -60,7 +60,7 @@ pub(crate) fn is_blank_line(text: &[u8]) -> bool
     text.iter().all(|byte| is_of(Kind::Blank, *byte))
 }
 
-/// What stands behind a byte that must come first.
+/// What follows a byte that must come first.
 fn after(first: u8, text: &[u8]) -> Option<&[u8]>
     ensures { MatchOption result (after first text.now ≡ None)
         (λ rest. after first text.now ≡ Some rest.now) }
@@ -71,7 +71,7 @@ fn after(first: u8, text: &[u8]) -> Option<&[u8]>
     }
 }
 
-/// The number that these digits write, or `2 ^ 32` where it is greater.
+/// The number that these digits write, or `2 ^ 32` if it is greater.
 fn decimal(digits: &[u8]) -> u64
     ensures { result ≡ min (decimal_from 0 digits.now) (2 ^ 32) }
 {
@@ -82,7 +82,7 @@ fn decimal(digits: &[u8]) -> u64
     number
 }
 
-/// The word of a number with or without a minus, where 32 bits have room for it.
+/// The word of a number with or without a minus, if 32 bits can hold it.
 fn word_up_to(minus: bool, number: u64) -> Option<u32>
     requires { number ≤ 2 ^ 32 }
     ensures { result ≡ word_up_to minus number }

@@ -1,12 +1,12 @@
 // The memory that a run begins with.
 ghost use Rattle.std.specs.Prelude.{◌≡◌, ◌≤◌, ◌<◌, ◌+◌, ◌-◌, ◌*◌, ◌/◌, ◌++◌, ◌^◌, All, length, replicate, vec_len, IfOk, OnOk};
-ghost use Rattle.rpp_words.specs.Words.{IsWord};
-ghost use Rattle.pisa_isa.specs.Loaded.{loaded, heap_base as base_of, fixed_cells, empty_heads, with_words};
-ghost use Rattle.pisa_isa.specs.Image.{IsImage};
-ghost use Rattle.pisa_isa.specs.Runs.{zero_registers};
+ghost use Rattle.rpp_tree.specs.rpp_words.Words.{IsWord};
+ghost use Rattle.pisa_machine.specs.pisa_isa.Loaded.{loaded, heap_base as base_of, fixed_cells, empty_heads, with_words};
+ghost use Rattle.pisa_machine.specs.pisa_isa.Image.{IsImage};
+ghost use Rattle.pisa_machine.specs.pisa_isa.Runs.{zero_registers};
 ghost use Rattle.pisa_machine.specs.Position.{first_position};
 ghost use Rattle.pisa_loader.specs.Limiting.{IsInputOf, memory_size};
-ghost use Rattle.rpp_words.specs.Limits.{IsLimits};
+ghost use Rattle.rpp_tree.specs.rpp_words.Limits.{IsLimits};
 
 use pisa_isa::{Image, MOST_STATICS};
 use pisa_machine::Machine;
@@ -26,7 +26,7 @@ pub fn load(alloc: Global, image: Image, limits: Limits, input: &Input) -> Resul
     load_more(alloc, image, limits, input, 0)
 }
 
-/// The machine that `load` makes, with so many cells of 0 behind its memory.
+/// The machine that `load` makes, with so many cells of 0 after its memory.
 pub fn load_more(
     alloc: Global,
     image: Image,
@@ -56,8 +56,8 @@ pub(crate) fn memory_size(statics: u32, limits: Limits) -> u32
     heap_base(limits.heap, statics) + heap_size(limits.heap) + FRAME_WORDS * limits.deep
 }
 
-/// The memory of a run that begins with these static cells, this input and an empty heap, and so many
-/// cells of 0 behind it.
+/// The memory of a run that begins with these static cells, this input and an empty heap, and so
+/// many cells of 0 after it.
 fn memory(
     alloc: Global,
     statics: &[u32],

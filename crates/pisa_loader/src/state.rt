@@ -1,11 +1,11 @@
 // States: the registers and the data cells of a machine as bytes.
 ghost use Rattle.std.specs.Prelude.{◌≡◌, ◌≤◌, ◌<◌, ◌+◌, ◌*◌, ◌^◌, ◌++◌, ℕ, List, All, length, slice_index, vec_len, IfOk, OnOk, Ok};
-ghost use Rattle.rpp_words.specs.Words.{IsWord};
+ghost use Rattle.rpp_tree.specs.rpp_words.Words.{IsWord};
 ghost use Rattle.pisa_machine.specs.Position.{first_position, IsMachine};
 ghost use Rattle.pisa_image.specs.Numbers.{words_bytes};
 ghost use Rattle.pisa_loader.specs.Limiting.{memory_size};
-ghost use Rattle.rpp_words.specs.Limits.{IsLimits};
-ghost use Rattle.pisa_isa.specs.Machine.{Memory};
+ghost use Rattle.rpp_tree.specs.rpp_words.Limits.{IsLimits};
+ghost use Rattle.pisa_machine.specs.pisa_isa.Machine.{Memory};
 ghost use Rattle.pisa_loader.specs.States.{Gives, memory, IsMemory, state_bytes, known_word, state_at, at_start};
 
 use crate::error::LoadError;
@@ -31,7 +31,7 @@ pub fn load_state(
     bytes: &[u8],
 ) -> Result<Machine, LoadError>
     requires { IsLimits limits }
-    // What it answers, the first refusal included.
+    // What it returns, the first refusal included.
     ensures exact { Gives (λ machine. machine) result
         (at_start image (state_at (memory_size (length image.statics) limits) bytes.now)) }
     // What is read as a state is the bytes of the machine's, and its cells are as many.

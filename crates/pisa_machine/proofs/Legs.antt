@@ -29,7 +29,7 @@ pub more : (code : List Cell) (n k : ℕ) (m here there : State) → steps code 
     → steps code k here ≡ Some there → steps code (n + k) m ≡ Some there
 more code n k m here there reaches goes = steps-add code n k m ∙ ap (λ o. and_then o (steps code k)) reaches ∙ goes
 
--- a position so many steps behind one that is reached
+-- a position so many steps after a reachable one
 pub reached_more : (code : List Cell) (n k : ℕ) (m there : State) → IsCode code → IsReached code n m
     → steps code k m ≡ Some there → IsReached code (n + k) there
 reached_more code n zero m there c r is =

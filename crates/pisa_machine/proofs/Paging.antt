@@ -1,4 +1,4 @@
--- The words of pages: how many there are, where each stands, and what a change of one does.
+-- The words of pages: how many there are, the position of each, and what a change of one does.
 use Rattle.std.proofs.Common.{◌≡◌, ℕ, zero, suc, ◌+◌, ◌-◌, ◌*◌, ◌/◌, ◌%◌, ◌<◌, ◌≤◌, List, [], ◌∷◌, ◌++◌, length, refl}
 use Rattle.std.proofs.Common.{sym, ap, subst, ◌∙◌, inl, inr, append_assoc, arith}
 use Rattle.std.specs.Prelude.{take, replicate, min}
@@ -62,7 +62,7 @@ changed_in (x ∷ xs) (suc page) place word d new h k is =
     ∙ ap (λ i. words_in x ++ set (flat_map words_in xs) i word) (sym e)
     ∙ sym (set-append_right (words_in x) (flat_map words_in xs) 4096 (suc page * 4096 + place) word x.whole high)
 
--- where a cell stands
+-- the position of a cell
 page_below : (at count pages : ℕ) → at < count → count ≤ pages * 4096 → at / 4096 < pages
 page_below at count pages h room = omega (h, room, arith)
 
@@ -101,21 +101,18 @@ pub filled : (words : List ℕ) → length words ≤ 4096 → take 4096 words ++
     ≡ words ++ replicate (4096 - length words) 0
 filled words h = ap (λ ws. ws ++ replicate (4096 - length words) 0) (take_whole 4096 words h)
 
--- pages hold the words but for those that are left
+-- pages hold the words except those that are left
 pub record IsPaged (words : List ℕ) (pages : List Page) (rest : List ℕ) : Type 0 where
   pub whole : take (length words) (flat_map words_in pages ++ rest) ≡ words
   pub full : 0 < length rest → length (flat_map words_in pages) + length rest ≡ length words
 
-pub nothing_paged : (words : List ℕ) → IsPaged words [] words
-nothing_paged words = record { whole = take_whole (length words) words (omega arith); full = λ some. omega arith }
-
--- a page behind others
+-- a page after others
 page_behind : (pages : List Page) (page : Page) → flat_map words_in (pages ++ page ∷ [])
     ≡ flat_map words_in pages ++ words_in page
 page_behind pages page = flat_map-append words_in pages (page ∷ [])
     ∙ ap (λ ws. flat_map words_in pages ++ ws) (append-nil (words_in page))
 
--- one page more, where it is full
+-- one page more, if it is full
 page_full : (front chunk behind page : List ℕ) → length chunk ≡ 4096 → page ≡ chunk ++ replicate (4096 - length chunk) 0
     →
     (front ++ page) ++ behind ≡ front ++ (chunk ++ behind)

@@ -56,7 +56,7 @@ pub in_code : (o : Option Cell) (m : State) (why : Option Stop) → stop_at o m 
 in_code None m why is counts = differ (counted_by why) (sym (ap counted_by is)) counts
 in_code (Some c) m why is counts = refl
 
--- ---- the probes, once some steps are told
+-- ---- the probes, after they observed some steps
 
 pub record IsTold (code : List Cell) (made : ℕ) (first here : State) (ws now : List Watch)
     (before after : List (List ℕ)) : Type 0 where
@@ -235,7 +235,7 @@ breaks_off bound made old self new o count counted_new step ws now left before a
           (subst (λ (l : List Watch). IsCutShort step l left after added) h.stands cut);
     }
 
--- ---- a stop that is told, or not
+-- ---- a stop that is observed, or not
 
 pub untold : (n : ℕ) (step : StepAt) (now : List Watch) → n ≡ 0 → now ≡ left_after (replicate n step) now
 untold n step now is = sym (left_none now) ∙ ap (λ n. left_after (replicate n step) now) (sym is)
@@ -255,7 +255,7 @@ pub lines_once : (n : ℕ) (step : StepAt) (now : List Watch) (before after : Li
 lines_once n step now before after is lines = lines ∙ ap (λ l. before ++ l) (sym (lines_one step now))
     ∙ ap (λ n. before ++ lines_after (replicate n step) now) (sym is)
 
--- ---- steps that are told together
+-- ---- steps that are observed together
 
 pub counted_more : (code : List Cell) (k n : ℕ) (m e : State) → steps code k m ≡ Some e
     → counted_steps code (k + n) m ≡ counted_steps code k m ++ counted_steps code n e
@@ -283,7 +283,7 @@ noted_more code n m here there noted reaches goes notes less =
     ∙ sym (counted_more code n 1 m here reaches ∙ ap (λ l. counted_steps code n m ++ map step_at l)
     (visited-goes code here one.0))
 
--- steps told together, behind those that were told
+-- steps observed together, after those that were observed before
 pub told_many : (code code_here : List Cell) (made k : ℕ) (first here there : State) (ws now last : List Watch)
     (before after : List (List ℕ)) → IsTold code made first here ws now before after
     → code_here ≡ code → steps code_here k here ≡ Some there → last ≡ left_after (counted_steps code_here k here) now

@@ -1,3 +1,5 @@
+pub use Rattle.rpp_probes.specs as rpp_probes
+pub use Rattle.pisa_isa.specs as pisa_isa
 pub mod Paged
 pub mod Position
 pub mod Told

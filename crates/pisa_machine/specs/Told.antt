@@ -1,4 +1,4 @@
--- What a run tells probes.
+-- What probes observe of a run.
 use Rattle.std.specs.Prelude.{◌≡◌, ◌<◌, ◌+◌, ℕ, ℤ, pos, negsuc, List, [], ◌∷◌, ◌++◌, map}
 use Rattle.pisa_isa.specs.declared.cell.Cell.{Cell}
 use Rattle.pisa_isa.specs.Machine.{State}
@@ -7,7 +7,7 @@ use Rattle.rpp_probes.specs.declared.probe.StepAt.{StepAt}
 use Rattle.rpp_probes.specs.Tally.{Watch, left_after, lines_after, IsCutShort}
 use Rattle.pisa_machine.specs.Position.{Position}
 
--- the number of a place; only places in the code are told
+-- the number of a code address; only addresses in the code are observed
 abbrev pub place_of : ℤ → ℕ
 place_of (pos n) = n
 place_of (negsuc n) = 0
@@ -20,8 +20,8 @@ step_at m = record { place = place_of m.pc; back = m.back }
 abbrev pub counted_steps : List Cell → ℕ → State → List StepAt
 counted_steps code n m = map step_at (visited code n m)
 
--- No memory was found during a counted step: the machine stands after that step, each probe that is
--- still in the list was told all steps before it, and of that step a prefix of the list; each line
+-- Memory ran out during a counted step. The machine is after that step. Each probe that is still in
+-- the list observed all steps before it, and a prefix of the list observed that step. Each line
 -- that was added stays.
 pub record BreaksOff (bound : ℕ) (old new : Position) (count counted : ℕ)
     (watches left : List Watch) (before after : List (List ℕ)) : Type 0 where

@@ -1,4 +1,4 @@
--- A step on the parts of a state, where the direction stands apart.
+-- A step on the parts of a state, with the direction kept apart.
 use Rattle.std.specs.Prelude.{ℕ, ℤ, Bool, not, Option, Some, None, List}
 use Rattle.pisa_isa.specs.declared.machine.Stop.{Stop}
 use Rattle.pisa_isa.specs.Machine.{State}
@@ -20,7 +20,7 @@ stop_of Goes = None
 stop_of Turns = None
 stop_of (Stops why) = Some why
 
--- the direction behind a row
+-- the direction after an instruction
 abbrev pub back_behind : Outcome → Bool → Bool
 back_behind Goes back = back
 back_behind Turns back = not back

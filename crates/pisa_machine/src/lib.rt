@@ -1,7 +1,7 @@
-//! Machines that own their image and their memory: runs of at most so many steps, and steps back.
-//! A machine always stands at a position of its run, so each step that it made can be taken back.
-//! Every step, forward or back, is counted by the caller's counter. Probes may watch a run; none of
-//! them changes it.
+//! Machines that own their image and their memory. They run at most so many steps, and step back. A
+//! machine is always at a position of its run, so each step that it made can be undone. Every step,
+//! forward or back, is counted by the caller's counter. Probes may watch a run; none of them
+//! changes it.
 #![tactic(auto)]
 
 mod machine;

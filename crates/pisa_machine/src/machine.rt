@@ -1,6 +1,6 @@
 // Machines.
 ghost use Rattle.std.specs.Prelude.{◌≡◌, IsSome, ◌<◌, ◌≤◌, ◌^◌, ◌+◌, ◌-◌, ◌↔◌, pos, false, All, length, take, Some, slice_get, vec_len, IsTrue, IsFalse, IfOk, if◌then◌else◌};
-ghost use Rattle.rpp_words.specs.Words.{IsWord};
+ghost use Rattle.pisa_isa.specs.rpp_words.Words.{IsWord};
 ghost use Rattle.pisa_isa.specs.Machine.{state_of, word_at, stop, fetch, back, IsCode, IsNext};
 ghost use Rattle.pisa_isa.specs.Image.{IsImage, start_of};
 ghost use Rattle.pisa_isa.specs.Runs.{run, steps as steps_made, counted, counted_by, stop_at_bound};
@@ -81,7 +81,7 @@ fn start_core(image: &Image, regs: [u32; 32]) -> Core
     }
 }
 
-/// The number of a place in the code.
+/// The number of a code address.
 #[inline(always)]
 fn place_of(code: &[Cell], pc: i64) -> u32
     requires { IsCode code.now }
@@ -96,8 +96,8 @@ fn place_of(code: &[Cell], pc: i64) -> u32
 
 impl Machine {
     /// A machine at the start of a run of an image, with these registers and data cells. The cells
-    /// stand in pages of 4,096 words, which are reserved whole here, so that no call that runs the
-    /// machine takes memory.
+    /// are in pages of 4,096 words. All pages are reserved here, so that no call that runs the
+    /// machine allocates memory.
     pub fn start_with(
         alloc: Global,
         image: Image,
@@ -167,7 +167,7 @@ impl Machine {
         made
     }
 
-    /// The step that is next, where there is a cell at its place.
+    /// The step that is next, if there is a cell at its place.
     #[inline(always)]
     pub(crate) fn next_step(&self) -> StepAt
         ensures step { IsSome (fetch self.now.image.code self.now.state.pc)
@@ -180,7 +180,7 @@ impl Machine {
         }
     }
 
-    /// Makes one step, or answers why the machine stops, and counts what counts as a step.
+    /// Makes one step, or returns why the machine stops, and counts what counts as a step.
     #[inline(always)]
     pub(crate) fn make_step<L: Ledger>(&mut self, steps: &mut Steps<L>) -> Option<Stop>
         requires { self.old.made + 1 < 2 ^ 63 }
@@ -201,14 +201,14 @@ impl Machine {
         }
     }
 
-    /// Why a run ends here where it has made the steps that it may.
+    /// Why a run ends here if it has made the steps that it may.
     pub(crate) fn stop_here(&self) -> Stop
         ensures { result ≡ stop_at_bound (fetch self.now.image.code self.now.state.pc) self.now.state.pc }
     {
         stop_at_bound(self.image.code(), self.core.pc)
     }
 
-    /// Takes the last step back, or answers false where none is left.
+    /// Undoes the last step, or returns false if none is left.
     pub fn step_back<L: Ledger>(&mut self, steps: &mut Steps<L>) -> bool
         ensures answer { IsTrue result ↔ (0 < self.old.made) }
         ensures stays { IsFalse result → self.new ≡ self.old }
@@ -226,7 +226,7 @@ impl Machine {
         true
     }
 
-    /// How many steps led here that were no stops and were not taken back.
+    /// How many steps led here that were no stops and were not undone.
     pub fn made(&self) -> u64
         ensures made { result ≡ self.now.made }
         ensures machine { IsMachine self.now }
@@ -284,7 +284,7 @@ impl Machine {
     }
 }
 
-/// The word in a data cell of a machine, and 0 behind its memory.
+/// The word in a data cell of a machine, and 0 after its memory.
 pub fn word_at(machine: &Machine, at: u64) -> u32
     ensures { result ≡ word_at machine.now.state.cells at }
 {

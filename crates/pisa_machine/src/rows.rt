@@ -1,7 +1,7 @@
 // The rows of a step on the parts of a core, so that a loop can hold the place and the branch
 // register by themselves.
 ghost use Rattle.std.specs.Prelude.{◌≡◌, ◌<◌, ◌≤◌, ◌^◌, pos, ◌+ℤ◌, ◌≤ℤ◌, IsNone, IsSome, IsTrue, if◌then◌else◌, slice_index, length};
-ghost use Rattle.rpp_words.specs.Words.{sum_of};
+ghost use Rattle.pisa_isa.specs.rpp_words.Words.{sum_of};
 ghost use Rattle.pisa_isa.specs.Table.{IsCell};
 ghost use Rattle.pisa_isa.specs.Machine.{below_zero, stride, place_moved, stop_in, effect, moved};
 ghost use Rattle.pisa_isa.specs.Directions.{row_by, has_cell_at, sum_by, turned_by, offset_by, stop_by};
@@ -80,7 +80,7 @@ fn offset_by(back: bool, i: u32) -> u32
 }
 
 impl Way {
-    /// Stands at a place with a branch register.
+    /// Goes to a code address with a branch register.
     #[inline(always)]
     pub(crate) fn at(pc: i64, br: u32) -> Way
         ensures place { result.pc ≡ pc }
@@ -102,7 +102,7 @@ impl Way {
         *self = Way::at(self.pc, br);
     }
 
-    /// Adds an offset to the branch register where a branch is taken.
+    /// Adds an offset to the branch register if a branch is taken.
     #[inline(always)]
     fn branch_if(&mut self, taken: bool, offset: u32)
         ensures place { self.new.pc ≡ self.old.pc }
@@ -129,7 +129,7 @@ impl Way {
     }
 }
 
-/// The effect of a row in a direction, where its first two registers hold `x` and `y`, or why the
+/// The effect of a row in a direction, if its first two registers hold `x` and `y`, or why the
 /// machine stops there, and then nothing changes.
 #[inline(always)]
 fn act<C: Cells>(

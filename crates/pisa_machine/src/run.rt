@@ -14,7 +14,7 @@ use std::sync::ledger::Ledger;
 pub struct RunEnd {
     /// Why it ended.
     pub stop: Stop,
-    /// How many steps were made. A stop is one of them, but for `OffCode` and `Bound`.
+    /// How many steps were made. A stop is one of them, except for `OffCode` and `Bound`.
     pub spent: u64,
 }
 
@@ -29,7 +29,7 @@ pub(crate) fn steps_of(stop: Stop) -> u64
     }
 }
 
-/// Counts a step, which may be a stop, where it is one that counts.
+/// Counts a step, which may be a stop, if it is one that counts.
 pub(crate) fn count_step<L: Ledger>(stop: Option<Stop>, steps: &mut Steps<L>)
     ensures { steps.new ≡ steps.old + counted_by stop }
 {
@@ -44,7 +44,7 @@ pub(crate) fn count_step<L: Ledger>(stop: Option<Stop>, steps: &mut Steps<L>)
 pub(crate) struct Leg {
     /// How many steps were made, each of which was no stop.
     pub(crate) made: u64,
-    /// Why the machine stops behind them, if it does.
+    /// Why the machine stops after them, if it does.
     pub(crate) stop: Option<Stop>,
 }
 
@@ -59,7 +59,7 @@ pub(crate) fn is_in_code(code: &[Cell], pc: i64) -> bool
     pc.cast_unsigned() < code.len() as u64
 }
 
-/// The cell at a place in the code.
+/// The cell at a code address.
 pub(crate) fn cell_at(code: &[Cell], pc: i64) -> &Cell
     requires code { IsCode code.now }
     requires there { IsSome (fetch code.now pc) }
@@ -78,9 +78,9 @@ pub(crate) fn leave(core: &mut Core, way: &Way, back: bool)
     core.back = back;
 }
 
-/// Makes at most `bound` steps in one direction, up to and with the first that turns it. The place,
-/// the branch register and what is left of the bound stand in locals, and the core has them again
-/// at the end.
+/// Makes at most `bound` steps in one direction, up to and with the first that turns it. The code
+/// address, the branch register and what is left of the step limit are in locals. At the end they
+/// are stored in the core again.
 #[inline(always)]
 fn run_one_way<C: Cells, L: Ledger>(
     core: &mut Core,

@@ -14,10 +14,10 @@ use rpp_words::NoMemory;
 use std::alloc::Global;
 use std::sync::ledger::Ledger;
 
-// How many steps are told together at most.
+// How many steps are observed together at most.
 const TOLD_TOGETHER: usize = 256;
 
-// Tells probes a step at which the machine stops, where it counts as a step.
+// Lets probes observe a step at which the machine stops, if it counts as a step.
 #[cold]
 #[inline(never)]
 fn tell_stop<P: Probes>(
@@ -46,7 +46,8 @@ fn tell_stop<P: Probes>(
 }
 
 impl Machine {
-    // Makes steps that end no probe, as many as can be noted at most, and tells them together.
+    // Makes steps that end no probe, as many as can be noted at most, and lets the probes observe
+    // them together.
     fn tell_leg<L: Ledger, P: Probes>(
         &mut self,
         probes: &mut P,
@@ -71,7 +72,7 @@ impl Machine {
     }
 
     // Makes at most `bound` steps of which the probes are sure that none ends them, as many as can
-    // be noted at most, and tells them together. It may make none.
+    // be noted at most. The probes observe them together. It may make none.
     fn tell_sure<L: Ledger, P: Probes>(
         &mut self,
         bound: u64,
@@ -97,10 +98,10 @@ impl Machine {
         self.tell_leg(probes, &mut noted[..sure as usize], steps) as u64
     }
 
-    /// Runs at most `bound` steps, and counts those that it makes, as `run` does; and tells the
-    /// probes each counted step, in the order of the list. A probe that ends with a step is
-    /// dropped, and its line is added to `lines`; the others keep their order.
-    /// After want of memory the machine stands after the step during which it came.
+    /// Runs at most `bound` steps, and counts those that it makes, as `run` does. The probes
+    /// observe each counted step, in the order of the list. A probe that ends with a step is
+    /// dropped, and its line is added to `lines`; the others keep their order. If memory runs out,
+    /// the machine is after the step during which it ran out.
     pub fn run_told<L: Ledger, P: Probes>(
         &mut self,
         alloc: Global,

@@ -5,7 +5,7 @@ use Rattle.std.specs.List.{list_all, slice_split}
 use Rattle.std.specs.Char.{is_ascii_digit}
 use Rattle.pisa_scripts.specs.declared.numbers.TheConstants.{MOST_DIGITS}
 
--- the number that digits write behind others, if they are digits
+-- the number that digits write after others, if they are digits
 abbrev pub digits_after : ℕ → List ℕ → Option ℕ
 digits_after n [] = Some n
 digits_after n (c ∷ cs) = if is_ascii_digit c then digits_after (10 * n + (c - 48)) cs else None

@@ -4,10 +4,10 @@ use Rattle.std.specs.Fmt.{decimal, signed_decimal}
 use Rattle.pisa_isa.specs.declared.machine.Stop.{Stop}
 use Rattle.pisa_isa.specs.declared.machine.Stop.TheVariants.{Finished, Returned, Trap, BadAddress}
 use Rattle.pisa_isa.specs.declared.machine.Stop.TheVariants.{OffCode, Bound}
-use Rattle.rpp_words.specs.Texts.{line_end}
+use Rattle.pisa_isa.specs.rpp_words.Texts.{line_end}
 use Rattle.pisa_scripts.specs.Words.{word_shown}
 
--- the name of a fault with a space in front; a number that is no fault has none
+-- the name of a fault with a space before it; a number that is no fault has none
 abbrev pub fault_name : ℕ → List ℕ
 fault_name code =
     if code == 1 then codes " Fi"

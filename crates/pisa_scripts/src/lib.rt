@@ -1,4 +1,4 @@
-//! What the commands on machines write and read in common: the lines on stops, registers and cells,
+//! The texts that the commands on machines share. They are the lines on stops, registers and cells,
 //! and the lines of scripts with their words and numbers. A layer above may use that each call
 //! gives exactly the text of its definition.
 #![tactic(auto)]

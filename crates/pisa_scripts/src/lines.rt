@@ -1,4 +1,4 @@
-// The lines of a script, and the words of a line.
+// The lines of a script, and the words of lines.
 ghost use Rattle.std.specs.Prelude.{◌≡◌, ◌≤◌, ◌+◌, ◌++◌, map, length, vec_len, IfOk, OnOk};
 ghost use Rattle.pisa_scripts.specs.Lines.{pieces as pieces_of, is_blank as is_blank_line, begins_with as begins, kept_byte, without_returns as text_without_returns};
 
@@ -31,7 +31,7 @@ fn begins_with(byte: u8, bytes: &[u8]) -> bool
     }
 }
 
-/// A text without the carriage returns that stand before line feeds.
+/// A text without the carriage returns that come before line feeds.
 pub fn without_returns(alloc: Global, bytes: &[u8]) -> Result<Vec<u8>, AllocError>
     ensures text { IfOk result (λ text. text.items ≡ text_without_returns bytes.now) }
     ensures within { IfOk result (λ text. vec_len text ≤ length bytes.now) }

@@ -5,7 +5,7 @@ ghost use Rattle.pisa_scripts.specs.Stops.{fault_name as name_of_fault, stop_lin
 use pisa_isa::Stop;
 use std::alloc::AllocError;
 
-/// Adds the line on why a machine stopped. After want of memory the text is as before.
+/// Adds the line on why a machine stopped. If memory runs out, the text is as before.
 pub fn add_stop(text: &mut String, stop: Stop) -> Result<(), AllocError>
     ensures added { OnOk result (string_bytes text.new ≡ string_bytes text.old ++ stop_line stop) }
     ensures kept { OnErr result (string_bytes text.new ≡ string_bytes text.old) }
@@ -38,7 +38,7 @@ fn add_fault(text: &mut String, code: u32) -> Result<(), AllocError>
     text.push_str(line.as_str())
 }
 
-// The name of a fault, with a space in front.
+// The name of a fault, with a space before it.
 fn fault_name(code: u32) -> &'static str
     ensures { result.now ≡ name_of_fault code }
 {

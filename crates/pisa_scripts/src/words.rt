@@ -11,7 +11,7 @@ pub fn direction(back: bool) -> &'static str
     if back { "-1" } else { "1" }
 }
 
-/// Adds the lines of the registers that are not 0. After want of memory the text is as before.
+/// Adds the lines of the registers that are not 0. If memory runs out, the text is as before.
 pub fn add_registers(text: &mut String, regs: &[u32]) -> Result<(), AllocError>
     ensures added { OnOk result (string_bytes text.new
         ≡ string_bytes text.old ++ register_lines 0 regs.now) }
@@ -35,7 +35,7 @@ fn add_register(text: &mut String, number: usize, word: u32) -> Result<(), Alloc
     write!(text, "${number} = {value}\n")
 }
 
-/// Adds the line on a cell. After want of memory the text is as before.
+/// Adds the line on a cell. If memory runs out, the text is as before.
 pub fn add_cell(text: &mut String, number: u32, word: u32) -> Result<(), AllocError>
     ensures added { OnOk result (string_bytes text.new
         ≡ string_bytes text.old ++ cell_line number word) }

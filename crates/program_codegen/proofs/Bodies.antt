@@ -1,4 +1,4 @@
--- The body of each method of an accepted program stands in the scope of the method.
+-- The body of each method of an accepted program is in the scope of the method.
 use Rattle.std.proofs.Common.{◌≡◌, ◌∙◌, sym, ap, subst, refl, ℕ, zero, suc, ◌<◌, List, [], ◌∷◌, ◌++◌, length, map, Some}
 use Rattle.std.proofs.Common.{arith, slice_get}
 use Rattle.std.specs.Prelude.{All}
@@ -11,26 +11,26 @@ use Rattle.rpp_tree.specs.Parts.{name_places, parent_names, var_places, block_pl
 use Rattle.rpp_tree.specs.Parts.{source_places}
 use Rattle.rpp_tree.specs.Tree.{Procedure, ClassText, Source}
 use Rattle.rpp_tree.specs.Views.{source_of}
-use Rattle.class_table.specs.declared.method.MethodId.{MethodId}
-use Rattle.class_table.specs.Members.{class_at, no_procedure}
-use Rattle.class_table.specs.Classes.{procedure_at}
-use Rattle.class_table.specs.Inheritance.{kind_of_var}
-use Rattle.class_table.specs.Table.{table_of}
-use Rattle.class_table.specs.Statements.{passed, each_passes_after, check_statements}
-use Rattle.class_table.specs.Program.{IsAccepted, parameter_new, with_parameters, setting_in}
-use Rattle.class_table.proofs.PassedRules.{both_passed}
-use Rattle.class_table.proofs.InheritedSlots.{class_there}
-use Rattle.class_table.proofs.FoundMethods.{all_at, method_checked, method_small}
-use Rattle.meaning_sound.specs.Plain.{IsPlain, BlockHasWords}
-use Rattle.meaning_sound.proofs.Invocations.{params_mean}
-use Rattle.meaning_sound.proofs.Numbered.{program_words}
-use Rattle.meaning_sound.proofs.Plainness.{program_plain}
-use Rattle.code_scope.specs.Visible.{Visible}
+use Rattle.refine_program.specs.class_table.declared.method.MethodId.{MethodId}
+use Rattle.refine_program.specs.class_table.Members.{class_at, no_procedure}
+use Rattle.refine_program.specs.class_table.Classes.{procedure_at}
+use Rattle.refine_program.specs.class_table.Inheritance.{kind_of_var}
+use Rattle.refine_program.specs.class_table.Table.{table_of}
+use Rattle.refine_program.specs.class_table.Statements.{passed, each_passes_after, check_statements}
+use Rattle.refine_program.specs.class_table.Program.{IsAccepted, parameter_new, with_parameters, setting_in}
+use Rattle.refine_program.proofs.class_table_laws.PassedRules.{both_passed}
+use Rattle.refine_program.proofs.class_table_laws.InheritedSlots.{class_there}
+use Rattle.refine_program.proofs.class_table_laws.FoundMethods.{all_at, method_checked, method_small}
+use Rattle.refine_program.specs.meaning_sound.Plain.{IsPlain, BlockHasWords}
+use Rattle.refine_program.proofs.meaning_sound_laws.Invocations.{params_mean}
+use Rattle.refine_program.proofs.meaning_sound_laws.Numbered.{program_words}
+use Rattle.refine_program.proofs.meaning_sound_laws.Plainness.{program_plain}
+use Rattle.block_codegen.specs.code_scope.Visible.{Visible}
 use Rattle.block_codegen.specs.Pieces.{StandsIn}
 use Rattle.block_codegen.proofs.Standing.{left, right}
 use Rattle.program_codegen.proofs.SameRules.{block_same}
 
--- ---- parts of what holds of all
+-- ---- parts of what holds for all
 
 part : {A B : Type 0} (P : B → Type 0) (f : A → List B) (xs : List A) (k : ℕ) (x : A) → slice_get xs k ≡ Some x
     → All P (flat_map f xs) → All P (f x)

@@ -6,10 +6,10 @@ use Rattle.std.specs.List.{AllZip}
 use Rattle.std.proofs.lemmas.List.Sums.{sum_by-cons, sum_by-append}
 use Rattle.rpp_tree.specs.Parts.{procedure_tokens, class_tokens, source_tokens}
 use Rattle.rpp_tree.specs.Tree.{Procedure, ClassText, Source}
-use Rattle.class_table.specs.Members.{class_at}
-use Rattle.class_table.proofs.InheritedSlots.{class_there}
-use Rattle.paired_code.specs.Code.{Code, bodies, marks_size}
-use Rattle.paired_code.specs.Link.{routines_size}
+use Rattle.refine_program.specs.class_table.Members.{class_at}
+use Rattle.refine_program.proofs.class_table_laws.InheritedSlots.{class_there}
+use Rattle.refine_program.specs.paired_code.Code.{Code, bodies, marks_size}
+use Rattle.refine_program.specs.paired_code.Link.{routines_size}
 use Rattle.refine_program.specs.Methods.{Entry, entries_of, entries_from, entries, methods_before}
 use Rattle.program_codegen.specs.Routines.{IsRoutine}
 use Rattle.program_codegen.proofs.Tables.{firsts_next}
@@ -82,7 +82,7 @@ class_few program class inside =
       methods_few program (class + 1),
     )
 
--- ---- the pieces of their routines
+-- ---- the fragments of their routines
 
 module _ (program : Source) where
   pub cells_few : (es : List Entry) (ps : List Code) → AllZip (IsRoutine program) es ps

@@ -1,4 +1,4 @@
--- The methods of a program, class by class and one by one, with the pieces of their routines.
+-- The methods of a program, class by class and one by one, with the fragments of their routines.
 use Rattle.std.proofs.Common.{◌≡◌, ◌∙◌, sym, ap, subst, refl, ℕ, suc, ◌+◌, ◌<◌, List, [], ◌∷◌, ◌++◌, length, map, take}
 use Rattle.std.proofs.Common.{get_or, slice_get, Some, arith, append-nil, append_assoc}
 use Rattle.std.specs.List.{AllZip}
@@ -7,7 +7,7 @@ use Rattle.std.proofs.lemmas.Option.{slice_get_within, get_or_from_slice_get}
 use Rattle.rpp_tree.specs.declared.tree.Method.{Method}
 use Rattle.rpp_tree.specs.Tree.{Procedure, ClassText, Source}
 use Rattle.rpp_tree.specs.Views.{procedure_of}
-use Rattle.paired_code.specs.Code.{Code, bodies}
+use Rattle.refine_program.specs.paired_code.Code.{Code, bodies}
 use Rattle.refine_program.specs.Methods.{Entry, entries_of, entries_from}
 use Rattle.refine_program.specs.Laws.{AreRoutineCodes}
 use Rattle.program_codegen.specs.Routines.{IsRoutine}

@@ -1,4 +1,4 @@
--- An image that is linked of the code of `main` and of all routines stands for the program, with
+-- An image that is linked of the code of `main` and of all routines implements the program, with
 -- its marks.
 use Rattle.std.proofs.Common.{◌≡◌, ◌∙◌, sym, ap, subst, ℕ, ◌+◌, ◌*◌, ◌≤◌, List, [], ◌∷◌, ◌++◌, length, map, arith}
 use Rattle.std.specs.List.{AllZip}
@@ -7,17 +7,17 @@ use Rattle.std.proofs.lemmas.List.{length-map}
 use Rattle.std.proofs.lemmas.List.Sorted.{IsPermutation-trans, IsPermutation-sym}
 use Rattle.rpp_tree.specs.Parts.{source_tokens}
 use Rattle.rpp_tree.specs.Tree.{Source}
-use Rattle.class_table.specs.Program.{IsAccepted}
-use Rattle.pisa_isa.specs.declared.cell.Cell.{Cell}
-use Rattle.pisa_isa.specs.declared.notes.Mark.{Mark}
-use Rattle.pisa_isa.specs.Image.{Segments}
-use Rattle.paired_code.specs.declared.part.StaticWord.{StaticWord}
-use Rattle.paired_code.specs.declared.part.Symbol.{Symbol}
-use Rattle.paired_code.specs.Code.{Code, bodies, shift, routine_marks, link_marks, marks_size}
-use Rattle.paired_code.specs.Link.{places, first_top, link_code, link_size, static_word, Linked}
-use Rattle.paired_code.proofs.Linking.{length-link}
-use Rattle.roopl_semantics.specs.StandsFor.{StandsFor}
-use Rattle.method_calls.specs.Laws.{MainCode}
+use Rattle.refine_program.specs.class_table.Program.{IsAccepted}
+use Rattle.refine_program.specs.pisa_isa.declared.cell.Cell.{Cell}
+use Rattle.refine_program.specs.pisa_isa.declared.notes.Mark.{Mark}
+use Rattle.refine_program.specs.pisa_isa.Image.{Segments}
+use Rattle.refine_program.specs.paired_code.declared.part.StaticWord.{StaticWord}
+use Rattle.refine_program.specs.paired_code.declared.part.Symbol.{Symbol}
+use Rattle.refine_program.specs.paired_code.Code.{Code, bodies, shift, routine_marks, link_marks, marks_size}
+use Rattle.refine_program.specs.paired_code.Link.{places, first_top, link_code, link_size, static_word, Linked}
+use Rattle.refine_program.proofs.paired_code_laws.Linking.{length-link}
+use Rattle.refine_program.specs.roopl_semantics.StandsFor.{StandsFor}
+use Rattle.refine_program.specs.method_calls.Laws.{MainCode}
 use Rattle.refine_program.specs.Laws.{most_cells, IsProgramImage}
 use Rattle.refine_program.specs.Methods.{Entry, entries, main_routine, statics_of}
 use Rattle.program_codegen.specs.Notes.{unmarked_from, HasMarks}
@@ -29,7 +29,7 @@ use Rattle.program_codegen.proofs.ImageMarks.{ranges_of}
 use Rattle.program_codegen.proofs.Unmarked.{spare, at_most_all, unmarked_permuted, all_spare}
 
 module _ (program : Source) (pieces : List Code) (are : AreRoutines program pieces) where
-  -- what is known of the allocator and the methods is known of all
+  -- what holds for the allocator and the methods holds for all
   of_all : (P : List Code → Type 0) → P (are.allocator ∷ are.methods) → P pieces
   of_all P h = subst P (sym are.all) h
 

@@ -7,30 +7,30 @@ use Rattle.std.specs.List.Sorted.{IsPermutation}
 use Rattle.std.proofs.lemmas.List.{take-append-drop, length-take-le, length-drop}
 use Rattle.std.proofs.lemmas.List.Elements.{All-nil, All-append, All-weaker}
 use Rattle.std.proofs.lemmas.List.Sorted.{IsPermutation-refl, IsPermutation-append}
-use Rattle.rpp_words.specs.declared.input.Limits.{Limits}
+use Rattle.refine_program.specs.rpp_words.declared.input.Limits.{Limits}
 use Rattle.rpp_tree.specs.Tree.{Source}
-use Rattle.pisa_isa.specs.Image.{Segments}
-use Rattle.pisa_isa.specs.declared.notes.Mark.{Mark}
-use Rattle.paired_code.specs.declared.part.Symbol.{Symbol}
-use Rattle.paired_code.specs.Code.{Code, bodies, moved_on, shift, routine_marks}
-use Rattle.paired_code.specs.Machine.{Image}
-use Rattle.paired_code.specs.Layout.{code_line, Stands}
-use Rattle.paired_code.specs.Link.{AllPlaced}
-use Rattle.paired_code.proofs.Ways.{front, rest}
+use Rattle.refine_program.specs.pisa_isa.Image.{Segments}
+use Rattle.refine_program.specs.pisa_isa.declared.notes.Mark.{Mark}
+use Rattle.refine_program.specs.paired_code.declared.part.Symbol.{Symbol}
+use Rattle.refine_program.specs.paired_code.Code.{Code, bodies, moved_on, shift, routine_marks}
+use Rattle.refine_program.specs.paired_code.Machine.{Image}
+use Rattle.refine_program.specs.paired_code.Layout.{code_line, Stands}
+use Rattle.refine_program.specs.paired_code.Link.{AllPlaced}
+use Rattle.refine_program.proofs.paired_code_laws.Ways.{front, rest}
 use Rattle.block_codegen.specs.Rows.{Row}
 use Rattle.block_codegen.specs.Ranges.{IsRange, AreNested}
 use Rattle.block_codegen.specs.Pieces.{IsRowCode}
 use Rattle.block_codegen.proofs.Nesting.{each_append, each_moved, each_all, shift_same, all_moved, nested_moved}
 use Rattle.block_codegen.proofs.Nesting.{nested_append, IsBetween, apart_by}
-use Rattle.refine_form.specs.Form.{Open, told, one, turned}
-use Rattle.refine_form.specs.Worlds.{Place, world_of, rates_of}
-use Rattle.paired_code.specs.Does.{Meets}
+use Rattle.refine_program.specs.refine_form.Form.{Open, told, one, turned}
+use Rattle.refine_program.specs.refine_form.Worlds.{Place, world_of, rates_of}
+use Rattle.refine_program.specs.paired_code.Does.{Meets}
 use Rattle.refine_program.specs.Methods.{Entry, routine_in}
 use Rattle.refine_program.specs.Laws.{place_of, HasRoutines}
 use Rattle.program_codegen.specs.Notes.{method_rows, rows_of, WillGo, IsStatementMark}
 use Rattle.program_codegen.specs.Routines.{IsRoutine}
 
--- the cells of a range of a piece stand where the piece does
+-- the cells of a range of a fragment are where the fragment is
 there_in : (im : Image) (at : ℕ) (p : List Symbol) (i j : ℕ) → i ≤ j → j ≤ length p → Stands im code_line at p
     → Stands im code_line (at + i) (take (j - i) (drop i p))
 there_in im at p i j h l stands =
@@ -49,8 +49,8 @@ module _ (program : Source) (image : Segments) (starts : List ℕ) (has : HasRou
   abbrev here : Limits → Place
   here = place_of program image starts has.bodies has.tops
 
-  -- the law of a row, which holds wherever its cells stand, holds of the cells under the mark: the
-  -- image is linked, and its routines owe nothing
+  -- the law of an entry, which holds at any code address, holds for the cells under the mark: the
+  -- image is linked, and there are no assumptions about its routines
   mark_of : (at : ℕ) (p : List Symbol) → Stands im code_line at p → at + length p < 2 ^ 30 → (row : Row) (k : Mark)
       → IsRange (IsRowCode program) p row k → IsStatementMark here row (moved_on at k)
   mark_of at p stands short row k h =
@@ -79,7 +79,7 @@ module _ (program : Source) (image : Segments) (starts : List ℕ) (has : HasRou
         };
       }
 
-  -- the ranges of these methods, whose routines stand from a cell on
+  -- the ranges of these methods, whose routines begin at a cell
   pub record Ranges (at : ℕ) (rows : List Row) (marks : List Mark) : Type 0 where
     pub ranges : List Mark
     pub same : IsPermutation marks ranges

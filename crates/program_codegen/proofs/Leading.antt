@@ -2,11 +2,11 @@
 use Rattle.std.proofs.Common.{◌∙◌, ℕ, ◌+◌, List, []}
 use Rattle.std.specs.Prelude.{slice_get}
 use Rattle.std.specs.Option.{unwrap_or}
-use Rattle.rpp_words.specs.declared.input.Limits.{Limits}
+use Rattle.refine_program.specs.rpp_words.declared.input.Limits.{Limits}
 use Rattle.rpp_tree.specs.Tree.{Source}
-use Rattle.pisa_isa.specs.Image.{Segments}
-use Rattle.paired_code.specs.declared.part.Symbol.{Symbol}
-use Rattle.refine_calls.specs.Laws.{IsLinked}
+use Rattle.refine_program.specs.pisa_isa.Image.{Segments}
+use Rattle.refine_program.specs.paired_code.declared.part.Symbol.{Symbol}
+use Rattle.refine_program.specs.refine_calls.Laws.{IsLinked}
 use Rattle.refine_program.specs.Methods.{routine_in}
 use Rattle.refine_program.specs.Laws.{place_of}
 use Rattle.program_codegen.specs.Subroutines.{TablesLeadToSwapbr, CallsEnterBySwapbr}

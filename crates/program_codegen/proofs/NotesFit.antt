@@ -9,26 +9,26 @@ use Rattle.std.proofs.lemmas.Bool.Decides.{nat_tests}
 use Rattle.std.proofs.lemmas.List.{length-replicate}
 use Rattle.std.proofs.lemmas.List.Elements.{All-tail, All-weaker}
 use Rattle.std.proofs.lemmas.List.Sums.{sum_by-cons, sum_by-le, list_all-from_AllPass}
-use Rattle.code_conventions.specs.declared.memory.TheConstants.{FIRST_FIELD, HEADER_WORDS}
-use Rattle.rpp_words.specs.declared.input.TheConstants.{FIXED_CELLS}
-use Rattle.rpp_words.specs.Names.{is_name_byte}
+use Rattle.refine_program.specs.code_conventions.declared.memory.TheConstants.{FIRST_FIELD, HEADER_WORDS}
+use Rattle.refine_program.specs.rpp_words.declared.input.TheConstants.{FIXED_CELLS}
+use Rattle.refine_program.specs.rpp_words.Names.{is_name_byte}
 use Rattle.rpp_tree.specs.declared.tree.Ident.{Ident}
 use Rattle.rpp_tree.specs.declared.tree.Var.{Var}
 use Rattle.rpp_tree.specs.Names.{IsName}
 use Rattle.rpp_tree.specs.Parts.{source_names}
 use Rattle.rpp_tree.specs.Tree.{Source}
-use Rattle.class_table.specs.Classes.{main_of}
-use Rattle.class_table.specs.Program.{IsAccepted}
-use Rattle.pisa_isa.specs.declared.notes.TheConstants.{MOST_NAMES, MOST_NAME_BYTES}
-use Rattle.pisa_isa.specs.declared.notes.FieldName.{FieldName}
-use Rattle.pisa_isa.specs.declared.notes.Mark.{Mark}
-use Rattle.pisa_isa.specs.Image.{Segments}
-use Rattle.pisa_isa.specs.Notes.{NoteLists, NotedImage, is_name, name_fits, names_fit, fits}
-use Rattle.pisa_isa.proofs.Noting.{fitting, fits_by}
-use Rattle.roopl_semantics.specs.Layout.{tables}
-use Rattle.roopl_semantics.specs.Source.{main_fields, is_int_type}
-use Rattle.roopl_semantics.specs.StandsFor.{StandsFor}
-use Rattle.roopl_semantics.proofs.MainPlace.{class_inside}
+use Rattle.refine_program.specs.class_table.Classes.{main_of}
+use Rattle.refine_program.specs.class_table.Program.{IsAccepted}
+use Rattle.refine_program.specs.pisa_isa.declared.notes.TheConstants.{MOST_NAMES, MOST_NAME_BYTES}
+use Rattle.refine_program.specs.pisa_isa.declared.notes.FieldName.{FieldName}
+use Rattle.refine_program.specs.pisa_isa.declared.notes.Mark.{Mark}
+use Rattle.refine_program.specs.pisa_isa.Image.{Segments}
+use Rattle.refine_program.specs.pisa_isa.Notes.{NoteLists, NotedImage, is_name, name_fits, names_fit, fits}
+use Rattle.refine_program.proofs.pisa_isa_laws.Noting.{fitting, fits_by}
+use Rattle.refine_program.specs.roopl_semantics.Layout.{tables}
+use Rattle.refine_program.specs.roopl_semantics.Source.{main_fields, is_int_type}
+use Rattle.refine_program.specs.roopl_semantics.StandsFor.{StandsFor}
+use Rattle.refine_program.proofs.roopl_semantics_laws.MainPlace.{class_inside}
 use Rattle.program_codegen.specs.Notes.{field_names, HasMarks, AreNotes}
 use Rattle.program_codegen.proofs.FieldSums.{field_count, name_count, field_names_sum}
 
@@ -100,7 +100,7 @@ each_name statics left cell (var ∷ vars) low within few named =
 
 -- ---- the notes of a program
 
--- the main object stands before the class tables
+-- the main object is before the class tables
 long_enough : (program : Source) (image : Segments) → StandsFor program image
     → HEADER_WORDS + length (main_fields program) ≤ length image.statics
 long_enough program image stands =

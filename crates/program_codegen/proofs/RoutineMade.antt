@@ -1,5 +1,5 @@
--- The piece of a block in the scope of its method, made the body of a routine, is the piece of the
--- method's routine.
+-- The fragment of a block in the scope of its method, made the body of a routine, is the fragment
+-- of the method's routine.
 use Rattle.std.proofs.Common.{◌≡◌, ◌∙◌, ap, subst, refl, ℕ, ◌+◌, ◌*◌, ◌<◌, ◌≤◌, suc, List, [], ◌∷◌, length, Some, arith}
 use Rattle.std.proofs.Common.{slice_get}
 use Rattle.rpp_tree.specs.declared.tree.Program.{Program}
@@ -7,15 +7,15 @@ use Rattle.rpp_tree.specs.declared.tree.Var.{Var}
 use Rattle.rpp_tree.specs.Parts.{block_tokens}
 use Rattle.rpp_tree.specs.Tree.{Procedure}
 use Rattle.rpp_tree.specs.Views.{source_of}
-use Rattle.class_table.specs.declared.method.MethodId.{MethodId}
-use Rattle.class_table.specs.Members.{class_at}
-use Rattle.class_table.specs.Program.{IsAccepted}
-use Rattle.pisa_isa.specs.declared.notes.Mark.{Mark}
-use Rattle.paired_code.specs.Code.{Code, shift}
-use Rattle.refine_form.specs.Held.{Holds}
-use Rattle.code_scope.specs.Visible.{Visible}
-use Rattle.statement_codegen.specs.Codes.{IsBlockCode, IsMethodCode}
-use Rattle.statement_codegen.specs.Laws.{RoutineLaw}
+use Rattle.refine_program.specs.class_table.declared.method.MethodId.{MethodId}
+use Rattle.refine_program.specs.class_table.Members.{class_at}
+use Rattle.refine_program.specs.class_table.Program.{IsAccepted}
+use Rattle.refine_program.specs.pisa_isa.declared.notes.Mark.{Mark}
+use Rattle.refine_program.specs.paired_code.Code.{Code, shift}
+use Rattle.refine_program.specs.refine_form.Held.{Holds}
+use Rattle.block_codegen.specs.code_scope.Visible.{Visible}
+use Rattle.block_codegen.specs.statement_codegen.Codes.{IsBlockCode, IsMethodCode}
+use Rattle.block_codegen.specs.statement_codegen.Laws.{RoutineLaw}
 use Rattle.block_codegen.specs.Ranges.{IsCovered}
 use Rattle.block_codegen.specs.Pieces.{HaveMarks, IsRowCode}
 use Rattle.block_codegen.proofs.Marks.{marks_in}

@@ -1,15 +1,15 @@
--- Where the source never ends, an image that stands for it never stops.
+-- If the source never ends, an image that implements it never stops.
 use Rattle.std.proofs.Common.{◌≡◌, ◌∙◌, sym, refl, ℕ, List}
-use Rattle.rpp_words.specs.declared.input.FieldWord.{FieldWord}
-use Rattle.rpp_words.specs.declared.input.Limits.{Limits}
+use Rattle.refine_program.specs.rpp_words.declared.input.FieldWord.{FieldWord}
+use Rattle.refine_program.specs.rpp_words.declared.input.Limits.{Limits}
 use Rattle.rpp_tree.specs.Tree.{Source}
-use Rattle.pisa_isa.specs.declared.machine.Stop.{Stop}
-use Rattle.pisa_isa.specs.declared.machine.Stop.TheVariants.{Finished, Returned, Trap, BadAddress, OffCode, Bound}
-use Rattle.pisa_isa.specs.Image.{Segments}
-use Rattle.roopl_semantics.specs.Run.{Run, Done, Fault, More}
-use Rattle.roopl_semantics.specs.Store.{State}
-use Rattle.roopl_semantics.specs.Source.{source}
-use Rattle.roopl_semantics.specs.StandsFor.{Follows, run_of}
+use Rattle.refine_program.specs.pisa_isa.declared.machine.Stop.{Stop}
+use Rattle.refine_program.specs.pisa_isa.declared.machine.Stop.TheVariants.{Finished, Returned, Trap, BadAddress, OffCode, Bound}
+use Rattle.refine_program.specs.pisa_isa.Image.{Segments}
+use Rattle.refine_program.specs.roopl_semantics.Run.{Run, Done, Fault, More}
+use Rattle.refine_program.specs.roopl_semantics.Store.{State}
+use Rattle.refine_program.specs.roopl_semantics.Source.{source}
+use Rattle.refine_program.specs.roopl_semantics.StandsFor.{Follows, run_of}
 use Rattle.program_codegen.specs.Endless.{EndlessImagesRunOn}
 
 no_done : (A : Type 0) (run : Run State) (end : State) (cost : ℕ) → run ≡ More → run ≡ Done end cost → A

@@ -5,22 +5,22 @@ use Rattle.std.specs.Prelude.{slice_index}
 use Rattle.std.specs.Option.{unwrap_or}
 use Rattle.rpp_tree.specs.Parts.{source_tokens}
 use Rattle.rpp_tree.specs.Tree.{Procedure, Source}
-use Rattle.class_table.specs.declared.method.MethodId.{MethodId}
-use Rattle.class_table.specs.Chains.{parents, chain_of, line_of}
-use Rattle.class_table.specs.Classes.{class_slots, main_of}
-use Rattle.class_table.specs.First.{each_below}
-use Rattle.class_table.specs.Mains.{mains}
-use Rattle.class_table.specs.Members.{Slots, class_at, no_class, slots_of, slots_along}
-use Rattle.class_table.specs.Overrides.{run_at}
-use Rattle.class_table.specs.Program.{IsAccepted}
-use Rattle.class_table.specs.Table.{Table, table_of, slots_in, dispatch_in}
-use Rattle.class_table.proofs.ChainEnds.{parents_in}
-use Rattle.class_table.proofs.ClassLines.{in_range}
-use Rattle.class_table.proofs.FoundMethods.{has_line}
-use Rattle.class_table.proofs.InheritedSlots.{there_at, run_is, AreEntries, entries_along}
-use Rattle.class_table.proofs.Numbers.{length-each_below}
-use Rattle.class_table.proofs.Tables.{table_reads}
-use Rattle.roopl_semantics.proofs.MainPlace.{first_of_mains, table_rules, class_inside}
+use Rattle.refine_program.specs.class_table.declared.method.MethodId.{MethodId}
+use Rattle.refine_program.specs.class_table.Chains.{parents, chain_of, line_of}
+use Rattle.refine_program.specs.class_table.Classes.{class_slots, main_of}
+use Rattle.refine_program.specs.class_table.First.{each_below}
+use Rattle.refine_program.specs.class_table.Mains.{mains}
+use Rattle.refine_program.specs.class_table.Members.{Slots, class_at, no_class, slots_of, slots_along}
+use Rattle.refine_program.specs.class_table.Overrides.{run_at}
+use Rattle.refine_program.specs.class_table.Program.{IsAccepted}
+use Rattle.refine_program.specs.class_table.Table.{Table, table_of, slots_in, dispatch_in}
+use Rattle.refine_program.proofs.class_table_laws.ChainEnds.{parents_in}
+use Rattle.refine_program.proofs.class_table_laws.ClassLines.{in_range}
+use Rattle.refine_program.proofs.class_table_laws.FoundMethods.{has_line}
+use Rattle.refine_program.proofs.class_table_laws.InheritedSlots.{there_at, run_is, AreEntries, entries_along}
+use Rattle.refine_program.proofs.class_table_laws.Numbers.{length-each_below}
+use Rattle.refine_program.proofs.class_table_laws.Tables.{table_reads}
+use Rattle.refine_program.proofs.roopl_semantics_laws.MainPlace.{first_of_mains, table_rules, class_inside}
 use Rattle.refine_program.specs.Methods.{methods_before, routine_of}
 use Rattle.refine_program.proofs.Stated.{methods_have_routines}
 use Rattle.program_codegen.proofs.Counts.{entries_few}
@@ -54,7 +54,7 @@ slot_method program own slot own_in low =
     nothing : (p : ℕ) (y : List ℕ × MethodId) → slice_get [] p ≡ Some y → ⊥
     nothing p y g = cc
 
--- the method that the table's reader answers for a slot
+-- the method that the table's reader returns for a slot
 pub record SlotRead (program : Source) (class slot : ℕ) (id : MethodId) : Type 0 where
   pub low : slot < length (class_slots program class)
   pub runs : id ≡ run_at (class_slots program class) slot

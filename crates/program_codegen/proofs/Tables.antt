@@ -8,19 +8,19 @@ use Rattle.rpp_tree.specs.declared.tree.Class.{Class}
 use Rattle.rpp_tree.specs.declared.tree.Program.{Program}
 use Rattle.rpp_tree.specs.Tree.{ClassText, Source}
 use Rattle.rpp_tree.specs.Views.{procedure_of, class_text_of, source_of}
-use Rattle.class_table.specs.declared.method.MethodId.{MethodId}
-use Rattle.class_table.specs.First.{each_below}
-use Rattle.class_table.specs.Classes.{class_slots}
-use Rattle.class_table.specs.Members.{Slots, class_at}
-use Rattle.class_table.specs.Overrides.{run_at}
-use Rattle.class_table.specs.Table.{table_of, slots_in}
-use Rattle.class_table.proofs.InheritedSlots.{class_there}
-use Rattle.class_table.proofs.Numbers.{length-each_below, each_below-get, class-known}
-use Rattle.class_table.proofs.Tables.{table_reads}
-use Rattle.roopl_semantics.specs.Layout.{tables}
-use Rattle.paired_code.specs.declared.part.StaticWord.{StaticWord}
-use Rattle.paired_code.specs.declared.part.StaticWord.TheVariants.{Word, Routine as RoutinePlace}
-use Rattle.paired_code.specs.Link.{static_word}
+use Rattle.refine_program.specs.class_table.declared.method.MethodId.{MethodId}
+use Rattle.refine_program.specs.class_table.First.{each_below}
+use Rattle.refine_program.specs.class_table.Classes.{class_slots}
+use Rattle.refine_program.specs.class_table.Members.{Slots, class_at}
+use Rattle.refine_program.specs.class_table.Overrides.{run_at}
+use Rattle.refine_program.specs.class_table.Table.{table_of, slots_in}
+use Rattle.refine_program.proofs.class_table_laws.InheritedSlots.{class_there}
+use Rattle.refine_program.proofs.class_table_laws.Numbers.{length-each_below, each_below-get, class-known}
+use Rattle.refine_program.proofs.class_table_laws.Tables.{table_reads}
+use Rattle.refine_program.specs.roopl_semantics.Layout.{tables}
+use Rattle.refine_program.specs.paired_code.declared.part.StaticWord.{StaticWord}
+use Rattle.refine_program.specs.paired_code.declared.part.StaticWord.TheVariants.{Word, Routine as RoutinePlace}
+use Rattle.refine_program.specs.paired_code.Link.{static_word}
 use Rattle.refine_program.specs.Methods.{methods_before, routine_of}
 
 -- one table more
@@ -115,7 +115,7 @@ module _ (places : List ℕ) (program : Source) where
   abbrev pub read : List StaticWord → List ℕ
   read words = map (static_word places) words
 
-  -- the main object with these words in front of its fields, and then the tables
+  -- the main object with these words before its fields, and then the tables
   pub statics_read : (front : List ℕ) (count : ℕ) (w0 w1 w2 w3 : List StaticWord) (ts : List ℕ) → w0 ≡ []
       → w1 ≡ w0 ++ map Word front → w2 ≡ w1 ++ replicate count (Word 0) → read w3 ≡ read w2 ++ ts
       → read w3 ≡ front ++ replicate count 0 ++ ts

@@ -4,19 +4,19 @@ use Rattle.std.proofs.Common.{sym, ap, ◌∙◌, subst, arith, length-append}
 use Rattle.std.specs.Prelude.{if◌then◌else◌}
 use Rattle.std.specs.List.Sorted.{IsPermutation}
 use Rattle.std.proofs.lemmas.List.Sorted.{list_any-IsPermutation}
-use Rattle.pisa_isa.specs.declared.notes.Mark.{Mark}
-use Rattle.paired_code.specs.Code.{Code, bodies, shift, routine_marks, link_marks}
-use Rattle.paired_code.specs.Link.{routines_size, link_size}
-use Rattle.refine_form.specs.Held.{Holds}
+use Rattle.refine_program.specs.pisa_isa.declared.notes.Mark.{Mark}
+use Rattle.refine_program.specs.paired_code.Code.{Code, bodies, shift, routine_marks, link_marks}
+use Rattle.refine_program.specs.paired_code.Link.{routines_size, link_size}
+use Rattle.refine_program.specs.refine_form.Held.{Holds}
 use Rattle.block_codegen.specs.Ranges.{is_marked, holds_cell, IsCovered}
 use Rattle.block_codegen.proofs.Marks.{marked_front, marked_behind, marked_moved}
 use Rattle.program_codegen.specs.Notes.{unmarked_from}
 
--- those of a piece
+-- those of a fragment
 abbrev pub bare : Code → ℕ
 bare p = unmarked_from p.marks 0 (length p.cells)
 
--- those of routines, with the four cells round each body
+-- those of routines, with the four cells around each body
 abbrev pub spare : List Code → ℕ
 spare [] = 0
 spare (b ∷ bs) = 4 + bare b + spare bs
@@ -92,7 +92,7 @@ pub bare_covered : (p : Code) → IsCovered p → bare p ≡ 0
 bare_covered p h = none_unmarked p.marks 0 (length p.cells)
     (λ i l. let z : i ≡ 0 + i = omega arith in subst (λ x. is_marked p.marks x ≡ true) z (h i l))
 
--- a piece that holds another: those of that one, and at most its own cells
+-- a fragment that holds another: those of that one, and at most its own cells
 pub bare_held : (a p : Code) → Holds a p → bare p + length a.cells ≤ bare a + length p.cells
 bare_held a p h =
     let b = length h.before in

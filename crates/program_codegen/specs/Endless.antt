@@ -1,14 +1,14 @@
 -- Where the source never ends.
 use Rattle.std.specs.Prelude.{◌≡◌, ℕ, List}
-use Rattle.rpp_words.specs.declared.input.FieldWord.{FieldWord}
-use Rattle.rpp_words.specs.declared.input.Limits.{Limits}
-use Rattle.rpp_words.specs.Limits.{IsLimits}
+use Rattle.refine_program.specs.rpp_words.declared.input.FieldWord.{FieldWord}
+use Rattle.refine_program.specs.rpp_words.declared.input.Limits.{Limits}
+use Rattle.refine_program.specs.rpp_words.Limits.{IsLimits}
 use Rattle.rpp_tree.specs.Tree.{Source}
-use Rattle.pisa_isa.specs.declared.machine.Stop.TheVariants.{Bound}
-use Rattle.pisa_isa.specs.Image.{Segments}
-use Rattle.roopl_semantics.specs.Run.{More}
-use Rattle.roopl_semantics.specs.Source.{IsValid, source}
-use Rattle.roopl_semantics.specs.StandsFor.{StandsFor, run_of}
+use Rattle.refine_program.specs.pisa_isa.declared.machine.Stop.TheVariants.{Bound}
+use Rattle.refine_program.specs.pisa_isa.Image.{Segments}
+use Rattle.refine_program.specs.roopl_semantics.Run.{More}
+use Rattle.refine_program.specs.roopl_semantics.Source.{IsValid, source}
+use Rattle.refine_program.specs.roopl_semantics.StandsFor.{StandsFor, run_of}
 
 -- the image of a program never stops on an input on which the source never ends: only the bound
 -- ends its runs

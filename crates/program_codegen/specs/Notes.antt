@@ -1,30 +1,30 @@
--- What is noted of a program's image: the cells of each statement, which do in it what the meaning
--- says of the statement, and the cells of the main class's int fields.
+-- What is noted of a program's image: the cells of each statement, which do in it what the
+-- semantics says of the statement, and the cells of the main class's int fields.
 use Rattle.std.specs.Prelude.{◌≡◌, ℕ, zero, suc, ◌+◌, ◌*◌, ◌≤◌, List, [], ◌∷◌, ◌++◌, length, Bool}
 use Rattle.std.specs.Prelude.{if◌then◌else◌}
 use Rattle.std.specs.List.{AllZip}
 use Rattle.std.specs.List.Sorted.{IsPermutation, IsNonDecreasingBy}
-use Rattle.rpp_words.specs.declared.input.Limits.{Limits}
+use Rattle.refine_program.specs.rpp_words.declared.input.Limits.{Limits}
 use Rattle.rpp_tree.specs.declared.tree.Var.{Var}
 use Rattle.rpp_tree.specs.Tree.{Source}
-use Rattle.pisa_isa.specs.declared.notes.Mark.{Mark}
-use Rattle.pisa_isa.specs.declared.notes.FieldName.{FieldName}
-use Rattle.pisa_isa.specs.Image.{Segments}
-use Rattle.pisa_isa.specs.Notes.{NoteLists}
-use Rattle.pisa_isa.specs.Machine.{Memory}
-use Rattle.paired_code.specs.Machine.{Image}
-use Rattle.paired_code.specs.Layout.{code_line}
-use Rattle.paired_code.specs.Pieces.{Outcome, Ends, near_end, far_end}
-use Rattle.paired_code.specs.Does.{Meets}
-use Rattle.roopl_semantics.specs.Store.{State}
-use Rattle.roopl_semantics.specs.Source.{main_fields, is_int_type}
-use Rattle.code_conventions.specs.declared.memory.TheConstants.{FIRST_FIELD}
+use Rattle.refine_program.specs.pisa_isa.declared.notes.Mark.{Mark}
+use Rattle.refine_program.specs.pisa_isa.declared.notes.FieldName.{FieldName}
+use Rattle.refine_program.specs.pisa_isa.Image.{Segments}
+use Rattle.refine_program.specs.pisa_isa.Notes.{NoteLists}
+use Rattle.refine_program.specs.pisa_isa.Machine.{Memory}
+use Rattle.refine_program.specs.paired_code.Machine.{Image}
+use Rattle.refine_program.specs.paired_code.Layout.{code_line}
+use Rattle.refine_program.specs.paired_code.Pieces.{Outcome, Ends, near_end, far_end}
+use Rattle.refine_program.specs.paired_code.Does.{Meets}
+use Rattle.refine_program.specs.roopl_semantics.Store.{State}
+use Rattle.refine_program.specs.roopl_semantics.Source.{main_fields, is_int_type}
+use Rattle.refine_program.specs.code_conventions.declared.memory.TheConstants.{FIRST_FIELD}
 use Rattle.rpp_tree.specs.Places.{statement_place}
 use Rattle.block_codegen.specs.Rows.{Row, block_rows}
 use Rattle.block_codegen.specs.Ranges.{AreNested, is_marked}
-use Rattle.refine_form.specs.Form.{Open, told, one, turned}
-use Rattle.refine_form.specs.Frames.{Under}
-use Rattle.refine_form.specs.Worlds.{Place, world_of, rates_of}
+use Rattle.refine_program.specs.refine_form.Form.{Open, told, one, turned}
+use Rattle.refine_program.specs.refine_form.Frames.{Under}
+use Rattle.refine_program.specs.refine_form.Worlds.{Place, world_of, rates_of}
 use Rattle.refine_program.specs.Methods.{Entry, entries, scope_at}
 use Rattle.refine_program.specs.Laws.{place_of, HasRoutines}
 
@@ -43,18 +43,17 @@ rows_of (entry ∷ entries) = method_rows entry ++ rows_of entries
 abbrev pub program_rows : Source → List Row
 program_rows program = rows_of (entries program)
 
--- The run of these code cells of an image goes in one of these ways: from the near end of the cells
--- it
--- stays in them, but for the routines that it calls, and where it leaves, it leaves at the far end.
+-- The run of these code cells of an image goes in one of these ways. From the near end of the cells
+-- it stays in them, except for the routines that it calls. If it leaves, it leaves at the far end.
 abbrev pub WillGo : Image → (back : Bool) → (first end : ℕ) → Memory → (Outcome → Type 0) → Type 0
 WillGo im back first end m Q = (o : Outcome)
     × Ends im code_line back first end (near_end back first end) m (far_end back first end) o × Q o
 
--- The code cells from one to another of an image do what the meaning says of a statement. Wherever
--- a
--- frame of the scope is open in the memory, with some state, the run along does what the statement
--- says with any fuel, the run back what its inverse says: it leaves with the memory of the state to
--- which that leads, within 1000 steps for each unit of its cost, or stops at its fault, or goes on.
+-- The code cells from one to another of an image do what the semantics says of a statement. This
+-- holds if a frame of the scope is current in the memory, with some state. Forward, the run does
+-- what the statement says with any fuel; backward, what its inverse says. It leaves with the memory
+-- of the state to which that leads, within 1000 steps for each cost unit, or stops at its fault, or
+-- goes on.
 pub record DoRow (place : Place) (row : Row) (first end : ℕ) : Type 0 where
   pub does : (fuel : ℕ) (back : Bool) (u : Under) (st : State) (m : Memory)
       → Open (world_of place) row.scope u st m
@@ -68,8 +67,8 @@ pub record IsStatementMark (at : Limits → Place) (row : Row) (k : Mark) : Type
   pub in_order : k.first ≤ k.end
   pub cells : (limits : Limits) → DoRow (at limits) row k.first k.end
 
--- The routines of the program stand in the image, and the marks are one for each of its statements,
--- whose cells do in this image what the statement says.
+-- The routines of the program are in the image, and there is one mark for each of its statements.
+-- In this image, the cells of a mark do what the statement says.
 pub record MarksDoTheirRows (program : Source) (image : Segments) (marks : List Mark) : Type 0 where
   pub starts : List ℕ
   pub routines : HasRoutines program image starts
@@ -97,7 +96,7 @@ pub record HasMarks (program : Source) (image : Segments) (marks : List Mark) : 
 
 -- ---- names of fields
 
--- the int fields of these, the first of which stands in this cell
+-- the int fields of these, the first of which is in this cell
 abbrev pub field_names : (cell : ℕ) → List Var → List FieldName
 field_names cell [] = []
 field_names cell (var ∷ vars) =

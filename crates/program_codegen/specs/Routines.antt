@@ -1,11 +1,11 @@
--- The piece of a method's routine, and the numbers of routines.
+-- The fragment of a method's routine, and the numbers of routines.
 use Rattle.std.specs.Prelude.{◌≡◌, ℕ, ◌+◌, ◌*◌, ◌≤◌, List, [], ◌∷◌, length}
 use Rattle.std.specs.List.{AllZip}
 use Rattle.rpp_tree.specs.Parts.{block_tokens}
 use Rattle.rpp_tree.specs.Tree.{Source}
-use Rattle.class_table.specs.First.{each_below}
-use Rattle.paired_code.specs.Code.{Code}
-use Rattle.buddy_pisa.specs.Promise.{AllocatorLaw}
+use Rattle.refine_program.specs.class_table.First.{each_below}
+use Rattle.refine_program.specs.paired_code.Code.{Code}
+use Rattle.refine_program.specs.buddy_pisa.Promise.{AllocatorLaw}
 use Rattle.block_codegen.specs.Ranges.{MarksOf}
 use Rattle.block_codegen.specs.Pieces.{IsRowCode, cells_a_token}
 use Rattle.refine_program.specs.Methods.{Entry, entries, methods_before}
@@ -18,7 +18,7 @@ pub record IsRoutine (program : Source) (entry : Entry) (p : Code) : Type 0 wher
   pub marks : MarksOf (IsRowCode program) (method_rows entry) p
   pub size : length p.cells ≤ cells_a_token * block_tokens entry.method.body + 8
   pub few : length p.marks ≤ block_tokens entry.method.body
-  -- but for a few cells round it, it is that of the method's block
+  -- except for a few cells around it, it is that of the method's block
   pub unmarked : unmarked_from p.marks 0 (length p.cells) ≤ 8
 
 -- the allocator of the heap: it has its law, no mark, and so many cells
@@ -35,6 +35,6 @@ pub record AreRoutines (program : Source) (pieces : List Code) : Type 0 where
   pub allocates : IsAllocator allocator
   pub codes : AllZip (IsRoutine program) (entries program) methods
 
--- how many methods stand before each class
+-- how many methods come before each class
 abbrev pub first_numbers : Source → List ℕ
 first_numbers program = each_below (methods_before program.classes) (length program.classes)

@@ -5,13 +5,13 @@ use Rattle.std.specs.Prelude.{Some}
 use Rattle.std.specs.Option.{unwrap_or}
 use Rattle.rpp_tree.specs.declared.tree.Ident.{Ident}
 use Rattle.rpp_tree.specs.Tree.{Source}
-use Rattle.class_table.specs.Table.{table_of, slot_in}
-use Rattle.class_table.specs.Inheritance.{is_or_inherits}
-use Rattle.pisa_isa.specs.declared.notes.Mark.{Mark}
-use Rattle.pisa_isa.specs.Image.{Segments}
-use Rattle.paired_code.specs.declared.part.Symbol.{Symbol}
-use Rattle.paired_code.specs.Layout.{Routine}
-use Rattle.roopl_semantics.specs.Layout.{main_statics, tables}
+use Rattle.refine_program.specs.class_table.Table.{table_of, slot_in}
+use Rattle.refine_program.specs.class_table.Inheritance.{is_or_inherits}
+use Rattle.refine_program.specs.pisa_isa.declared.notes.Mark.{Mark}
+use Rattle.refine_program.specs.pisa_isa.Image.{Segments}
+use Rattle.refine_program.specs.paired_code.declared.part.Symbol.{Symbol}
+use Rattle.refine_program.specs.paired_code.Layout.{Routine}
+use Rattle.refine_program.specs.roopl_semantics.Layout.{main_statics, tables}
 use Rattle.program_codegen.specs.Notes.{HasMarks}
 
 -- the code cell is the SWAPBR of a routine in the subroutine form, at which calls enter and leave

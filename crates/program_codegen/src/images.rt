@@ -2,8 +2,8 @@
 ghost use Rattle.std.specs.Prelude.{◌≤◌, ◌+◌, ◌*◌, length, IfOk};
 ghost use Rattle.rpp_tree.specs.Parts.{source_tokens};
 ghost use Rattle.rpp_tree.specs.Views.{source_of};
-ghost use Rattle.pisa_isa.specs.Image.{IsImage};
-ghost use Rattle.roopl_semantics.specs.StandsFor.{StandsFor};
+ghost use Rattle.refine_program.specs.pisa_isa.Image.{IsImage};
+ghost use Rattle.refine_program.specs.roopl_semantics.StandsFor.{StandsFor};
 ghost use Rattle.program_codegen.specs.Notes.{HasMarks, AreNotes};
 
 use crate::notes::field_names;
@@ -41,7 +41,7 @@ pub fn compile(alloc: Global, checked: &Checked) -> Result<Noted, NoMemory>
     Ok(Noted::seal(image, Notes { marks, names }))
 }
 
-// The image of a program, with its marks alone.
+// The image of a program, with its marks only.
 fn linked(alloc: Global, checked: &Checked) -> Result<Noted, NoMemory>
     ensures stands { IfOk result (λ noted. StandsFor (source_of checked.now) noted.image) }
     ensures image { IfOk result (λ noted. IsImage noted.image) }

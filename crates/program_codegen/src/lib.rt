@@ -1,7 +1,7 @@
-//! The code of a checked program: a routine for the heap's allocator and one for each method, and
-//! the piece that runs
-//! `main`, linked over the main object and the class tables. The layer above may use `compile`,
-//! whose image stands for its program and has the cells of its statements and int fields noted.
+//! The code of a checked program. It has a routine for the heap's allocator and one for each
+//! method, and the fragment that runs `main`, linked over the main object and the class tables. The
+//! layer above may use `compile`, whose image implements its program and has notes on the cells of
+//! its statements and int fields.
 #![tactic(auto)]
 
 mod images;

@@ -1,6 +1,6 @@
 // The names of fields that are noted of a program's image.
 ghost use Rattle.std.specs.Prelude.{◌≡◌, ◌≤◌, length, IfOk};
-ghost use Rattle.roopl_semantics.specs.Source.{is_int_type};
+ghost use Rattle.refine_program.specs.roopl_semantics.Source.{is_int_type};
 ghost use Rattle.program_codegen.specs.Notes.{field_names as names_of};
 
 use code_conventions::memory::FIRST_FIELD;

@@ -1,4 +1,4 @@
-// The numbers of the methods' routines, which stand in the order of the text.
+// The numbers of the methods' routines, which are in the order of the source.
 ghost use Rattle.std.specs.Prelude.{◌≡◌, ◌<◌, ◌≤◌, ◌+◌, ◌^◌, length, slice_index, IfOk};
 ghost use Rattle.rpp_tree.specs.declared.limits.TheConstants.{MOST_TOKENS};
 ghost use Rattle.rpp_tree.specs.Parts.{source_tokens};
@@ -11,7 +11,7 @@ use rpp_tree::tree::Program;
 use rpp_words::NoMemory;
 use std::alloc::Global;
 
-/// How many methods stand before those of each class.
+/// How many methods come before those of each class.
 pub fn first_routines(alloc: Global, program: &Program) -> Result<Vec<u32>, NoMemory>
     requires { source_tokens (source_of program.now) ≤ MOST_TOKENS }
     ensures { IfOk result (λ firsts. firsts.items ≡ first_numbers (source_of program.now)) }
@@ -28,7 +28,7 @@ pub fn first_routines(alloc: Global, program: &Program) -> Result<Vec<u32>, NoMe
 /// The number of the first method's routine: the allocator of the heap is routine 0.
 pub const FIRST_METHOD: u32 = 1;
 
-/// The number of a method's routine, behind the allocator and those of the classes before its own.
+/// The number of a method's routine, after the allocator and those of the classes before its own.
 pub fn routine_number(firsts: &[u32], id: MethodId) -> u32
     requires inside { id.class < length firsts.now }
     requires small { FIRST_METHOD + (slice_index firsts.now id.class + id.method) < 2 ^ 32 }

@@ -1,10 +1,10 @@
 // The static cells of a program.
 ghost use Rattle.std.specs.Prelude.{◌≡◌, ◌≤◌, ◌<◌, ◌++◌, ℕ, List, map, length, replicate, IfOk, OnOk};
 ghost use Rattle.rpp_tree.specs.Views.{source_of};
-ghost use Rattle.roopl_semantics.specs.Layout.{tables};
-ghost use Rattle.roopl_semantics.specs.Source.{main_fields};
-ghost use Rattle.paired_code.specs.declared.part.StaticWord.TheVariants.{Word};
-ghost use Rattle.paired_code.specs.Link.{static_word};
+ghost use Rattle.refine_program.specs.roopl_semantics.Layout.{tables};
+ghost use Rattle.refine_program.specs.roopl_semantics.Source.{main_fields};
+ghost use Rattle.refine_program.specs.paired_code.declared.part.StaticWord.TheVariants.{Word};
+ghost use Rattle.refine_program.specs.paired_code.Link.{static_word};
 ghost use Rattle.refine_program.specs.Methods.{slot_places, table_places, statics_of};
 ghost use Rattle.program_codegen.specs.Routines.{first_numbers};
 ghost use Rattle.program_codegen.specs.declared.numbers.TheConstants.{FIRST_METHOD};
@@ -17,8 +17,8 @@ use rpp_words::NoMemory;
 use static_layout::table_at;
 use std::alloc::{AllocError, Global};
 
-/// The static cells of a program, wherever its routines stand: the main object, and the table of
-/// each class. Before the methods of each class stand so many.
+/// The static cells of a program, for any addresses of its routines: the main object, and the table
+/// of each class. So many methods come before those of each class.
 pub fn statics(
     alloc: Global,
     checked: &Checked,

@@ -2,28 +2,28 @@
 use Rattle.std.proofs.Common.{◌≡◌, ℕ, Bool, true, false, List, [], None, Some, Ok, Err, inl, inr, refl}
 use Rattle.std.specs.declared.option.Option.{Option}
 use Rattle.std.specs.Prelude.{Result}
-use Rattle.rpp_words.specs.declared.input.Limits.{Limits}
-use Rattle.rpp_tree.specs.Tree.{Source}
-use Rattle.pisa_isa.specs.declared.machine.Stop.{Stop}
-use Rattle.pisa_isa.specs.declared.machine.Stop.TheVariants.{Finished, Trap, Bound, Returned, BadAddress, OffCode}
-use Rattle.rpp_ports.specs.Ports.{Texts}
-use Rattle.rpp_words.specs.declared.input.FieldWord.{FieldWord}
-use Rattle.pisa_loader.specs.declared.error.LoadError.{LoadError}
+use Rattle.roopl_judge.specs.rpp_words.declared.input.Limits.{Limits}
+use Rattle.roopl_judge.specs.rpp_tree.Tree.{Source}
+use Rattle.image_inverter.specs.pisa_isa.declared.machine.Stop.{Stop}
+use Rattle.image_inverter.specs.pisa_isa.declared.machine.Stop.TheVariants.{Finished, Trap, Bound, Returned, BadAddress, OffCode}
+use Rattle.roopl_judge.specs.rpp_ports.Ports.{Texts}
+use Rattle.roopl_judge.specs.rpp_words.declared.input.FieldWord.{FieldWord}
+use Rattle.roopl_judge.specs.pisa_loader.declared.error.LoadError.{LoadError}
 use Rattle.program_commands.specs.Inputs.{given_input}
-use Rattle.class_table.specs.Refusal.{Refusal}
-use Rattle.command_plan.specs.Plans.{Planned, WritesOnly}
-use Rattle.rpp_probes.specs.Tally.{Watch}
+use Rattle.roopl_judge.specs.class_table.Refusal.{Refusal}
+use Rattle.roopl_judge.specs.command_plan.Plans.{Planned, WritesOnly}
+use Rattle.roopl_judge.specs.rpp_probes.Tally.{Watch}
 use Rattle.program_commands.specs.ProgramPlans.{OfProgram, WritesImage, IsCheckPlan, IsCompilePlan, ChecksFile}
 use Rattle.program_commands.specs.ProgramPlans.{CompilesFile, ReportsStop, RunsImage}
 use Rattle.program_commands.specs.RunPlans.{RefusesInput, RefusesSizes, RefusesRun, IsGoPlan, IsTurnPlan, IsProfilePlan}
 use Rattle.program_commands.specs.RunPlans.{GoesOn, TurnsFile, ProfilesFile}
-use Rattle.roopl_semantics.specs.Run.{Run, Done as OverWith, Fault, More}
-use Rattle.roopl_semantics.specs.Store.{State}
-use Rattle.roopl_semantics.specs.Source.{source}
-use Rattle.pisa_loader.specs.Limiting.{limits_refusal}
-use Rattle.source_meaning.specs.declared.whole.TheConstants.{MOST_OPEN}
+use Rattle.store_report.specs.roopl_semantics.Run.{Run, Done as OverWith, Fault, More}
+use Rattle.store_report.specs.roopl_semantics.Store.{State}
+use Rattle.store_report.specs.roopl_semantics.Source.{source}
+use Rattle.roopl_judge.specs.pisa_loader.Limiting.{limits_refusal}
+use Rattle.store_report.specs.source_meaning.declared.whole.TheConstants.{MOST_OPEN}
 use Rattle.program_commands.specs.Explained.{explained, IsExplainedInput, IsExplainedWithin, IsExplainPlan, Explains}
-use Rattle.command_plan.proofs.Writes.{along}
+use Rattle.roopl_judge.proofs.command_plan_laws.Writes.{along}
 
 stop_writes : (turns : Bool) (why : Stop) (program : Source) (limits : Limits) (input : List FieldWord)
     (first : List ℕ) (spent steps : ℕ) (p : Planned)
@@ -36,7 +36,7 @@ stop_writes turns Returned program limits input first spent steps p h = absurd h
 stop_writes turns (BadAddress a) program limits input first spent steps p h = absurd h
 stop_writes turns (OffCode a) program limits input first spent steps p h = absurd h
 
--- what holds of the plans that P tells holds of all plans of a text: a refusal writes nothing
+-- what holds for the plans that P allows holds for all plans of a text: a refusal writes nothing
 pub judged_writes : (judgement : Result Source Refusal) (P : Source → Planned → Type 0) (name : Option (List ℕ))
     (p : Planned) → ((program : Source) (q : Planned) → P program q → WritesOnly q name) → OfProgram P judgement p
     → WritesOnly p name

@@ -3,28 +3,28 @@ use Rattle.std.proofs.Common.{◌≡◌, ◌∙◌, sym, ap, subst, ℕ, zero, s
 use Rattle.std.proofs.Common.{None, arith, ⊎_elim}
 use Rattle.std.specs.Prelude.{ℤ}
 use Rattle.std.proofs.lemmas.Bool.{cases_lt}
-use Rattle.rpp_words.specs.declared.input.FieldWord.{FieldWord}
-use Rattle.rpp_words.specs.declared.input.Limits.{Limits}
-use Rattle.rpp_tree.specs.Tree.{Source}
-use Rattle.pisa_isa.specs.declared.machine.Stop.{Stop}
-use Rattle.pisa_isa.specs.declared.machine.Stop.TheVariants.{Finished, Trap, Returned, BadAddress, OffCode, Bound}
-use Rattle.pisa_isa.specs.declared.cell.Cell.{Cell}
-use Rattle.pisa_isa.specs.Image.{Segments}
-use Rattle.pisa_isa.specs.Loaded.{loaded_state}
-use Rattle.pisa_isa.specs.Machine.{State as MachineState, stop, next}
-use Rattle.pisa_isa.specs.Runs.{End, run, after_step, counted}
-use Rattle.pisa_isa.proofs.Longer.{run-longer}
-use Rattle.pisa_machine.specs.Position.{Position}
-use Rattle.roopl_semantics.specs.Source.{GivesFault}
-use Rattle.roopl_semantics.specs.StandsFor.{Follows, IsFinalState, IsEnough, EndsAt, run_of, enough_steps}
-use Rattle.roopl_semantics.specs.Store.{State}
-use Rattle.roopl_semantics.specs.Report.{report}
+use Rattle.roopl_judge.specs.rpp_words.declared.input.FieldWord.{FieldWord}
+use Rattle.roopl_judge.specs.rpp_words.declared.input.Limits.{Limits}
+use Rattle.roopl_judge.specs.rpp_tree.Tree.{Source}
+use Rattle.image_inverter.specs.pisa_isa.declared.machine.Stop.{Stop}
+use Rattle.image_inverter.specs.pisa_isa.declared.machine.Stop.TheVariants.{Finished, Trap, Returned, BadAddress, OffCode, Bound}
+use Rattle.image_inverter.specs.pisa_isa.declared.cell.Cell.{Cell}
+use Rattle.image_inverter.specs.pisa_isa.Image.{Segments}
+use Rattle.image_inverter.specs.pisa_isa.Loaded.{loaded_state}
+use Rattle.image_inverter.specs.pisa_isa.Machine.{State as MachineState, stop, next}
+use Rattle.image_inverter.specs.pisa_isa.Runs.{End, run, after_step, counted}
+use Rattle.image_inverter.proofs.pisa_isa_laws.Longer.{run-longer}
+use Rattle.store_report.specs.pisa_machine.Position.{Position}
+use Rattle.store_report.specs.roopl_semantics.Source.{GivesFault}
+use Rattle.store_report.specs.roopl_semantics.StandsFor.{Follows, IsFinalState, IsEnough, EndsAt, run_of, enough_steps}
+use Rattle.store_report.specs.roopl_semantics.Store.{State}
+use Rattle.store_report.specs.roopl_semantics.Report.{report}
 use Rattle.store_report.specs.Memory.{IsMemoryOf}
 use Rattle.program_commands.specs.GoRun.{HasRun}
-use Rattle.command_plan.specs.Plans.{Planned, prints}
+use Rattle.roopl_judge.specs.command_plan.Plans.{Planned, prints}
 use Rattle.program_commands.specs.ProgramPlans.{ReportsStore}
-use Rattle.command_plan.specs.Texts.{steps_line}
-use Rattle.command_plan.specs.declared.plan.Verdict.TheVariants.{Done}
+use Rattle.roopl_judge.specs.command_plan.Texts.{steps_line}
+use Rattle.roopl_judge.specs.command_plan.declared.plan.Verdict.TheVariants.{Done}
 
 module _ (program : Source) (limits : Limits) (input : List FieldWord) (bound : ℕ) (end : Position) (spent : ℕ) where
   follows : (why : Stop) → HasRun program limits input bound end why spent → Follows program end.image limits input
@@ -79,7 +79,7 @@ module _ (program : Source) (limits : Limits) (input : List FieldWord) (bound : 
         reported = is ∙ ap (λ text. prints Done (text ++ steps_line spent)) (shown (final has).end (final_memory has));
       }
 
-  -- where the bound ended a run, it was not enough for any cost at which the source ends
+  -- if the bound ended a run, it was not enough for any cost at which the source ends
   pub too_early : HasRun program limits input bound end Bound spent → (cost : ℕ) → EndsAt program limits input cost
       → bound < enough_steps cost
   too_early has cost ends =

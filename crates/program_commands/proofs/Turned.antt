@@ -1,39 +1,39 @@
--- A run of a program and the way back: what its report says, and that the flipped image restores
--- every register and every cell.
+-- A run of a program and its backward run: what its report says, and that the inverse image
+-- restores every register and every cell.
 use Rattle.std.proofs.Common.{◌≡◌, ◌∙◌, sym, ap, subst, ℕ, ◌+◌, ◌<◌, ◌≤◌, List, ◌++◌, length, Ok, Err, true}
 use Rattle.std.proofs.Common.{arith}
 use Rattle.std.specs.Prelude.{Bool, Result, IfOk, OnOk}
-use Rattle.rpp_words.specs.declared.input.FieldWord.{FieldWord}
-use Rattle.rpp_words.specs.declared.input.Limits.{Limits}
-use Rattle.rpp_tree.specs.Tree.{Source}
-use Rattle.pisa_isa.specs.declared.machine.Stop.{Stop}
-use Rattle.pisa_isa.specs.declared.machine.Stop.TheVariants.{Finished}
-use Rattle.pisa_isa.specs.Image.{Segments, IsImage}
-use Rattle.pisa_isa.specs.Flipped.{flipped, Restores}
-use Rattle.pisa_isa.specs.Loaded.{loaded, loaded_state}
-use Rattle.pisa_isa.specs.Machine.{IsState}
-use Rattle.pisa_isa.specs.Runs.{End, run, started, zero_registers}
-use Rattle.pisa_isa.proofs.Restored.{flipped_run_restores}
-use Rattle.pisa_isa.proofs.Reached.{reached_is_state}
-use Rattle.pisa_machine.specs.Position.{Position, IsMachine}
-use Rattle.roopl_semantics.specs.StandsFor.{run_of, StandsFor}
+use Rattle.roopl_judge.specs.rpp_words.declared.input.FieldWord.{FieldWord}
+use Rattle.roopl_judge.specs.rpp_words.declared.input.Limits.{Limits}
+use Rattle.roopl_judge.specs.rpp_tree.Tree.{Source}
+use Rattle.image_inverter.specs.pisa_isa.declared.machine.Stop.{Stop}
+use Rattle.image_inverter.specs.pisa_isa.declared.machine.Stop.TheVariants.{Finished}
+use Rattle.image_inverter.specs.pisa_isa.Image.{Segments, IsImage}
+use Rattle.image_inverter.specs.pisa_isa.Flipped.{flipped, Restores}
+use Rattle.image_inverter.specs.pisa_isa.Loaded.{loaded, loaded_state}
+use Rattle.image_inverter.specs.pisa_isa.Machine.{IsState}
+use Rattle.image_inverter.specs.pisa_isa.Runs.{End, run, started, zero_registers}
+use Rattle.image_inverter.proofs.pisa_isa_laws.Restored.{flipped_run_restores}
+use Rattle.image_inverter.proofs.pisa_isa_laws.Reached.{reached_is_state}
+use Rattle.store_report.specs.pisa_machine.Position.{Position, IsMachine}
+use Rattle.store_report.specs.roopl_semantics.StandsFor.{run_of, StandsFor}
 use Rattle.store_report.specs.Memory.{IsMemoryOf, IsFirstMemoryOf}
 use Rattle.program_commands.specs.GoRun.{IsLoaded, HasRun}
-use Rattle.roopl_semantics.specs.Source.{starting}
-use Rattle.roopl_semantics.specs.Store.{State}
-use Rattle.roopl_semantics.specs.Report.{report}
+use Rattle.store_report.specs.roopl_semantics.Source.{starting}
+use Rattle.store_report.specs.roopl_semantics.Store.{State}
+use Rattle.store_report.specs.roopl_semantics.Report.{report}
 use Rattle.program_commands.proofs.Reported.{final, final_memory, soon_over}
-use Rattle.command_plan.specs.declared.plan.Verdict.TheVariants.{Done}
-use Rattle.command_plan.specs.Plans.{Planned, prints}
+use Rattle.roopl_judge.specs.command_plan.declared.plan.Verdict.TheVariants.{Done}
+use Rattle.roopl_judge.specs.command_plan.Plans.{Planned, prints}
 use Rattle.program_commands.specs.ProgramPlans.{ReportsTurn, ReportsStop, ReportsEnd, RunsImage, back_lines}
 use Rattle.program_commands.specs.ProgramPlans.{steps_back}
-use Rattle.command_plan.specs.Texts.{steps_line}
+use Rattle.roopl_judge.specs.command_plan.Texts.{steps_line}
 
 module _ (program : Source) (limits : Limits) (input : List FieldWord) (bound : ℕ) (end : Position) (spent : ℕ) where
   abbrev first_cells : List ℕ
   first_cells = loaded end.image.statics limits input
 
-  -- whatever the stop, after a finish the flipped image restores
+  -- for each stop; after a finish the inverse image restores
   pub restores : (why : Stop) → HasRun program limits input bound end why spent
       → (run_of end.image limits input bound).why ≡ Finished
       → Restores end.image.code (run_of end.image limits input bound) bound zero_registers first_cells
@@ -50,7 +50,7 @@ module _ (program : Source) (limits : Limits) (input : List FieldWord) (bound : 
       subst (λ (e : End). Restores end.image.code e bound zero_registers first_cells) has.runs
       (restores Finished has (ap (λ (e : End). e.why) has.runs))
 
-  -- what the run of the flipped image from there leaves
+  -- what the run of the inverse image from there leaves
   pub back_cells : HasRun program limits input bound end Finished spent
       → (after : End) → run (flipped end.image.code) bound
       (started (flipped end.image.code) end.state.regs end.state.cells) ≡ after → after.last.cells ≡ first_cells
@@ -136,12 +136,12 @@ module _ (program : Source) (limits : Limits) (input : List FieldWord) (bound : 
         ∙ sym (ap (λ (p : Position). run start.image.code bound p.state) loads.first) ∙ ran;
   }
 
--- what holds of an answer holds in a weaker form
+-- what holds for a result holds in a weaker form
 pub weaken : {A E : Type 0} (r : Result A E) (P Q : A → Type 0) → ((x : A) → P x → Q x) → IfOk r P → IfOk r Q
 weaken (Ok x) P Q f h = f x h
 weaken (Err e) P Q f h = tt
 
--- the same, with what holds after every answer that is no error
+-- the same, with what holds after every result that is no error
 pub weaken_with : {A E : Type 0} (r : Result A E) (C : Type 0) (P Q : A → Type 0) → (C → (x : A) → P x → Q x) → OnOk r C
     → IfOk r P → IfOk r Q
 weaken_with (Ok x) C P Q f c h = f c x h

@@ -6,14 +6,14 @@ use Rattle.std.specs.Prelude.{IsTrue, nat_eq, if◌then◌else◌}
 use Rattle.std.specs.List.{All, slice_index_or}
 use Rattle.std.proofs.lemmas.Bool.Decides.{nat_tests}
 use Rattle.std.proofs.lemmas.List.{length-replicate}
-use Rattle.rpp_words.specs.declared.input.FieldWord.{FieldWord}
-use Rattle.rpp_words.specs.declared.input.TheConstants.{HEADER_WORDS}
-use Rattle.rpp_tree.specs.declared.tree.Var.{Var}
-use Rattle.rpp_tree.specs.Tree.{Source}
-use Rattle.pisa_isa.specs.Image.{Segments}
-use Rattle.pisa_loader.specs.InputLines.{is_field, AreInput}
-use Rattle.roopl_semantics.specs.Layout.{HasStatics, main_statics, tables}
-use Rattle.roopl_semantics.specs.Source.{main_fields, is_int_type, is_int_field, IsValid}
+use Rattle.roopl_judge.specs.rpp_words.declared.input.FieldWord.{FieldWord}
+use Rattle.roopl_judge.specs.rpp_words.declared.input.TheConstants.{HEADER_WORDS}
+use Rattle.roopl_judge.specs.rpp_tree.declared.tree.Var.{Var}
+use Rattle.roopl_judge.specs.rpp_tree.Tree.{Source}
+use Rattle.image_inverter.specs.pisa_isa.Image.{Segments}
+use Rattle.roopl_judge.specs.pisa_loader.InputLines.{is_field, AreInput}
+use Rattle.store_report.specs.roopl_semantics.Layout.{HasStatics, main_statics, tables}
+use Rattle.store_report.specs.roopl_semantics.Source.{main_fields, is_int_type, is_int_field, IsValid}
 use Rattle.program_commands.specs.Inputs.{fields_from, input_fields}
 
 -- ---- a field that can be set is an int field

@@ -1,39 +1,38 @@
--- What the probes of `turn` and `profile` were told.
+-- What the probes of `turn` and `profile` observed.
 use Rattle.std.proofs.Common.{◌≡◌, ◌∙◌, sym, ap, subst, subst₂, ℕ, ◌+◌, true, false, List, [], ◌∷◌, ◌++◌, map, Ok, Err}
-use Rattle.std.proofs.Common.{inl}
 use Rattle.std.proofs.Common.{inr, ⊎_elim}
-use Rattle.std.specs.Prelude.{Result, OnOk, IfErr, ◌⊎◌}
+use Rattle.std.specs.Prelude.{Result, OnOk, IfErr}
 use Rattle.std.proofs.lemmas.List.{map-append}
-use Rattle.pisa_isa.specs.declared.cell.Cell.{Cell}
-use Rattle.pisa_isa.specs.declared.machine.Stop.TheVariants.{Finished}
-use Rattle.pisa_isa.specs.Flipped.{flipped}
-use Rattle.pisa_isa.specs.Machine.{State}
-use Rattle.rpp_words.specs.declared.input.FieldWord.{FieldWord}
-use Rattle.rpp_words.specs.declared.input.Limits.{Limits}
-use Rattle.rpp_tree.specs.Tree.{Source}
-use Rattle.rpp_probes.specs.declared.probe.StepAt.{StepAt}
-use Rattle.rpp_probes.proofs.Folds.{left_none}
-use Rattle.rpp_probes.specs.Tally.{Watch, left_after, lines_after, lines_shown, line_of}
-use Rattle.pisa_isa.specs.declared.machine.Stop.{Stop}
-use Rattle.pisa_isa.specs.Image.{Segments, IsImage}
-use Rattle.pisa_isa.specs.Loaded.{loaded}
-use Rattle.pisa_isa.specs.Runs.{End, visited, started}
-use Rattle.pisa_machine.specs.Position.{Position}
-use Rattle.pisa_machine.specs.Told.{counted_steps, step_at, BreaksOff}
-use Rattle.command_plan.specs.Plans.{Planned}
+use Rattle.image_inverter.specs.pisa_isa.declared.cell.Cell.{Cell}
+use Rattle.image_inverter.specs.pisa_isa.declared.machine.Stop.TheVariants.{Finished}
+use Rattle.image_inverter.specs.pisa_isa.Flipped.{flipped}
+use Rattle.image_inverter.specs.pisa_isa.Machine.{State}
+use Rattle.roopl_judge.specs.rpp_words.declared.input.FieldWord.{FieldWord}
+use Rattle.roopl_judge.specs.rpp_words.declared.input.Limits.{Limits}
+use Rattle.roopl_judge.specs.rpp_tree.Tree.{Source}
+use Rattle.roopl_judge.specs.rpp_probes.declared.probe.StepAt.{StepAt}
+use Rattle.roopl_judge.proofs.rpp_probes_laws.Folds.{left_none}
+use Rattle.roopl_judge.specs.rpp_probes.Tally.{Watch, left_after, lines_after, lines_shown, line_of}
+use Rattle.image_inverter.specs.pisa_isa.declared.machine.Stop.{Stop}
+use Rattle.image_inverter.specs.pisa_isa.Image.{Segments, IsImage}
+use Rattle.image_inverter.specs.pisa_isa.Loaded.{loaded}
+use Rattle.image_inverter.specs.pisa_isa.Runs.{End, visited, started}
+use Rattle.store_report.specs.pisa_machine.Position.{Position}
+use Rattle.store_report.specs.pisa_machine.Told.{counted_steps, step_at, BreaksOff}
+use Rattle.roopl_judge.specs.command_plan.Plans.{Planned}
 use Rattle.program_commands.specs.GoRun.{IsLoaded, HasRun}
 use Rattle.program_commands.specs.ProgramPlans.{ReportsStop, steps_back}
-use Rattle.program_commands.specs.RunPlans.{TurnsImage, ProfilesImage, CanRun, RunsTo, back_steps, run_steps}
+use Rattle.program_commands.specs.RunPlans.{TurnsImage, ProfilesImage, back_steps, run_steps}
 use Rattle.program_commands.specs.ToldShort.{IsToldSoFar, TurnsShort, ProfilesShort}
 use Rattle.program_commands.proofs.Turned.{runs_image}
 
--- where no step was told, the probes are as they were
+-- if no step was observed, the probes are as they were
 pub none_told : {A E : Type 0} (r : Result A E) (steps : List StepAt) (ws : List Watch) → steps ≡ []
     → OnOk r (ws ≡ left_after steps ws)
 none_told (Ok x) steps ws none = sym (ap (λ l. left_after l ws) none ∙ left_none ws)
 none_told (Err e) steps ws none = tt
 
--- what holds whatever the answer
+-- what holds whatever the result
 pub err_always : {A E : Type 0} (r : Result A E) (P : Type 0) → P → IfErr r (λ _. P)
 err_always (Ok x) P h = tt
 err_always (Err e) P h = h
@@ -42,7 +41,7 @@ pub err_weaken : {A E : Type 0} (r : Result A E) (P Q : Type 0) → (P → Q) �
 err_weaken (Ok x) P Q f h = tt
 err_weaken (Err e) P Q f h = f h
 
--- a run that no memory was found in told the probes so far
+-- if memory ran out in a run, the probes observed its steps so far
 pub told_short : (bound : ℕ) (old new : Position) (count counted : ℕ) (watches left : List Watch)
     (before after : List (List ℕ)) → BreaksOff bound old new count counted watches left before after
     → IsToldSoFar old.image.code bound old.state watches left
@@ -63,7 +62,7 @@ pub so_far_from : (code : List Cell) (m : State) (start : Position) (bound : ℕ
 so_far_from code m start bound before after e f h =
     subst₂ (λ (c : List Cell) (s : State). IsToldSoFar c bound s before after) e f h
 
--- what want of memory leaves of the probes of a run from where an image is loaded
+-- the probes of a run from where an image is loaded, if memory runs out
 pub loaded_short : (program : Source) (limits : Limits) (input : List FieldWord) (bound : ℕ) (start : Position)
     → IsLoaded program limits input start → IsImage start.image
     → (before after : List Watch) → IsToldSoFar start.image.code bound start.state before after
@@ -75,23 +74,6 @@ loaded_short program limits input bound start loads image before after told = re
   told = subst (λ (m : State). IsToldSoFar start.image.code bound m before after)
       (ap (λ (p : Position). p.state) loads.first) told;
 }
-
--- what a run of a program that can be run leaves of probes is what its text leaves of them
-pub readied_short : {A E : Type 0} (r : Result A E) (same : Type 0) (text given : List ℕ) (heap deep steps bound : ℕ)
-    (T : Source → Limits → List FieldWord → ℕ → Type 0) (program : Source) (limits : Limits) (input : List FieldWord)
-    → CanRun text given heap deep program limits input × (bound ≡ steps)
-    → IfErr r (λ _. same ⊎ T program limits input bound)
-    → IfErr r (λ _. same ⊎ RunsTo text given heap deep (λ p l i. T p l i steps))
-readied_short r same text given heap deep steps bound T program limits input can =
-    err_weaken r (same ⊎ T program limits input bound) (same ⊎ RunsTo text given heap deep (λ p l i. T p l i steps))
-    (⊎_elim (λ e. inl e)
-    (λ t. inr (record {
-      program = program;
-      limits = limits;
-      input = input;
-      can_run = can.0;
-      run = subst (T program limits input) can.1 t;
-    })))
 
 module _ (program : Source) (limits : Limits) (input : List FieldWord) (bound : ℕ) (end : Position) (spent : ℕ) where
   pub turns_image : (why : Stop) → HasRun program limits input bound end why spent
@@ -131,7 +113,7 @@ module _ (program : Source) (limits : Limits) (input : List FieldWord) (bound : 
         (lines ∙ ap (λ steps. lines_after steps before) (same_steps start loads same));
   }
 
-  -- want of memory on the way back
+  -- memory runs out in the backward run
   pub turns_short : (why : Stop) → HasRun program limits input bound end why spent
       → (before after : List Watch)
       → (why ≡ Finished) × IsToldSoFar (flipped end.image.code) bound

@@ -2,25 +2,25 @@
 use Rattle.std.specs.Prelude.{◌≡◌, ℕ, List, ◌++◌, None, Some, Result, Ok, Err, codes}
 use Rattle.std.specs.declared.option.Option.{Option}
 use Rattle.std.specs.Fmt.{decimal}
-use Rattle.rpp_words.specs.Texts.{line_end}
-use Rattle.rpp_words.specs.declared.input.FieldWord.{FieldWord}
-use Rattle.rpp_words.specs.declared.input.Limits.{Limits}
-use Rattle.rpp_tree.specs.declared.limits.TheConstants.{MOST_BYTES}
-use Rattle.rpp_tree.specs.Tree.{Source}
-use Rattle.rpp_ports.specs.Ports.{Texts}
-use Rattle.pisa_loader.specs.Limiting.{limits_refusal}
-use Rattle.pisa_loader.specs.declared.error.LoadError.{LoadError}
-use Rattle.roopl_semantics.specs.Run.{Run, Done as OverWith, Fault, More}
-use Rattle.roopl_semantics.specs.Store.{State}
-use Rattle.roopl_semantics.specs.Source.{source}
-use Rattle.roopl_semantics.specs.Report.{report}
-use Rattle.source_meaning.specs.declared.outcome.Outcome.{Outcome}
-use Rattle.source_meaning.specs.declared.outcome.Outcome.TheVariants as outcome
-use Rattle.source_meaning.specs.declared.whole.TheConstants.{MOST_OPEN}
-use Rattle.command_plan.specs.declared.plan.Verdict.TheVariants.{Done, Trapped, Bound, InputRefused}
-use Rattle.command_plan.specs.Plans.{Planned, prints, WithText, WithInput}
-use Rattle.command_plan.specs.Texts.{load_line}
-use Rattle.pisa_scripts.specs.Stops.{fault_line}
+use Rattle.roopl_judge.specs.rpp_words.Texts.{line_end}
+use Rattle.roopl_judge.specs.rpp_words.declared.input.FieldWord.{FieldWord}
+use Rattle.roopl_judge.specs.rpp_words.declared.input.Limits.{Limits}
+use Rattle.roopl_judge.specs.rpp_tree.declared.limits.TheConstants.{MOST_BYTES}
+use Rattle.roopl_judge.specs.rpp_tree.Tree.{Source}
+use Rattle.roopl_judge.specs.rpp_ports.Ports.{Texts}
+use Rattle.roopl_judge.specs.pisa_loader.Limiting.{limits_refusal}
+use Rattle.roopl_judge.specs.pisa_loader.declared.error.LoadError.{LoadError}
+use Rattle.store_report.specs.roopl_semantics.Run.{Run, Done as OverWith, Fault, More}
+use Rattle.store_report.specs.roopl_semantics.Store.{State}
+use Rattle.store_report.specs.roopl_semantics.Source.{source}
+use Rattle.store_report.specs.roopl_semantics.Report.{report}
+use Rattle.store_report.specs.source_meaning.declared.outcome.Outcome.{Outcome}
+use Rattle.store_report.specs.source_meaning.declared.outcome.Outcome.TheVariants as outcome
+use Rattle.store_report.specs.source_meaning.declared.whole.TheConstants.{MOST_OPEN}
+use Rattle.roopl_judge.specs.command_plan.declared.plan.Verdict.TheVariants.{Done, Trapped, Bound, InputRefused}
+use Rattle.roopl_judge.specs.command_plan.Plans.{Planned, prints, WithText, WithInput}
+use Rattle.roopl_judge.specs.command_plan.Texts.{load_line}
+use Rattle.roopl_judge.specs.pisa_scripts.Stops.{fault_line}
 use Rattle.program_commands.specs.Inputs.{given_input}
 use Rattle.program_commands.specs.ProgramPlans.{IsJudgedPlan}
 
@@ -35,13 +35,13 @@ explained program (OverWith end cost) = prints Done (report program end.store ++
 explained program (Fault code cost) = prints Trapped (fault_line code ++ cost_line cost)
 explained program More = prints Bound (codes "bound" ++ line_end)
 
--- the same of an answer of the interpreter
+-- the same of a result of the interpreter
 abbrev pub Tells : Source → Outcome → Planned → Type 0
 Tells program (outcome.Done store cost) p = p ≡ prints Done (report program store ++ cost_line cost)
 Tells program (outcome.Fault code cost) p = p ≡ prints Trapped (fault_line code ++ cost_line cost)
 Tells program outcome.More p = p ≡ prints Bound (codes "bound" ++ line_end)
 
--- the input is judged, and then the program is interpreted on it
+-- the input is checked, and then the program is interpreted on it
 abbrev pub IsExplainedInput : Result (List FieldWord) LoadError → Source → Limits → ℕ → Planned
     → Type 0
 IsExplainedInput (Err e) program limits fuel p = p ≡ prints InputRefused (load_line e)
@@ -60,7 +60,7 @@ IsExplainPlan text given heap deep fuel p =
     IsJudgedPlan text (λ program. IsExplainedWithin (limits_refusal heap deep MOST_OPEN) given
     program (record { heap = heap; deep = deep }) fuel) p
 
--- the plan of `explain` of this file, on an input where there is one
+-- the plan of `explain` of this file, on an input if there is one
 abbrev pub Explains : (file : List ℕ) → (input : Option (List ℕ)) → (heap deep fuel : ℕ)
     → Option Texts
     → Planned → Type 0

@@ -1,19 +1,19 @@
 -- What the report of a run rests on.
 use Rattle.std.specs.Prelude.{◌≡◌, ◌≤◌, ℕ, List}
-use Rattle.rpp_words.specs.declared.input.FieldWord.{FieldWord}
-use Rattle.rpp_words.specs.declared.input.Limits.{Limits}
-use Rattle.rpp_tree.specs.Tree.{Source}
-use Rattle.pisa_isa.specs.declared.machine.Stop.{Stop}
-use Rattle.pisa_isa.specs.Image.{IsImage}
-use Rattle.pisa_isa.specs.Loaded.{loaded, loaded_state}
-use Rattle.pisa_isa.specs.Machine.{IsState}
-use Rattle.pisa_isa.specs.Runs.{zero_registers}
-use Rattle.pisa_machine.specs.Position.{Position, first_position}
-use Rattle.roopl_semantics.specs.Source.{IsValid}
-use Rattle.rpp_words.specs.Limits.{IsLimits}
-use Rattle.roopl_semantics.specs.StandsFor.{StandsFor, run_of}
+use Rattle.roopl_judge.specs.rpp_words.declared.input.FieldWord.{FieldWord}
+use Rattle.roopl_judge.specs.rpp_words.declared.input.Limits.{Limits}
+use Rattle.roopl_judge.specs.rpp_tree.Tree.{Source}
+use Rattle.image_inverter.specs.pisa_isa.declared.machine.Stop.{Stop}
+use Rattle.image_inverter.specs.pisa_isa.Image.{IsImage}
+use Rattle.image_inverter.specs.pisa_isa.Loaded.{loaded, loaded_state}
+use Rattle.image_inverter.specs.pisa_isa.Machine.{IsState}
+use Rattle.image_inverter.specs.pisa_isa.Runs.{zero_registers}
+use Rattle.store_report.specs.pisa_machine.Position.{Position, first_position}
+use Rattle.store_report.specs.roopl_semantics.Source.{IsValid}
+use Rattle.roopl_judge.specs.rpp_words.Limits.{IsLimits}
+use Rattle.store_report.specs.roopl_semantics.StandsFor.{StandsFor, run_of}
 
--- a machine stands where a run of an image begins that stands for the program, on this input
+-- a machine is where a run of an image begins that implements the program, on this input
 pub record IsLoaded (program : Source) (limits : Limits) (input : List FieldWord)
     (start : Position) : Type 0 where
   pub allowed : IsLimits limits
@@ -22,8 +22,8 @@ pub record IsLoaded (program : Source) (limits : Limits) (input : List FieldWord
   pub first : start ≡ first_position start.image zero_registers
       (loaded start.image.statics limits input)
 
--- a machine stands where a run of at most so many steps of an image that stands for the program
--- ended, on this input
+-- a machine is where a run of at most so many steps of an image that implements the program ended,
+-- on this input
 pub record HasRun (program : Source) (limits : Limits) (input : List FieldWord) (bound : ℕ)
     (end : Position) (why : Stop) (spent : ℕ) : Type 0 where
   pub allowed : IsLimits limits

@@ -1,12 +1,12 @@
 -- Which fields an input may set, and what it sets.
 use Rattle.std.specs.Prelude.{ℕ, ◌+◌, List, [], ◌∷◌, Result, if◌then◌else◌}
-use Rattle.rpp_words.specs.declared.input.FieldWord.{FieldWord}
-use Rattle.rpp_tree.specs.declared.tree.Var.{Var}
-use Rattle.rpp_tree.specs.Tree.{Source}
-use Rattle.pisa_loader.specs.declared.error.LoadError.{LoadError}
-use Rattle.pisa_loader.specs.declared.input.InputField.{InputField}
-use Rattle.pisa_loader.specs.InputLines.{input_of}
-use Rattle.roopl_semantics.specs.Source.{main_fields, is_int_type}
+use Rattle.roopl_judge.specs.rpp_words.declared.input.FieldWord.{FieldWord}
+use Rattle.roopl_judge.specs.rpp_tree.declared.tree.Var.{Var}
+use Rattle.roopl_judge.specs.rpp_tree.Tree.{Source}
+use Rattle.roopl_judge.specs.pisa_loader.declared.error.LoadError.{LoadError}
+use Rattle.roopl_judge.specs.pisa_loader.declared.input.InputField.{InputField}
+use Rattle.roopl_judge.specs.pisa_loader.InputLines.{input_of}
+use Rattle.store_report.specs.roopl_semantics.Source.{main_fields, is_int_type}
 
 -- the int fields of these, the first of which has this number
 abbrev pub fields_from : ℕ → List Var → List InputField

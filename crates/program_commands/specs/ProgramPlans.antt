@@ -4,34 +4,34 @@ use Rattle.std.specs.Prelude.{Ok}
 use Rattle.std.specs.Prelude.{Err, codes}
 use Rattle.std.specs.declared.option.Option.{Option}
 use Rattle.std.specs.Fmt.{decimal}
-use Rattle.rpp_words.specs.declared.input.FieldWord.{FieldWord}
-use Rattle.rpp_words.specs.declared.input.Limits.{Limits}
-use Rattle.rpp_tree.specs.declared.limits.TheConstants.{MOST_BYTES}
-use Rattle.rpp_tree.specs.Tree.{Source}
-use Rattle.rpp_ports.specs.Ports.{Texts}
-use Rattle.class_table.specs.Refusal.{Refusal}
+use Rattle.roopl_judge.specs.rpp_words.declared.input.FieldWord.{FieldWord}
+use Rattle.roopl_judge.specs.rpp_words.declared.input.Limits.{Limits}
+use Rattle.roopl_judge.specs.rpp_tree.declared.limits.TheConstants.{MOST_BYTES}
+use Rattle.roopl_judge.specs.rpp_tree.Tree.{Source}
+use Rattle.roopl_judge.specs.rpp_ports.Ports.{Texts}
+use Rattle.roopl_judge.specs.class_table.Refusal.{Refusal}
 use Rattle.program_codegen.specs.Notes.{AreNotes}
-use Rattle.pisa_isa.specs.declared.machine.Stop.{Stop}
-use Rattle.pisa_isa.specs.declared.machine.Stop.TheVariants.{Finished, Trap, Bound as AtBound}
-use Rattle.pisa_isa.specs.Image.{Segments, IsImage}
-use Rattle.pisa_isa.specs.Notes.{NoteLists}
-use Rattle.pisa_isa.specs.Flipped.{Restores}
-use Rattle.pisa_image.specs.ImageBytes.{image_bytes}
-use Rattle.pisa_image.specs.Reading.{noted, image_at}
-use Rattle.pisa_isa.specs.Loaded.{loaded}
-use Rattle.pisa_isa.specs.Runs.{End, zero_registers}
-use Rattle.roopl_semantics.specs.Store.{State}
-use Rattle.roopl_semantics.specs.Source.{GivesDone, GivesFault, starting}
-use Rattle.roopl_semantics.specs.Report.{report}
-use Rattle.roopl_semantics.specs.StandsFor.{StandsFor, EndsAt, run_of, enough_steps}
+use Rattle.image_inverter.specs.pisa_isa.declared.machine.Stop.{Stop}
+use Rattle.image_inverter.specs.pisa_isa.declared.machine.Stop.TheVariants.{Finished, Trap, Bound as AtBound}
+use Rattle.image_inverter.specs.pisa_isa.Image.{Segments, IsImage}
+use Rattle.image_inverter.specs.pisa_isa.Notes.{NoteLists}
+use Rattle.image_inverter.specs.pisa_isa.Flipped.{Restores}
+use Rattle.roopl_judge.specs.pisa_image.ImageBytes.{image_bytes}
+use Rattle.roopl_judge.specs.pisa_image.Reading.{noted, image_at}
+use Rattle.image_inverter.specs.pisa_isa.Loaded.{loaded}
+use Rattle.image_inverter.specs.pisa_isa.Runs.{End, zero_registers}
+use Rattle.store_report.specs.roopl_semantics.Store.{State}
+use Rattle.store_report.specs.roopl_semantics.Source.{GivesDone, GivesFault, starting}
+use Rattle.store_report.specs.roopl_semantics.Report.{report}
+use Rattle.store_report.specs.roopl_semantics.StandsFor.{StandsFor, EndsAt, run_of, enough_steps}
 use Rattle.roopl_judge.specs.Judged.{IsJudged}
-use Rattle.command_plan.specs.Refusals.{refused_line}
-use Rattle.rpp_words.specs.Texts.{line_end}
-use Rattle.command_plan.specs.declared.plan.Verdict.TheVariants.{Done, SourceRefused, Trapped}
-use Rattle.command_plan.specs.declared.plan.Verdict.TheVariants.{Bound}
-use Rattle.command_plan.specs.Plans.{Planned, prints, writes, WithText}
-use Rattle.command_plan.specs.Texts.{steps_line, bound_lines, cells_line}
-use Rattle.pisa_scripts.specs.Stops.{fault_line}
+use Rattle.roopl_judge.specs.command_plan.Refusals.{refused_line}
+use Rattle.roopl_judge.specs.rpp_words.Texts.{line_end}
+use Rattle.roopl_judge.specs.command_plan.declared.plan.Verdict.TheVariants.{Done, SourceRefused, Trapped}
+use Rattle.roopl_judge.specs.command_plan.declared.plan.Verdict.TheVariants.{Bound}
+use Rattle.roopl_judge.specs.command_plan.Plans.{Planned, prints, writes, WithText}
+use Rattle.roopl_judge.specs.command_plan.Texts.{steps_line, bound_lines, cells_line}
+use Rattle.roopl_judge.specs.pisa_scripts.Stops.{fault_line}
 
 -- the source gives a store, and the plan reports it
 pub record ReportsStore (program : Source) (limits : Limits) (input : List FieldWord) (spent : ℕ)
@@ -60,8 +60,8 @@ back_lines spent report count =
     ++ (line_end ++ (report ++ (codes "restored "
     ++ (decimal count ++ (codes " cells" ++ line_end))))))
 
--- the source gives a store, and the plan reports it, and behind it the store where the source
--- began, and how many the first cells are
+-- the semantics gives a store, and the plan reports it, then the store with which the source began,
+-- and how many the first cells are
 pub record ReportsTurn (program : Source) (limits : Limits) (input : List FieldWord)
     (first : List ℕ) (spent : ℕ) (p : Planned) : Type 0 where
   pub end : State
@@ -94,16 +94,16 @@ abbrev pub ReportsEnd : (turns : Bool) → End → Source → Limits → List Fi
 ReportsEnd turns end program limits input first steps p =
     ReportsStop turns end.why program limits input first end.spent steps p
 
--- the machine steps of the way back, which is made after a finish where the run turns
+-- the machine steps of the way back, which is made after a finish if the run turns
 abbrev pub steps_back : (turns : Bool) → Stop → (spent : ℕ) → ℕ
 steps_back false why spent = 0
 steps_back true Finished spent = spent
 steps_back true _ spent = 0
 
--- There is an image that stands for the program, and the plan reports its run, whose steps the
--- source's cost bounds. After a finish the flipped image restores every register and every cell, in
--- as many steps. No other steps are made than those of the run, and where it turns those of the way
--- back: `count` is their counter as it is handed in, and `counted` as it is left.
+-- There is an image that implements the program, and the plan reports its run, whose steps are
+-- bounded by the cost of the source. After a finish the inverse image restores every register and
+-- every cell, in as many steps. No other steps are made than those of the run, and if it turns
+-- those of the way back: `count` is their counter as it is passed, and `counted` as it is left.
 pub record RunsImage (turns : Bool) (count counted : ℕ) (program : Source) (limits : Limits)
     (input : List FieldWord) (steps : ℕ) (p : Planned) : Type 0 where
   pub image : Segments
@@ -119,12 +119,12 @@ pub record RunsImage (turns : Bool) (count counted : ℕ) (program : Source) (li
   pub once : let end : End = run_of image limits input steps in
       counted ≡ count + (end.spent + steps_back turns end.why end.spent)
 
--- the first refusal of a text is told, or P holds of the program that it is
+-- the first refusal of a text is reported, or P holds for the program that it is
 abbrev pub OfProgram : (P : Source → Planned → Type 0) → Result Source Refusal → Planned → Type 0
 OfProgram P (Err refusal) p = p ≡ prints SourceRefused (refused_line refusal)
 OfProgram P (Ok program) p = P program p
 
--- the text is judged, and the plan is that of the judgement
+-- the text is checked, and the plan is that of the result
 pub record IsJudgedPlan (text : List ℕ) (P : Source → Planned → Type 0) (p : Planned) : Type 0 where
   pub judgement : Result Source Refusal
   pub judged : IsJudged text judgement
@@ -134,8 +134,8 @@ abbrev pub IsCheckPlan : (text : List ℕ) → Planned → Type 0
 IsCheckPlan text p = IsJudgedPlan text (λ program p. p ≡ prints Done (codes "accepted" ++ line_end))
     p
 
--- an image that stands for the program is written, with notes on the program; its bytes are read
--- as the image with the notes
+-- an image that implements the program is written, with notes on the program; its bytes are read as
+-- the image with the notes
 pub record WritesImage (program : Source) (name : List ℕ) (p : Planned) : Type 0 where
   pub image : Segments
   pub is_image : IsImage image

@@ -1,14 +1,14 @@
 -- What is found of texts that are to be run.
 use Rattle.std.specs.Prelude.{◌≡◌, ℕ, List}
-use Rattle.rpp_words.specs.declared.input.FieldWord.{FieldWord}
-use Rattle.rpp_words.specs.declared.input.Limits.{Limits}
-use Rattle.rpp_tree.specs.Tree.{Source}
-use Rattle.rpp_tree.specs.Views.{source_of}
-use Rattle.command_plan.specs.Plans.{Planned, planned}
+use Rattle.roopl_judge.specs.rpp_words.declared.input.FieldWord.{FieldWord}
+use Rattle.roopl_judge.specs.rpp_words.declared.input.Limits.{Limits}
+use Rattle.roopl_judge.specs.rpp_tree.Tree.{Source}
+use Rattle.roopl_judge.specs.rpp_tree.Views.{source_of}
+use Rattle.roopl_judge.specs.command_plan.Plans.{Planned, planned}
 use Rattle.program_commands.specs.declared.setting.Ready.{Ready}
 use Rattle.program_commands.specs.declared.setting.Ready.TheVariants.{Refused, Runs}
 
--- a plan refuses them as R says, or there is a run of so many steps, and C holds of its program,
+-- a plan refuses them as R says, or there is a run of so many steps, and C holds for its program,
 -- sizes and input
 abbrev pub IsReadied : (R : Planned → Type 0) → (C : Source → Limits → List FieldWord → Type 0)
     → (steps : ℕ) → Ready → Type 0

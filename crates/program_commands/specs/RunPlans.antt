@@ -1,37 +1,37 @@
--- The plans of the commands that run a program: `go`, `turn` and `profile`. Of probes that watch,
--- `before` is the list as it is handed in, and `after` as it is left; so `count` and `counted` are
--- the counter of machine steps.
+-- The plans of the commands that run a program: `go`, `turn` and `profile`. For probes that watch,
+-- `before` is the list as it is passed, and `after` as it is left; so `count` and `counted` are the
+-- counter of machine steps.
 use Rattle.std.specs.Prelude.{◌≡◌, ◌⊎◌, ℕ, Bool, true, false, List, [], ◌++◌, None, Some, Result}
 use Rattle.std.specs.Prelude.{Ok, Err, map}
 use Rattle.std.specs.declared.option.Option.{Option}
-use Rattle.rpp_words.specs.declared.input.FieldWord.{FieldWord}
-use Rattle.rpp_words.specs.declared.input.Limits.{Limits}
-use Rattle.rpp_words.specs.declared.input.TheConstants.{MOST_DEEP}
-use Rattle.rpp_tree.specs.declared.limits.TheConstants.{MOST_BYTES}
-use Rattle.rpp_tree.specs.Tree.{Source}
-use Rattle.rpp_ports.specs.Ports.{Texts}
-use Rattle.rpp_probes.specs.declared.probe.StepAt.{StepAt}
-use Rattle.rpp_probes.specs.Tally.{Watch, left_after, lines_after, lines_shown, line_of}
-use Rattle.pisa_isa.specs.declared.cell.Cell.{Cell}
-use Rattle.pisa_isa.specs.declared.machine.Stop.{Stop}
-use Rattle.pisa_isa.specs.declared.machine.Stop.TheVariants.{Finished}
-use Rattle.pisa_isa.specs.Image.{Segments}
-use Rattle.pisa_isa.specs.Flipped.{flipped}
-use Rattle.pisa_isa.specs.Machine.{State}
-use Rattle.pisa_isa.specs.Loaded.{loaded_state}
-use Rattle.pisa_isa.specs.Runs.{End, started}
-use Rattle.pisa_machine.specs.Told.{counted_steps}
-use Rattle.pisa_loader.specs.Limiting.{limits_refusal}
-use Rattle.pisa_loader.specs.declared.error.LoadError.{LoadError}
-use Rattle.roopl_semantics.specs.StandsFor.{run_of}
+use Rattle.roopl_judge.specs.rpp_words.declared.input.FieldWord.{FieldWord}
+use Rattle.roopl_judge.specs.rpp_words.declared.input.Limits.{Limits}
+use Rattle.roopl_judge.specs.rpp_words.declared.input.TheConstants.{MOST_DEEP}
+use Rattle.roopl_judge.specs.rpp_tree.declared.limits.TheConstants.{MOST_BYTES}
+use Rattle.roopl_judge.specs.rpp_tree.Tree.{Source}
+use Rattle.roopl_judge.specs.rpp_ports.Ports.{Texts}
+use Rattle.roopl_judge.specs.rpp_probes.declared.probe.StepAt.{StepAt}
+use Rattle.roopl_judge.specs.rpp_probes.Tally.{Watch, left_after, lines_after, lines_shown, line_of}
+use Rattle.image_inverter.specs.pisa_isa.declared.cell.Cell.{Cell}
+use Rattle.image_inverter.specs.pisa_isa.declared.machine.Stop.{Stop}
+use Rattle.image_inverter.specs.pisa_isa.declared.machine.Stop.TheVariants.{Finished}
+use Rattle.image_inverter.specs.pisa_isa.Image.{Segments}
+use Rattle.image_inverter.specs.pisa_isa.Flipped.{flipped}
+use Rattle.image_inverter.specs.pisa_isa.Machine.{State}
+use Rattle.image_inverter.specs.pisa_isa.Loaded.{loaded_state}
+use Rattle.image_inverter.specs.pisa_isa.Runs.{End, started}
+use Rattle.store_report.specs.pisa_machine.Told.{counted_steps}
+use Rattle.roopl_judge.specs.pisa_loader.Limiting.{limits_refusal}
+use Rattle.roopl_judge.specs.pisa_loader.declared.error.LoadError.{LoadError}
+use Rattle.store_report.specs.roopl_semantics.StandsFor.{run_of}
 use Rattle.roopl_judge.specs.Judged.{IsJudged}
-use Rattle.command_plan.specs.declared.plan.Verdict.TheVariants.{InputRefused}
-use Rattle.command_plan.specs.Plans.{Planned, prints, WithText, WithInput}
-use Rattle.command_plan.specs.Texts.{load_line}
+use Rattle.roopl_judge.specs.command_plan.declared.plan.Verdict.TheVariants.{InputRefused}
+use Rattle.roopl_judge.specs.command_plan.Plans.{Planned, prints, WithText, WithInput}
+use Rattle.roopl_judge.specs.command_plan.Texts.{load_line}
 use Rattle.program_commands.specs.Inputs.{given_input}
 use Rattle.program_commands.specs.ProgramPlans.{IsJudgedPlan, RunsImage}
 
--- the plan tells the refusal of an input
+-- the plan reports the refusal of an input
 abbrev pub RefusesInput : Result (List FieldWord) LoadError → Planned → Type 0
 RefusesInput (Err e) p = p ≡ prints InputRefused (load_line e)
 RefusesInput (Ok input) p = ⊥
@@ -41,7 +41,7 @@ abbrev pub RefusesSizes : Option LoadError → (given : List ℕ) → Source →
 RefusesSizes (Some e) given program p = p ≡ prints InputRefused (load_line e)
 RefusesSizes None given program p = RefusesInput (given_input program given) p
 
--- the plan tells the first refusal of a text that is to be run: of the text, of the sizes, of the
+-- the plan reports the first refusal of a text that is to be run: of the text, of the sizes, of the
 -- input
 abbrev pub RefusesRun : (text given : List ℕ) → (heap deep : ℕ) → Planned → Type 0
 RefusesRun text given heap deep p =
@@ -55,7 +55,7 @@ pub record CanRun (text given : List ℕ) (heap deep : ℕ) (program : Source) (
   pub limits_are : limits ≡ record { heap = heap; deep = deep }
   pub input_is : given_input program given ≡ Ok input
 
--- a text can be run, and P holds of its run
+-- a text can be run, and P holds for its run
 pub record RunsTo (text given : List ℕ) (heap deep : ℕ)
     (P : Source → Limits → List FieldWord → Type 0) : Type 0 where
   pub program : Source
@@ -72,14 +72,14 @@ IsGoPlan count counted text given heap deep steps p =
     ⊎ RunsTo text given heap deep (λ program limits input. RunsImage false count counted program
     limits input steps p)
 
--- the steps that `turn` tells of: after a finish those of the run of the flipped image from there,
--- and no others
+-- the steps that `turn` reports: after a finish only those of the run of the inverse image from
+-- there
 abbrev pub back_steps : Stop → List Cell → State → ℕ → List StepAt
 back_steps Finished code m steps =
     counted_steps (flipped code) steps (started (flipped code) m.regs m.cells)
 back_steps _ code m steps = []
 
--- the plan reports both runs of an image that stands for the program, and the probes were told the
+-- the plan reports both runs of an image that implements the program, and the probes observed the
 -- steps of the second one
 pub record TurnsImage (before after : List Watch) (count counted : ℕ) (program : Source)
     (limits : Limits) (input : List FieldWord) (steps : ℕ) (p : Planned) : Type 0 where
@@ -100,9 +100,9 @@ abbrev pub run_steps : Segments → Limits → List FieldWord → ℕ → List S
 run_steps image limits input steps = counted_steps image.code steps
     (loaded_state image limits input)
 
--- The plan says what that of `go` says, and behind it stand the lines of the probes: of those that
--- ended, in the order of their ends, and then of the others. They were told the steps of the run of
--- that image.
+-- The plan says what that of `go` says, followed by the lines of the probes: of those that ended,
+-- in the order of their ends, and then of the others. They observed the steps of the run of that
+-- image.
 pub record ProfilesImage (before after : List Watch) (count counted : ℕ) (program : Source)
     (limits : Limits) (input : List FieldWord) (steps : ℕ) (p : Planned) : Type 0 where
   pub said : Planned
@@ -121,7 +121,7 @@ IsProfilePlan before after count counted text given heap deep steps p =
     ⊎ RunsTo text given heap deep (λ program limits input. ProfilesImage before after count counted
     program limits input steps p)
 
--- the plan of `go` of this file, on an input where there is one
+-- the plan of `go` of this file, on an input if there is one
 abbrev pub GoesOn : (count counted : ℕ) → (file : List ℕ) → (input : Option (List ℕ))
     → (heap deep steps : ℕ) → Option Texts → Planned → Type 0
 GoesOn count counted file input heap deep steps told p =

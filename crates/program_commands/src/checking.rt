@@ -1,9 +1,9 @@
 // `check F`: accepts or refuses a source.
 ghost use Rattle.std.specs.Prelude.{◌≤◌, [], ◌∷◌, length, IfOk, IfSome};
-ghost use Rattle.rpp_tree.specs.declared.limits.TheConstants.{MOST_BYTES};
-ghost use Rattle.command_plan.specs.Plans.{planned, GivesPlan};
+ghost use Rattle.roopl_judge.specs.rpp_tree.declared.limits.TheConstants.{MOST_BYTES};
+ghost use Rattle.roopl_judge.specs.command_plan.Plans.{planned, GivesPlan};
 ghost use Rattle.program_commands.specs.ProgramPlans.{IsCheckPlan, ChecksFile};
-ghost use Rattle.command_plan.specs.Files.{OnlyReads, source};
+ghost use Rattle.roopl_judge.specs.command_plan.Files.{OnlyReads, source};
 
 use command_plan::{NoPlan, Plan, Verdict, read_file, refuse_source};
 use roopl_judge::{SourceError, judge};
@@ -12,7 +12,7 @@ use rpp_tree::MOST_BYTES;
 use rpp_words::NoMemory;
 use std::alloc::Global;
 
-/// Judges the source in a file.
+/// Checks the source in a file.
 pub fn check<S: Shelf>(alloc: Global, shelf: &mut S, file: &str) -> Result<Plan, NoPlan>
     ensures plan { GivesPlan (S.texts shelf.old) (ChecksFile file.now) result }
     ensures reads { OnlyReads (S.texts shelf.old) (S.texts shelf.new) (S.faults shelf.old)

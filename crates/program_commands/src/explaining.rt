@@ -1,16 +1,16 @@
 // `explain F H D FUEL [INPUT]`: interprets a program and reports.
 ghost use Rattle.std.specs.Prelude.{◌≡◌, ◌≤◌, ◌<◌, ◌^◌, ◌++◌, ◌∷◌, length, option_map, IfOk, string_bytes};
-ghost use Rattle.rpp_words.specs.Limits.{IsLimits};
-ghost use Rattle.rpp_tree.specs.Views.{source_of};
-ghost use Rattle.rpp_tree.specs.declared.limits.TheConstants.{MOST_BYTES};
-ghost use Rattle.roopl_semantics.specs.Source.{IsValid, source as meaning};
-ghost use Rattle.roopl_semantics.specs.Report.{report as report_in};
-ghost use Rattle.source_meaning.specs.declared.whole.TheConstants.{MOST_OPEN};
-ghost use Rattle.pisa_loader.specs.Limiting.{limits_refusal};
-ghost use Rattle.pisa_loader.specs.declared.input.TheConstants.{MOST_INPUT};
-ghost use Rattle.command_plan.specs.Plans.{planned, prints, GivesPlan};
-ghost use Rattle.command_plan.specs.Files.{OnlyReads, source, input_files};
-ghost use Rattle.pisa_scripts.specs.Stops.{fault_line as line_of_fault};
+ghost use Rattle.roopl_judge.specs.rpp_words.Limits.{IsLimits};
+ghost use Rattle.roopl_judge.specs.rpp_tree.Views.{source_of};
+ghost use Rattle.roopl_judge.specs.rpp_tree.declared.limits.TheConstants.{MOST_BYTES};
+ghost use Rattle.store_report.specs.roopl_semantics.Source.{IsValid, source as meaning};
+ghost use Rattle.store_report.specs.roopl_semantics.Report.{report as report_in};
+ghost use Rattle.store_report.specs.source_meaning.declared.whole.TheConstants.{MOST_OPEN};
+ghost use Rattle.roopl_judge.specs.pisa_loader.Limiting.{limits_refusal};
+ghost use Rattle.roopl_judge.specs.pisa_loader.declared.input.TheConstants.{MOST_INPUT};
+ghost use Rattle.roopl_judge.specs.command_plan.Plans.{planned, prints, GivesPlan};
+ghost use Rattle.roopl_judge.specs.command_plan.Files.{OnlyReads, source, input_files};
+ghost use Rattle.roopl_judge.specs.pisa_scripts.Stops.{fault_line as line_of_fault};
 ghost use Rattle.program_commands.specs.Inputs.{given_input};
 ghost use Rattle.program_commands.specs.Explained.{cost_line, explained, Tells, IsExplainedInput, IsExplainedWithin, IsExplainPlan, Explains};
 
@@ -27,7 +27,7 @@ use source_meaning::{MOST_OPEN, Outcome, Store, interpret};
 use std::alloc::{AllocError, Global};
 use store_report::report_store;
 
-/// Interprets the program in a file, on an input where there is one, and reports.
+/// Interprets the program in a file, on an input if there is one, and reports.
 pub fn explain<S: Shelf>(
     alloc: Global,
     shelf: &mut S,
@@ -78,7 +78,7 @@ fn explain_within(
     }
 }
 
-// The input is judged, and then the program is interpreted on it.
+// The input is checked, and then the program is interpreted on it.
 fn explain_given(
     alloc: Global,
     checked: &Checked,
@@ -100,7 +100,7 @@ fn explain_given(
     }
 }
 
-// What the source does is told.
+// What the source does is printed.
 fn explain_run(
     alloc: Global,
     checked: &Checked,
@@ -119,7 +119,7 @@ fn explain_run(
     explain_outcome(alloc, checked, outcome)
 }
 
-// How the run ended is told.
+// How the run ended is printed.
 fn explain_outcome(alloc: Global, checked: &Checked, outcome: Outcome) -> Result<Plan, NoMemory>
     ensures { IfOk result (λ plan. Tells (source_of checked.now) outcome (planned plan)) }
 {
@@ -151,7 +151,7 @@ fn explain_fault(alloc: Global, code: u32, cost: u64) -> Result<Plan, AllocError
     Ok(Plan::prints(Verdict::Trapped, text))
 }
 
-// Lines, and behind them that on the cost.
+// Lines, followed by the one on the cost.
 fn with_cost(lines: String, cost: u64) -> Result<String, AllocError>
     ensures { IfOk result (λ text. string_bytes text ≡ string_bytes lines ++ cost_line cost) }
 {

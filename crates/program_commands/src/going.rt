@@ -1,16 +1,16 @@
 // `go F H D STEPS [INPUT]`: compiles a program, runs its image and reports.
 ghost use Rattle.std.specs.Prelude.{◌≡◌, false, ◌≤◌, ◌<◌, ◌+◌, ◌^◌, ◌∷◌, length, option_map, IfOk, IfErr, IfSome, string_bytes};
-ghost use Rattle.rpp_tree.specs.Views.{source_of};
-ghost use Rattle.rpp_tree.specs.declared.limits.TheConstants.{MOST_BYTES};
-ghost use Rattle.pisa_isa.specs.Image.{IsImage};
-ghost use Rattle.pisa_isa.specs.Loaded.{loaded};
-ghost use Rattle.roopl_semantics.specs.StandsFor.{StandsFor};
-ghost use Rattle.pisa_loader.specs.declared.input.TheConstants.{MOST_INPUT};
-ghost use Rattle.command_plan.specs.Plans.{planned, GivesPlan};
+ghost use Rattle.roopl_judge.specs.rpp_tree.Views.{source_of};
+ghost use Rattle.roopl_judge.specs.rpp_tree.declared.limits.TheConstants.{MOST_BYTES};
+ghost use Rattle.image_inverter.specs.pisa_isa.Image.{IsImage};
+ghost use Rattle.image_inverter.specs.pisa_isa.Loaded.{loaded};
+ghost use Rattle.store_report.specs.roopl_semantics.StandsFor.{StandsFor};
+ghost use Rattle.roopl_judge.specs.pisa_loader.declared.input.TheConstants.{MOST_INPUT};
+ghost use Rattle.roopl_judge.specs.command_plan.Plans.{planned, GivesPlan};
 ghost use Rattle.program_commands.specs.ProgramPlans.{RunsImage, ReportsStop, ReportsStore};
 ghost use Rattle.program_commands.specs.RunPlans.{IsGoPlan, GoesOn};
 ghost use Rattle.program_commands.specs.GoRun.{IsLoaded, HasRun};
-ghost use Rattle.command_plan.specs.Files.{OnlyReads, UnreadCause, source, input_files};
+ghost use Rattle.roopl_judge.specs.command_plan.Files.{OnlyReads, UnreadCause, source, input_files};
 
 use crate::readying::ready;
 use crate::setting::{Ready, RunSetting};
@@ -29,8 +29,8 @@ use std::alloc::Global;
 use std::sync::ledger::Ledger;
 use store_report::report;
 
-/// Compiles a file, runs the image on an input where there is one, and reports. It makes the steps
-/// of that run and no others, and none where a file cannot be read.
+/// Compiles a file, runs the image on an input if there is one, and reports. It makes the steps
+/// of that run and no others, and none if a file cannot be read.
 pub fn go<S: Shelf, L: Ledger>(
     alloc: Global,
     shelf: &mut S,

@@ -1,6 +1,6 @@
 //! The commands on programs: `check`, `compile`, `explain`, `go`, `turn` and `profile`. Each reads
 //! its files and makes a plan; the top call carries it out. Other commands that run a program may
-//! use `ready`, which judges what it is run with.
+//! use `ready`, which checks what it is run with.
 #![tactic(auto)]
 
 mod checking;

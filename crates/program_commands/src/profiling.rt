@@ -1,10 +1,10 @@
 // `profile F H D STEPS`: what `go` does, as probes watch, and then their lines.
 ghost use Rattle.std.specs.Prelude.{◌≡◌, ◌⊎◌, ◌≤◌, ◌<◌, ◌+◌, ◌^◌, ◌++◌, [], ◌∷◌, length, map, IfOk, IfErr, OnOk, string_bytes};
-ghost use Rattle.rpp_tree.specs.Views.{source_of};
-ghost use Rattle.rpp_tree.specs.declared.limits.TheConstants.{MOST_BYTES};
-ghost use Rattle.rpp_probes.specs.Tally.{lines_shown, line_of};
-ghost use Rattle.command_plan.specs.Plans.{planned, GivesPlan};
-ghost use Rattle.command_plan.specs.Files.{OnlyReads, UnreadCause, source};
+ghost use Rattle.roopl_judge.specs.rpp_tree.Views.{source_of};
+ghost use Rattle.roopl_judge.specs.rpp_tree.declared.limits.TheConstants.{MOST_BYTES};
+ghost use Rattle.roopl_judge.specs.rpp_probes.Tally.{lines_shown, line_of};
+ghost use Rattle.roopl_judge.specs.command_plan.Plans.{planned, GivesPlan};
+ghost use Rattle.roopl_judge.specs.command_plan.Files.{OnlyReads, UnreadCause, source};
 ghost use Rattle.program_commands.specs.RunPlans.{IsProfilePlan, ProfilesFile, ProfilesImage};
 ghost use Rattle.program_commands.specs.ToldShort.{ProfilesShort, IsProfileShort, ProfilesFileShort};
 
@@ -20,9 +20,9 @@ use rpp_words::NoMemory;
 use std::alloc::{AllocError, Global};
 use std::sync::ledger::Ledger;
 
-/// Compiles a file, runs the image, tells the probes each counted step, and reports; and shows the
-/// lines of the probes that ended, in the order of their ends, and then those of the others. It
-/// makes the steps of that run and no others, and none where the file cannot be read.
+/// Compiles a file, runs the image, lets the probes observe each counted step, and reports. Shows
+/// the lines of the probes that ended, in the order of their ends, and then those of the others. It
+/// makes the steps of that run and no others, and none if the file cannot be read.
 pub fn profile<S: Shelf, P: Probes, L: Ledger>(
     alloc: Global,
     shelf: &mut S,
@@ -94,7 +94,7 @@ fn profile_program<P: Probes, L: Ledger>(
     with_probes(said, &lines, probes)
 }
 
-// The plan with the lines of the probes behind its text, those of the probes that ended first.
+// The plan with the lines of the probes after its text, those of the probes that ended first.
 fn with_probes<P: Probes>(said: Plan, ended: &[String], probes: &P) -> Result<Plan, NoMemory>
     ensures { IfOk result (λ plan. planned plan ≡ record (planned said) {
       text = (string_bytes said.text ++ lines_shown (map string_bytes ended.now))

@@ -1,11 +1,11 @@
-// What comes before a run: the text is judged, then the sizes are tried, and then the input is
+// What comes before a run: the text is checked, then the sizes are tried, and then the input is
 // read.
 ghost use Rattle.std.specs.Prelude.{◌≡◌, ◌≤◌, ◌<◌, ◌^◌, None, Ok, length, IfOk};
-ghost use Rattle.rpp_tree.specs.Views.{source_of};
-ghost use Rattle.rpp_tree.specs.declared.limits.TheConstants.{MOST_BYTES};
-ghost use Rattle.rpp_words.specs.Limits.{IsLimits};
-ghost use Rattle.pisa_loader.specs.Limiting.{limits_refusal};
-ghost use Rattle.pisa_loader.specs.declared.input.TheConstants.{MOST_INPUT};
+ghost use Rattle.roopl_judge.specs.rpp_tree.Views.{source_of};
+ghost use Rattle.roopl_judge.specs.rpp_tree.declared.limits.TheConstants.{MOST_BYTES};
+ghost use Rattle.roopl_judge.specs.rpp_words.Limits.{IsLimits};
+ghost use Rattle.roopl_judge.specs.pisa_loader.Limiting.{limits_refusal};
+ghost use Rattle.roopl_judge.specs.pisa_loader.declared.input.TheConstants.{MOST_INPUT};
 ghost use Rattle.program_commands.specs.Inputs.{given_input};
 ghost use Rattle.program_commands.specs.Readied.{IsReadied};
 ghost use Rattle.program_commands.specs.RunPlans.{RefusesInput, RefusesSizes, RefusesRun, CanRun};
@@ -19,7 +19,7 @@ use roopl_judge::{SourceError, judge};
 use rpp_words::{Limits, MOST_DEEP, NoMemory};
 use std::alloc::Global;
 
-/// What the run of a text on an input is made with, or the plan that tells the first refusal.
+/// What the run of a text on an input is made with, or the plan that reports the first refusal.
 pub fn ready(alloc: Global, text: &[u8], given: &[u8], sizes: Sizes) -> Result<Ready, NoMemory>
     requires text { length text.now ≤ MOST_BYTES }
     requires given { length given.now ≤ MOST_INPUT }

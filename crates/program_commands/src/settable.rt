@@ -1,7 +1,7 @@
 // The fields that an input may set.
 ghost use Rattle.std.specs.Prelude.{◌≡◌, ◌≤◌, length, IfOk};
-ghost use Rattle.rpp_tree.specs.Views.{source_of};
-ghost use Rattle.roopl_semantics.specs.Source.{is_int_type};
+ghost use Rattle.roopl_judge.specs.rpp_tree.Views.{source_of};
+ghost use Rattle.store_report.specs.roopl_semantics.Source.{is_int_type};
 ghost use Rattle.program_commands.specs.Inputs.{fields_from, input_fields as fields_of};
 
 use class_table::Checked;

@@ -1,8 +1,8 @@
 // What a run of a program is made with.
 ghost use Rattle.std.specs.Prelude.{◌<◌, ◌^◌};
-ghost use Rattle.rpp_tree.specs.Views.{source_of};
-ghost use Rattle.rpp_words.specs.Limits.{IsLimits};
-ghost use Rattle.roopl_semantics.specs.Source.{IsValid};
+ghost use Rattle.roopl_judge.specs.rpp_tree.Views.{source_of};
+ghost use Rattle.roopl_judge.specs.rpp_words.Limits.{IsLimits};
+ghost use Rattle.store_report.specs.roopl_semantics.Source.{IsValid};
 
 use class_table::Checked;
 use command_plan::Plan;
@@ -21,8 +21,8 @@ pub struct RunSetting {
     ghost short: { bound < 2 ^ 63 },
 }
 
-/// What is found of texts that are to be run: a plan that tells why they are not, or what their run
-/// is made with.
+/// What is found about texts that are to be run: a plan that reports why they are not, or what
+/// their run is made with.
 #[derive(Drop)]
 pub enum Ready {
     Refused(Plan),

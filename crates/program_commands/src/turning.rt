@@ -1,20 +1,20 @@
-// `turn F H D STEPS [INPUT]`: what `go` does, and then the flipped image runs from where the run
+// `turn F H D STEPS [INPUT]`: what `go` does, and then the inverse image runs from where the run
 // finished, as probes watch.
 ghost use Rattle.std.specs.Prelude.{◌≡◌, ◌⊎◌, true, ◌≤◌, ◌<◌, ◌+◌, ◌^◌, ◌++◌, ◌∷◌, length, option_map, IfOk, IfErr, OnOk, string_bytes};
-ghost use Rattle.rpp_tree.specs.Views.{source_of};
-ghost use Rattle.rpp_tree.specs.declared.limits.TheConstants.{MOST_BYTES};
-ghost use Rattle.rpp_probes.specs.Tally.{left_after};
-ghost use Rattle.pisa_isa.specs.declared.machine.Stop.TheVariants.{Finished};
-ghost use Rattle.pisa_isa.specs.Loaded.{loaded};
-ghost use Rattle.pisa_loader.specs.declared.input.TheConstants.{MOST_INPUT};
-ghost use Rattle.command_plan.specs.Plans.{planned, GivesPlan};
-ghost use Rattle.command_plan.specs.Files.{OnlyReads, UnreadCause, source, input_files};
+ghost use Rattle.roopl_judge.specs.rpp_tree.Views.{source_of};
+ghost use Rattle.roopl_judge.specs.rpp_tree.declared.limits.TheConstants.{MOST_BYTES};
+ghost use Rattle.roopl_judge.specs.rpp_probes.Tally.{left_after};
+ghost use Rattle.image_inverter.specs.pisa_isa.declared.machine.Stop.TheVariants.{Finished};
+ghost use Rattle.image_inverter.specs.pisa_isa.Loaded.{loaded};
+ghost use Rattle.roopl_judge.specs.pisa_loader.declared.input.TheConstants.{MOST_INPUT};
+ghost use Rattle.roopl_judge.specs.command_plan.Plans.{planned, GivesPlan};
+ghost use Rattle.roopl_judge.specs.command_plan.Files.{OnlyReads, UnreadCause, source, input_files};
 ghost use Rattle.program_commands.specs.ProgramPlans.{ReportsStop, ReportsTurn, back_lines, steps_back};
 ghost use Rattle.program_commands.specs.RunPlans.{IsTurnPlan, TurnsFile, TurnsImage, back_steps};
 ghost use Rattle.program_commands.specs.ToldShort.{IsToldSoFar, TurnsShort, IsTurnShort, TurnsFileShort};
 ghost use Rattle.program_commands.specs.GoRun.{HasRun};
-ghost use Rattle.pisa_isa.specs.Flipped.{flipped};
-ghost use Rattle.pisa_isa.specs.Runs.{started};
+ghost use Rattle.image_inverter.specs.pisa_isa.Flipped.{flipped};
+ghost use Rattle.image_inverter.specs.pisa_isa.Runs.{started};
 
 use crate::going::{loaded_program, report_run};
 use crate::readying::ready;
@@ -30,9 +30,9 @@ use std::alloc::{AllocError, Global};
 use std::sync::ledger::Ledger;
 use store_report::report;
 
-/// Does what `go` does; after a finish it runs the flipped image on from there, tells the probes
-/// each counted step of that run, and reports again. It prints no line of theirs. It makes the
-/// steps of these two runs and no others, and none where a file cannot be read.
+/// Does what `go` does. After a finish it runs the inverse image from there, lets the probes
+/// observe each counted step of that run, and reports again. It prints no line of theirs. It makes
+/// the steps of these two runs and no others, and none if a file cannot be read.
 pub fn turn<S: Shelf, P: Probes, L: Ledger>(
     alloc: Global,
     shelf: &mut S,
@@ -181,7 +181,7 @@ struct Back {
     spent: u64,
 }
 
-// Runs the flipped image from where a run finished, and tells the probes its steps.
+// Runs the inverse image from where a run finished, and lets the probes observe its steps.
 fn run_back<P: Probes, L: Ledger>(
     alloc: Global,
     setting: &RunSetting,
@@ -215,7 +215,7 @@ fn run_back<P: Probes, L: Ledger>(
     })
 }
 
-// A text with the lines on the way back behind it.
+// A text followed by the lines on the backward run.
 fn with_back(text: String, spent: u64, report: &str, cells: u32) -> Result<String, AllocError>
     ensures { IfOk result (λ longer. string_bytes longer
         ≡ string_bytes text ++ back_lines spent report.now cells) }

@@ -1,34 +1,38 @@
--- The two labs' memories are one; what a memory that stands for a frame tells.
+-- The memories of the two laws are one; what a memory that represents a frame determines.
 use Rattle.std.proofs.Common.{◌≡◌, ℕ, zero, suc, ◌+◌, ◌-◌, ◌*◌, ◌^◌, ◌<◌, ◌≤◌, true, List, [], ◌∷◌, ◌++◌, length, map}
 use Rattle.std.proofs.Common.{Some, refl, sym, ap, ◌∙◌, subst, arith, length-append}
 use Rattle.std.proofs.lemmas.List.{length-map}
 use Rattle.std.specs.Prelude.{replicate, slice_index, slice_set}
-use Rattle.rpp_words.specs.declared.input.TheConstants.{FRAME_WORDS}
-use Rattle.code_conventions.specs.declared.memory.TheConstants.{FIRST_VARIABLE, HEADER_WORDS}
-use Rattle.class_table.specs.declared.kind.Kind.TheVariants as kind
-use Rattle.rpp_tree.specs.declared.tree.Var.{Var}
-use Rattle.class_table.specs.declared.kind.Kind.{Kind}
-use Rattle.buddy_book.specs.Place.{Placing}
-use Rattle.roopl_semantics.specs.Store.{Value, Object, Store, Binding, State, object_at}
-use Rattle.roopl_semantics.specs.Value.{Part, read, written}
-use Rattle.roopl_semantics.specs.Layout.{overlaid}
-use Rattle.roopl_semantics.specs.Execution.{Setting}
-use Rattle.meaning_sound.specs.Sound.{name_of, local_name, local_type, value_of, named_fits, head_named, cell_kinds}
-use Rattle.meaning_sound.specs.Sound.{cell_kind, Typed}
-use Rattle.refine_frame.specs.Open.{Setup, base_of}
-use Rattle.meaning_sound.proofs.Lists.{all_inside}
-use Rattle.meaning_sound.proofs.Stores.{live_named}
-use Rattle.meaning_sound.proofs.Cells.{part_of}
-use Rattle.meaning_sound.proofs.Overlays.{laid, overlaid_is}
-use Rattle.refine_frame.proofs.Memory.{fixed, statics as statics_part, gap, heap, read_part, write_part, length_heap_is}
-use Rattle.refine_frame.proofs.Memory.{before_heap}
-use Rattle.refine_frame.proofs.Addresses.{part_place}
-use Rattle.refine_form.specs.Form.{Scope, Moved}
-use Rattle.refine_form.specs.Frames.{Caller, Under, base, stack_base, address_of, value_word, values_of, value_words}
-use Rattle.refine_form.specs.Frames.{frame_words, callers_words, above_words, stack_words, memory, before_stack}
-use Rattle.refine_form.specs.Frames.{OpenFrame}
+use Rattle.buddy_pisa.specs.rpp_words.declared.input.TheConstants.{FRAME_WORDS}
+use Rattle.method_calls.specs.code_conventions.declared.memory.TheConstants.{FIRST_VARIABLE, HEADER_WORDS}
+use Rattle.method_calls.specs.class_table.declared.kind.Kind.TheVariants as kind
+use Rattle.method_calls.specs.rpp_tree.declared.tree.Var.{Var}
+use Rattle.method_calls.specs.class_table.declared.kind.Kind.{Kind}
+use Rattle.buddy_pisa.specs.buddy_book.Place.{Placing}
+use Rattle.method_calls.specs.roopl_semantics.Store.{Value, Object, Store, Binding, State, object_at}
+use Rattle.method_calls.specs.roopl_semantics.Value.{Part, read, written}
+use Rattle.method_calls.specs.roopl_semantics.Layout.{overlaid}
+use Rattle.method_calls.specs.roopl_semantics.Execution.{Setting}
+use Rattle.method_calls.specs.meaning_sound.Sound.{name_of, local_name, local_type, value_of, named_fits, head_named}
+use Rattle.method_calls.specs.meaning_sound.Sound.{cell_kinds}
+use Rattle.method_calls.specs.meaning_sound.Sound.{cell_kind, Typed}
+use Rattle.method_calls.specs.refine_frame.Open.{Setup, base_of}
+use Rattle.method_calls.proofs.meaning_sound_laws.Lists.{all_inside}
+use Rattle.method_calls.proofs.meaning_sound_laws.Stores.{live_named}
+use Rattle.method_calls.proofs.meaning_sound_laws.Cells.{part_of}
+use Rattle.method_calls.proofs.meaning_sound_laws.Overlays.{laid, overlaid_is}
+use Rattle.method_calls.proofs.refine_frame_laws.Memory.{fixed, statics as statics_part, gap, heap, read_part}
+use Rattle.method_calls.proofs.refine_frame_laws.Memory.{write_part, length_heap_is}
+use Rattle.method_calls.proofs.refine_frame_laws.Memory.{before_heap}
+use Rattle.method_calls.proofs.refine_frame_laws.Addresses.{part_place}
+use Rattle.method_calls.specs.refine_form.Form.{Scope, Moved}
+use Rattle.method_calls.specs.refine_form.Frames.{Caller, Under, base, stack_base, address_of, value_word, values_of}
+use Rattle.method_calls.specs.refine_form.Frames.{value_words}
+use Rattle.method_calls.specs.refine_form.Frames.{frame_words, callers_words, above_words, stack_words, memory}
+use Rattle.method_calls.specs.refine_form.Frames.{before_stack}
+use Rattle.method_calls.specs.refine_form.Frames.{OpenFrame}
 use Rattle.refine_calls.proofs.FramesFit.{length_values, length_frame, length_callers}
-use Rattle.refine_form.specs.Stands.{local_of, shape_of, extra, setup, moved_values, Kept, Reads, Stands}
+use Rattle.method_calls.specs.refine_form.Stands.{local_of, shape_of, extra, setup, moved_values, Kept, Reads, Stands}
 
 -- ---- words
 
@@ -53,19 +57,19 @@ pub overlaid_fills : (n : ℕ) (ws : List ℕ) → length ws ≤ n
     → overlaid (replicate n 0) 0 ws ≡ ws ++ replicate (n - length ws) 0
 overlaid_fills n ws h = overlaid_is (replicate n 0) 0 ws ∙ laid_fills n ws h
 
-pub shape_names : (program : Rattle.rpp_tree.specs.Tree.Source) (vars : List Var)
+pub shape_names : (program : Rattle.method_calls.specs.rpp_tree.Tree.Source) (vars : List Var)
     → map local_name (map (local_of program) vars) ≡ map (λ (var : Var). var.name.text) vars
 shape_names program [] = refl
 shape_names program (v ∷ vars) = ap (λ z. v.name.text ∷ z) (shape_names program vars)
 
--- an open frame can be read
+-- a current frame can be read
 abbrev pub reads_of : {setting : Setting} {statics : List ℕ} {s : Scope} {u : Under} {moved : List Moved} {st : State}
     {cells : List ℕ} → Stands setting statics s u moved st cells → Reads setting statics s u moved st cells
 reads_of h = record { frame = h.frame; keeps = h.keeps; words = h.words }
 
 module _ (setting : Setting) (statics : List ℕ) where
   pub same_memory : (at : Placing) (store : Store) (stack : List ℕ) → length stack ≤ FRAME_WORDS * setting.limits.deep
-      → Rattle.refine_frame.specs.Open.memory (setup setting statics) at store stack
+      → Rattle.method_calls.specs.refine_frame.Open.memory (setup setting statics) at store stack
       ≡ memory setting statics at store stack
   same_memory at store stack h = ap (λ z. before_stack setting statics at store ++ z)
       (overlaid_fills (FRAME_WORDS * setting.limits.deep) stack h)
@@ -164,7 +168,8 @@ module _ (setting : Setting) (statics : List ℕ) where
         let r = by vals h.frame.few_vals h.frame.above_fits in
         omega (arith, a, b, c, o, d, r)
       where
-        by : (vs : List Value) → length vs ≤ 32 → Rattle.refine_form.specs.Frames.AboveFits setting statics vs
+        by : (vs : List Value) → length vs ≤ 32 → Rattle.method_calls.specs.refine_form.Frames.AboveFits setting statics
+            vs
             st.depth → FRAME_WORDS * st.depth + length (above_words setting statics h.frame.at vs) ≤ FRAME_WORDS *
             setting.limits.deep
         by [] few fit = let k = h.frame.in_depth in omega (arith, k)
@@ -182,7 +187,7 @@ module _ (setting : Setting) (statics : List ℕ) where
     -- ---- fields and elements
 
     record PartThere (n i : ℕ) : Type 0 where
-      pub live : Rattle.meaning_sound.specs.Sound.is_live st.store n ≡ true
+      pub live : Rattle.method_calls.specs.meaning_sound.Sound.is_live st.store n ≡ true
       pub inside : i < length (object_at st.store n).cells
       pub low : address_of setting statics h.frame.at n + (HEADER_WORDS + i) < stack_base setting statics
 
@@ -221,8 +226,10 @@ module _ (setting : Setting) (statics : List ℕ) where
         omega arith in
         ap (λ c. slice_index c (address_of setting statics h.frame.at n + (HEADER_WORDS + i)))
         (sym (same_memory h.frame.at st.store stack room))
-        ∙ ap (slice_index (Rattle.refine_frame.specs.Open.memory (setup setting statics) h.frame.at st.store stack)) z
-        ∙ subst (λ (a : Placing). slice_index (Rattle.refine_frame.specs.Open.memory (setup setting statics) a st.store
+        ∙ ap (slice_index (Rattle.method_calls.specs.refine_frame.Open.memory (setup setting statics) h.frame.at
+        st.store stack)) z
+        ∙ subst (λ (a : Placing). slice_index (Rattle.method_calls.specs.refine_frame.Open.memory
+        (setup setting statics) a st.store
         stack) (address_of setting statics a n + HEADER_WORDS + i) ≡ value_word setting statics a (read st (Part n i)))
         same_at
         (read_part (setup setting statics) (extra u moved) (shape_of setting.program s) s.class st typed
@@ -240,11 +247,14 @@ module _ (setting : Setting) (statics : List ℕ) where
         omega arith in
         ap (λ c. slice_set c (address_of setting statics h.frame.at n + (HEADER_WORDS + i))
         (value_word setting statics h.frame.at v)) (sym (same_memory h.frame.at st.store stack room))
-        ∙ ap (λ a. slice_set (Rattle.refine_frame.specs.Open.memory (setup setting statics) h.frame.at st.store stack) a
+        ∙ ap (λ a. slice_set (Rattle.method_calls.specs.refine_frame.Open.memory (setup setting statics) h.frame.at
+        st.store stack) a
         (value_word setting statics h.frame.at v)) z
-        ∙ subst (λ (a : Placing). slice_set (Rattle.refine_frame.specs.Open.memory (setup setting statics) a st.store
+        ∙ subst (λ (a : Placing). slice_set (Rattle.method_calls.specs.refine_frame.Open.memory (setup setting statics)
+        a st.store
         stack) (address_of setting statics a n + HEADER_WORDS + i) (value_word setting statics a v)
-        ≡ Rattle.refine_frame.specs.Open.memory (setup setting statics) a (written st (Part n i) v).store stack)
+        ≡ Rattle.method_calls.specs.refine_frame.Open.memory (setup setting statics) a (written st (Part n i) v).store
+        stack)
         same_at
         (write_part (setup setting statics) (extra u moved) (shape_of setting.program s) s.class st typed
         h.keeps.grounded stack n i v t.live t.inside)

@@ -1,41 +1,41 @@
--- The table of an object's class, in the memory of an open frame.
+-- The table of an object's class, in the memory of a current frame.
 use Rattle.std.proofs.Common.{◌≡◌, ◌≢◌, ℕ, zero, suc, ◌+◌, ◌<◌, ◌≤◌, Bool, true, false, List, length, Some, sym, ap}
 use Rattle.std.proofs.Common.{◌∙◌}
 use Rattle.std.proofs.Common.{subst, arith}
 use Rattle.std.specs.Prelude.{nat_eq, if◌then◌else◌, slice_index, is_some}
-use Rattle.code_conventions.specs.declared.memory.TheConstants.{MAIN_OBJECT, FIRST_FIELD, TABLE_HEADER}
-use Rattle.rpp_words.specs.declared.input.TheConstants.{FIXED_CELLS}
-use Rattle.class_table.specs.declared.kind.Kind.TheVariants as kind
-use Rattle.class_table.specs.Classes.{class_slots}
-use Rattle.rpp_tree.specs.Tree.{Source}
-use Rattle.buddy_book.specs.Place.{Placing, block_of}
-use Rattle.roopl_semantics.specs.Store.{OfClass, State, main_name, object_at}
-use Rattle.roopl_semantics.specs.Layout.{HasStatics, table_at, head_word}
-use Rattle.roopl_semantics.specs.Execution.{Setting}
-use Rattle.pisa_isa.specs.Image.{Segments}
-use Rattle.pisa_isa.specs.declared.image.TheConstants.{MOST_STATICS}
-use Rattle.class_table.specs.Inheritance.{is_or_inherits}
-use Rattle.meaning_sound.specs.Sound.{named_fits, head_of}
-use Rattle.meaning_sound.proofs.Stores.{live_object}
-use Rattle.refine_frame.proofs.Memory.{base_above}
-use Rattle.class_table.proofs.FoundMethods.{own_range}
-use Rattle.refine_frame.proofs.Tells.{read_head}
-use Rattle.refine_frame.proofs.TableWords.{places_of, read_table, table_low}
-use Rattle.refine_form.specs.Form.{Scope, Moved}
+use Rattle.method_calls.specs.code_conventions.declared.memory.TheConstants.{MAIN_OBJECT, FIRST_FIELD, TABLE_HEADER}
+use Rattle.buddy_pisa.specs.rpp_words.declared.input.TheConstants.{FIXED_CELLS}
+use Rattle.method_calls.specs.class_table.declared.kind.Kind.TheVariants as kind
+use Rattle.method_calls.specs.class_table.Classes.{class_slots}
+use Rattle.method_calls.specs.rpp_tree.Tree.{Source}
+use Rattle.buddy_pisa.specs.buddy_book.Place.{Placing, block_of}
+use Rattle.method_calls.specs.roopl_semantics.Store.{OfClass, State, main_name, object_at}
+use Rattle.method_calls.specs.roopl_semantics.Layout.{HasStatics, table_at, head_word}
+use Rattle.method_calls.specs.roopl_semantics.Execution.{Setting}
+use Rattle.buddy_pisa.specs.pisa_isa.Image.{Segments}
+use Rattle.buddy_pisa.specs.pisa_isa.declared.image.TheConstants.{MOST_STATICS}
+use Rattle.method_calls.specs.class_table.Inheritance.{is_or_inherits}
+use Rattle.method_calls.specs.meaning_sound.Sound.{named_fits, head_of}
+use Rattle.method_calls.proofs.meaning_sound_laws.Stores.{live_object}
+use Rattle.method_calls.proofs.refine_frame_laws.Memory.{base_above}
+use Rattle.method_calls.proofs.class_table_laws.FoundMethods.{own_range}
+use Rattle.method_calls.proofs.refine_frame_laws.Tells.{read_head}
+use Rattle.method_calls.proofs.refine_frame_laws.TableWords.{places_of, read_table, table_low}
+use Rattle.method_calls.specs.refine_form.Form.{Scope, Moved}
 use Rattle.method_calls.specs.Facts.{HasPlace}
-use Rattle.refine_form.specs.Frames.{Under, base, address_of}
-use Rattle.refine_form.specs.Stands.{shape_of, extra, setup, Kept, Stands}
+use Rattle.method_calls.specs.refine_form.Frames.{Under, base, address_of}
+use Rattle.method_calls.specs.refine_form.Stands.{shape_of, extra, setup, Kept, Stands}
 use Rattle.refine_calls.proofs.Bridge.{same_memory, same_at, typed, stack_fits, stack}
 use Rattle.refine_calls.proofs.MovesFit.{frame_long}
 use Rattle.refine_calls.proofs.FramePlaces.{all_small, object_low}
 use Rattle.refine_calls.proofs.Bridge.{reads_of}
 
--- the tables stand behind the main object
+-- the tables come after the main object
 table_high : (program : Source) (class : ℕ) → FIRST_FIELD ≤ table_at program class
 table_high program zero = omega arith
 table_high program (suc class) = let h = table_high program class in omega (arith, h)
 
--- no object begins there: the main object stands before them, any other one in the heap
+-- no object begins there: the main object is before them, any other one in the heap
 no_object : (is_main : Bool) (base block entry : ℕ) → MAIN_OBJECT < entry → entry < base
     → entry ≢ (if is_main then MAIN_OBJECT else base + block)
 no_object true base block entry h g e = let q : entry ≡ MAIN_OBJECT = e in omega (arith, h, q)
@@ -65,15 +65,15 @@ module _ (setting : Setting) (statics : List ℕ) (few : length statics ≤ MOST
       let table : table_at setting.program u.class + TABLE_HEADER + slot < FIXED_CELLS + length statics =
       subst (λ z. table_at setting.program u.class + TABLE_HEADER + slot < FIXED_CELLS + length z) (sym same) low_table
       in
-      let shown : cells ≡ Rattle.refine_frame.specs.Open.memory x at st.store words = h.frame.cells_are
+      let shown : cells ≡ Rattle.method_calls.specs.refine_frame.Open.memory x at st.store words = h.frame.cells_are
       ∙ sym (same_memory setting statics at st.store words fits) in
       let live = live_object st.store u.self (ap is_some h.keeps.own_is) in
       let head : (object_at st.store u.self).head ≡ OfClass u.class =
       (let e : Some (object_at st.store u.self).head ≡ Some (OfClass u.class) = sym
       (ap (Rattle.std.specs.Option.option_map head_of) live) ∙ h.keeps.own_is in cc) in
-      let word : slice_index (Rattle.refine_frame.specs.Open.memory x at st.store words)
+      let word : slice_index (Rattle.method_calls.specs.refine_frame.Open.memory x at st.store words)
       (address_of setting statics at u.self) ≡ table_at setting.program u.class =
-      subst (λ (a : Placing). slice_index (Rattle.refine_frame.specs.Open.memory x a st.store words)
+      subst (λ (a : Placing). slice_index (Rattle.method_calls.specs.refine_frame.Open.memory x a st.store words)
       (address_of setting statics a u.self) ≡ table_at setting.program u.class)
       (same_at setting statics s u moved st cells (reads_of h))
       (read_head x (extra u moved) (shape_of setting.program s) s.class st
@@ -85,9 +85,9 @@ module _ (setting : Setting) (statics : List ℕ) (few : length statics ≤ MOST
       let at_entry : table_at setting.program u.class + TABLE_HEADER + slot
       ≡ table_at setting.program u.class + (TABLE_HEADER + slot) =
       omega arith in
-      let entry_word : slice_index (Rattle.refine_frame.specs.Open.memory x at st.store words)
+      let entry_word : slice_index (Rattle.method_calls.specs.refine_frame.Open.memory x at st.store words)
       (table_at setting.program u.class + TABLE_HEADER + slot) ≡ slice_index (places_of has.places u.class) slot =
-      subst (λ (a : Placing). slice_index (Rattle.refine_frame.specs.Open.memory x a st.store words)
+      subst (λ (a : Placing). slice_index (Rattle.method_calls.specs.refine_frame.Open.memory x a st.store words)
       (table_at setting.program u.class + TABLE_HEADER + slot) ≡ slice_index (places_of has.places u.class) slot)
       (same_at setting statics s u moved st cells (reads_of h))
       (read_table x (extra u moved) (shape_of setting.program s) s.class st

@@ -1,23 +1,24 @@
--- A frame with all arguments above it is the callee's open frame, and back: what is kept goes over.
+-- A frame with all arguments above it is the callee's current frame, and back: what is kept goes
+-- over.
 use Rattle.std.proofs.Common.{◌≡◌, ℕ, suc, ◌+◌, ◌<◌, Bool, true, false, List, [], ◌∷◌, length, map, Some, refl, sym, ap}
 use Rattle.std.proofs.Common.{◌∙◌, subst, arith}
 use Rattle.std.proofs.lemmas.Bool.{ltb-true, ltb-false}
 use Rattle.std.specs.Prelude.{nat_lt}
-use Rattle.class_table.specs.declared.kind.Kind.TheVariants as kind
-use Rattle.rpp_tree.specs.declared.tree.Ident.{Ident}
-use Rattle.rpp_tree.specs.declared.tree.Var.{Var}
-use Rattle.class_table.specs.declared.kind.Kind.{Kind}
-use Rattle.roopl_semantics.specs.Store.{Value, Store, State, main_name}
-use Rattle.roopl_semantics.specs.Execution.{Setting, bound}
-use Rattle.roopl_semantics.specs.Laws.{holders_among}
-use Rattle.meaning_sound.specs.Sound.{named_fits, head_named, is_live, AllFit, local_type, value_of, held, cell_kind}
-use Rattle.meaning_sound.specs.Sound.{part_kind}
-use Rattle.meaning_sound.proofs.Objects.{all_live}
-use Rattle.meaning_sound.proofs.Invocations.{types_of_params, bound_values}
-use Rattle.refine_form.specs.Form.{Scope, Moved, pairs}
+use Rattle.method_calls.specs.class_table.declared.kind.Kind.TheVariants as kind
+use Rattle.method_calls.specs.rpp_tree.declared.tree.Ident.{Ident}
+use Rattle.method_calls.specs.rpp_tree.declared.tree.Var.{Var}
+use Rattle.method_calls.specs.class_table.declared.kind.Kind.{Kind}
+use Rattle.method_calls.specs.roopl_semantics.Store.{Value, Store, State, main_name}
+use Rattle.method_calls.specs.roopl_semantics.Execution.{Setting, bound}
+use Rattle.method_calls.specs.roopl_semantics.Laws.{holders_among}
+use Rattle.method_calls.specs.meaning_sound.Sound.{named_fits, head_named, is_live, AllFit, local_type, value_of, held, cell_kind}
+use Rattle.method_calls.specs.meaning_sound.Sound.{part_kind}
+use Rattle.method_calls.proofs.meaning_sound_laws.Objects.{all_live}
+use Rattle.method_calls.proofs.meaning_sound_laws.Invocations.{types_of_params, bound_values}
+use Rattle.method_calls.specs.refine_form.Form.{Scope, Moved, pairs}
 use Rattle.method_calls.specs.Names.{deeper}
-use Rattle.refine_form.specs.Frames.{Under, cell_in}
-use Rattle.refine_form.specs.Stands.{shape_of, extra, moved_value, AllMoved, Kept}
+use Rattle.method_calls.specs.refine_form.Frames.{Under, cell_in}
+use Rattle.method_calls.specs.refine_form.Stands.{shape_of, extra, moved_value, AllMoved, Kept}
 use Rattle.refine_calls.proofs.KeptMoves.{CountsAre}
 
 -- the names and their values
@@ -49,7 +50,7 @@ module _ (setting : Setting) (statics : List ℕ) where
   moved_types store s u (x ∷ names) (t ∷ ks) [] k h e = absurd (omega (arith, e))
   moved_types store s u (x ∷ names) (t ∷ ks) (v ∷ vals) k h e =
       let same : h.0.kind ≡ t = (let q : Some h.0.kind ≡ Some t = sym h.0.of_cell ∙ k.0 in cc) in (
-        subst (λ z. Rattle.meaning_sound.specs.Sound.fits setting.program store v z ≡ true) same h.0.fit,
+        subst (λ z. Rattle.method_calls.specs.meaning_sound.Sound.fits setting.program store v z ≡ true) same h.0.fit,
         moved_types store s u names ks vals k.1 h.1 (let q : suc (length vals) ≡ suc (length names) = e in
             omega (arith, q)),
       )

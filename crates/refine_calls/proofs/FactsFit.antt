@@ -1,4 +1,4 @@
--- All facts of frames and of calls on the present object, of the one relation.
+-- All facts of frames and of calls on the current object, of the one relation.
 use Rattle.std.proofs.Common.{◌≡◌, ℕ, suc, ◌+◌, ◌^◌, ◌<◌, ◌≤◌, true, false, List, [], ◌∷◌, length, map, Option, Some}
 use Rattle.std.proofs.Common.{None, refl, sym, ap, ◌∙◌, subst, arith}
 use Rattle.std.proofs.lemmas.Bool.Decides.{nat_tests}
@@ -6,37 +6,37 @@ use Rattle.std.proofs.lemmas.List.{length-map}
 use Rattle.std.specs.Prelude.{position, not, nat_lt}
 use Rattle.std.specs.Option.{unwrap_or}
 use Rattle.std.specs.Str.{bytes_eq}
-use Rattle.class_table.specs.declared.kind.Kind.TheVariants as kind
-use Rattle.rpp_tree.specs.declared.tree.Ident.{Ident}
-use Rattle.rpp_tree.specs.declared.tree.Var.{Var}
-use Rattle.rpp_tree.specs.Tree.{Source, Procedure}
-use Rattle.class_table.specs.declared.kind.Kind.{Kind}
-use Rattle.class_table.specs.Classes.{class_fields}
-use Rattle.class_table.specs.Table.{table_of, dispatch_in}
-use Rattle.class_table.specs.Overrides.{parameters_of}
-use Rattle.roopl_semantics.specs.Store.{Value, OfClass, Store, Binding, State}
-use Rattle.class_table.specs.Members.{field_of}
-use Rattle.roopl_semantics.specs.Execution.{Setting, bound}
-use Rattle.class_table.specs.Inheritance.{is_or_inherits, kind_of_var}
-use Rattle.meaning_sound.specs.Sound.{named_fits, head_named, local_type, cell_kind, part_kind}
-use Rattle.meaning_sound.proofs.Classes.{KnowsClasses}
-use Rattle.meaning_sound.proofs.Invocations.{types_of_params}
-use Rattle.meaning_sound.proofs.Values.{variable_fits}
-use Rattle.refine_form.specs.Form.{Scope, Moved, Routines, pairs}
+use Rattle.method_calls.specs.class_table.declared.kind.Kind.TheVariants as kind
+use Rattle.method_calls.specs.rpp_tree.declared.tree.Ident.{Ident}
+use Rattle.method_calls.specs.rpp_tree.declared.tree.Var.{Var}
+use Rattle.method_calls.specs.rpp_tree.Tree.{Source, Procedure}
+use Rattle.method_calls.specs.class_table.declared.kind.Kind.{Kind}
+use Rattle.method_calls.specs.class_table.Classes.{class_fields}
+use Rattle.method_calls.specs.class_table.Table.{table_of, dispatch_in}
+use Rattle.method_calls.specs.class_table.Overrides.{parameters_of}
+use Rattle.method_calls.specs.roopl_semantics.Store.{Value, OfClass, Store, Binding, State}
+use Rattle.method_calls.specs.class_table.Members.{field_of}
+use Rattle.method_calls.specs.roopl_semantics.Execution.{Setting, bound}
+use Rattle.method_calls.specs.class_table.Inheritance.{is_or_inherits, kind_of_var}
+use Rattle.method_calls.specs.meaning_sound.Sound.{named_fits, head_named, local_type, cell_kind, part_kind}
+use Rattle.method_calls.proofs.meaning_sound_laws.Classes.{KnowsClasses}
+use Rattle.method_calls.proofs.meaning_sound_laws.Invocations.{types_of_params}
+use Rattle.method_calls.proofs.meaning_sound_laws.Values.{variable_fits}
+use Rattle.method_calls.specs.refine_form.Form.{Scope, Moved, Routines, pairs}
 use Rattle.method_calls.specs.Facts.{IsSteady, ImageFacts, MoveFacts, OwnFacts, PutFacts, FrameFacts}
-use Rattle.refine_form.specs.Frames.{Under, cell_in, cell_at, OpenFrame}
+use Rattle.method_calls.specs.refine_form.Frames.{Under, cell_in, cell_at, OpenFrame}
 use Rattle.refine_calls.proofs.FramesFit.{means, class_stays, enters, leaves}
-use Rattle.refine_form.specs.Stands.{local_of, shape_of, extra, moved_values, Stands}
+use Rattle.method_calls.specs.refine_form.Stands.{local_of, shape_of, extra, moved_values, Stands}
 use Rattle.refine_calls.proofs.Bridge.{typed, as_many_vars}
 use Rattle.refine_calls.proofs.FactsMoves.{same_means, cell_is, moves_in, moves_back}
 use Rattle.refine_calls.proofs.EntersFit.{pairs_values, HaveKinds, kept_enters, kept_leaves, counts_enter, counts_leave}
 use Rattle.refine_calls.proofs.FramePlaces.{frame_small, object_small, frame_end, saves, puts, put_words, puts_back}
 use Rattle.refine_calls.proofs.ClassPlaces.{class_above, table_read}
-use Rattle.class_table.specs.Program.{IsAccepted}
-use Rattle.class_table.proofs.FoundMethods.{dispatched_method, own_range}
-use Rattle.meaning_sound.proofs.Accepted.{knows_classes}
-use Rattle.meaning_sound.proofs.Plainness.{program_plain}
-use Rattle.refine_form.specs.Worlds.{Place, world_of}
+use Rattle.method_calls.specs.class_table.Program.{IsAccepted}
+use Rattle.method_calls.proofs.class_table_laws.FoundMethods.{dispatched_method, own_range}
+use Rattle.method_calls.proofs.meaning_sound_laws.Accepted.{knows_classes}
+use Rattle.method_calls.proofs.meaning_sound_laws.Plainness.{program_plain}
+use Rattle.method_calls.specs.refine_form.Worlds.{Place, world_of}
 use Rattle.method_calls.specs.Facts.{HasPlace}
 use Rattle.method_calls.specs.Names.{AllTyped, HasMethod, deeper, known_of, slot_of}
 use Rattle.refine_calls.specs.Laws.{Route, IsLinked}

@@ -5,33 +5,34 @@ use Rattle.std.proofs.lemmas.List.{length-map}
 use Rattle.std.specs.Prelude.{slice_index, slice_set, position}
 use Rattle.std.specs.Option.{unwrap_or, option_map, option_or}
 use Rattle.std.specs.Str.{bytes_eq}
-use Rattle.rpp_words.specs.declared.input.TheConstants.{FRAME_WORDS, FIXED_CELLS}
-use Rattle.code_conventions.specs.declared.memory.TheConstants.{FIRST_VARIABLE, HEADER_WORDS}
-use Rattle.rpp_tree.specs.declared.tree.Ident.{Ident}
-use Rattle.rpp_tree.specs.declared.tree.Var.{Var}
-use Rattle.class_table.specs.Classes.{class_fields}
-use Rattle.class_table.specs.Table.{table_of, field_in}
-use Rattle.class_table.specs.Program.{setting_in}
-use Rattle.roopl_semantics.specs.Store.{Value, State, is_zero, cleared}
-use Rattle.roopl_semantics.specs.Value.{Cell, cell_named, read, written}
-use Rattle.class_table.specs.Members.{field_of, field_name}
-use Rattle.roopl_semantics.specs.Execution.{Setting}
-use Rattle.meaning_sound.specs.Sound.{cell_kind}
-use Rattle.meaning_sound.specs.Kept.{MeansSame}
-use Rattle.meaning_sound.proofs.Classes.{KnowsClasses}
-use Rattle.meaning_sound.proofs.Values.{variable_fits}
-use Rattle.class_table.proofs.PassedRules.{some_of}
-use Rattle.meaning_sound.proofs.Names.{type_at, local_kind_is, field_number_is}
-use Rattle.class_table.specs.Scope.{local_kind, kind_at, field_kind, kind_in}
-use Rattle.class_table.specs.Refusal.{unknown_name}
-use Rattle.class_table.proofs.Tables.{table_reads}
-use Rattle.refine_form.specs.Form.{Scope, Moved}
+use Rattle.buddy_pisa.specs.rpp_words.declared.input.TheConstants.{FRAME_WORDS, FIXED_CELLS}
+use Rattle.method_calls.specs.code_conventions.declared.memory.TheConstants.{FIRST_VARIABLE, HEADER_WORDS}
+use Rattle.method_calls.specs.rpp_tree.declared.tree.Ident.{Ident}
+use Rattle.method_calls.specs.rpp_tree.declared.tree.Var.{Var}
+use Rattle.method_calls.specs.class_table.Classes.{class_fields}
+use Rattle.method_calls.specs.class_table.Table.{table_of, field_in}
+use Rattle.method_calls.specs.class_table.Program.{setting_in}
+use Rattle.method_calls.specs.roopl_semantics.Store.{Value, State, is_zero, cleared}
+use Rattle.method_calls.specs.roopl_semantics.Value.{Cell, cell_named, read, written}
+use Rattle.method_calls.specs.class_table.Members.{field_of, field_name}
+use Rattle.method_calls.specs.roopl_semantics.Execution.{Setting}
+use Rattle.method_calls.specs.meaning_sound.Sound.{cell_kind}
+use Rattle.method_calls.specs.meaning_sound.Kept.{MeansSame}
+use Rattle.method_calls.proofs.meaning_sound_laws.Classes.{KnowsClasses}
+use Rattle.method_calls.proofs.meaning_sound_laws.Values.{variable_fits}
+use Rattle.method_calls.proofs.class_table_laws.PassedRules.{some_of}
+use Rattle.method_calls.proofs.meaning_sound_laws.Names.{type_at, local_kind_is, field_number_is}
+use Rattle.method_calls.specs.class_table.Scope.{local_kind, kind_at, field_kind, kind_in}
+use Rattle.method_calls.specs.class_table.Refusal.{unknown_name}
+use Rattle.method_calls.proofs.class_table_laws.Tables.{table_reads}
+use Rattle.method_calls.specs.refine_form.Form.{Scope, Moved}
 use Rattle.method_calls.specs.Facts.{MovesIn, MovesBack, address}
-use Rattle.refine_form.specs.Frames.{Under, base, address_of, value_word, cell_at, cell_in, OpenFrame}
+use Rattle.method_calls.specs.refine_form.Frames.{Under, base, address_of, value_word, cell_at, cell_in, OpenFrame}
 use Rattle.refine_calls.proofs.FramesFit.{means, class_stays}
 use Rattle.refine_calls.proofs.SlotMoves.{zero_word, other_word, cleared_word}
-use Rattle.refine_form.specs.Stands.{shape_of, extra, moved_value, moved_values, spot_at, spot_in, Kept, Reads}
-use Rattle.refine_form.specs.Stands.{Stands}
+use Rattle.method_calls.specs.refine_form.Stands.{shape_of, extra, moved_value, moved_values, spot_at, spot_in, Kept}
+use Rattle.method_calls.specs.refine_form.Stands.{Reads}
+use Rattle.method_calls.specs.refine_form.Stands.{Stands}
 use Rattle.refine_calls.proofs.Bridge.{reads_of, set_words, shape_names, typed, before_long, long_by, as_many_vars}
 use Rattle.refine_calls.proofs.KeptMoves.{kept_up, kept_back, counts_up, counts_back}
 use Rattle.refine_calls.proofs.MovesFit.{frame_address, place_of, frame_long, cell_inside, cell_low, frame_read}
@@ -46,7 +47,7 @@ set_apart (c ∷ cells) zero (suc b) x y h = refl
 set_apart (c ∷ cells) (suc a) zero x y h = refl
 set_apart (c ∷ cells) (suc a) (suc b) x y h = ap (λ z. c ∷ z) (set_apart cells a b x y (λ e. h (ap suc e)))
 
-pub same_means : (shape : Rattle.class_table.specs.Scope.Locals) → MeansSame shape shape
+pub same_means : (shape : Rattle.method_calls.specs.class_table.Scope.Locals) → MeansSame shape shape
 same_means shape = record { same = λ name. refl }
 
 module _ (setting : Setting) (statics : List ℕ) (classes : KnowsClasses setting.program) where
@@ -65,7 +66,7 @@ module _ (setting : Setting) (statics : List ℕ) (classes : KnowsClasses settin
         s.class h.keeps.class_inside (same_means (shape_of setting.program s)) st name var.kind
         (typed setting statics s u moved st cells h) var.typed
 
-    -- where its spot stands
+    -- the address of its storage slot
     pub spot_is : address u.object (frame_address setting statics u) (spot_in setting.program s name)
         ≡ place_of setting statics h.frame.at u st cell
     spot_is = by (position (bytes_eq name.text) (map (λ (v : Var). v.name.text) s.vars)) refl
@@ -219,7 +220,8 @@ module _ (setting : Setting) (statics : List ℕ) (classes : KnowsClasses settin
       let high : slice_index cells up1 ≡ value_word setting statics at v = ap (slice_index cells) (sym up_same)
       ∙ up_value setting statics s u v vs st cells h.frame long in
       let pos : 0 < base setting statics = (let q : FIXED_CELLS + length statics ≤ base setting statics
-      = Rattle.refine_frame.proofs.Memory.base_above (Rattle.refine_form.specs.Stands.setup setting statics) in
+      = Rattle.method_calls.proofs.refine_frame_laws.Memory.base_above
+      (Rattle.method_calls.specs.refine_form.Stands.setup setting statics) in
       omega (arith, q)) in
       let untouched : is_zero (read st c) ≡ true → slice_index cells P ≡ 0 = λ e. got
       ∙ zero_word setting statics at (read st c) e in

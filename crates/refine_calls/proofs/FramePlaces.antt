@@ -1,29 +1,29 @@
--- Addresses of an open frame, its class's table, and what is put by in it.
+-- Addresses of a current frame, its class's table, and what is saved in it.
 use Rattle.std.proofs.Common.{◌≡◌, ℕ, ◌+◌, ◌*◌, ◌^◌, ◌<◌, ◌≤◌, Bool, true, false, List, [], ◌∷◌, length, refl, sym}
 use Rattle.std.proofs.Common.{subst, arith}
 use Rattle.std.specs.Prelude.{replicate, nat_eq, slice_index, slice_set, not, nat_lt, if◌then◌else◌}
-use Rattle.rpp_words.specs.declared.input.TheConstants.{FRAME_WORDS, FIXED_CELLS}
-use Rattle.code_conventions.specs.declared.memory.TheConstants.{HEADER_WORDS, OBJECT_WORD, PLACE_WORD}
-use Rattle.buddy_book.specs.Place.{Placing, block_of}
-use Rattle.roopl_semantics.specs.Store.{OfClass, State, main_name}
-use Rattle.rpp_words.specs.Limits.{IsLimits}
-use Rattle.roopl_semantics.specs.Execution.{Setting}
-use Rattle.pisa_isa.specs.Loaded.{statics_at}
-use Rattle.pisa_isa.specs.declared.image.TheConstants.{MOST_STATICS}
-use Rattle.meaning_sound.proofs.Stores.{differs}
-use Rattle.meaning_sound.proofs.Regions.{region_inside}
-use Rattle.refine_frame.proofs.Memory.{base_above}
-use Rattle.refine_frame.proofs.Tells.{cells_small}
-use Rattle.refine_form.specs.Form.{Scope, Moved}
+use Rattle.buddy_pisa.specs.rpp_words.declared.input.TheConstants.{FRAME_WORDS, FIXED_CELLS}
+use Rattle.method_calls.specs.code_conventions.declared.memory.TheConstants.{HEADER_WORDS, OBJECT_WORD, PLACE_WORD}
+use Rattle.buddy_pisa.specs.buddy_book.Place.{Placing, block_of}
+use Rattle.method_calls.specs.roopl_semantics.Store.{OfClass, State, main_name}
+use Rattle.buddy_pisa.specs.rpp_words.Limits.{IsLimits}
+use Rattle.method_calls.specs.roopl_semantics.Execution.{Setting}
+use Rattle.buddy_pisa.specs.pisa_isa.Loaded.{statics_at}
+use Rattle.buddy_pisa.specs.pisa_isa.declared.image.TheConstants.{MOST_STATICS}
+use Rattle.method_calls.proofs.meaning_sound_laws.Stores.{differs}
+use Rattle.method_calls.proofs.meaning_sound_laws.Regions.{region_inside}
+use Rattle.method_calls.proofs.refine_frame_laws.Memory.{base_above}
+use Rattle.method_calls.proofs.refine_frame_laws.Tells.{cells_small}
+use Rattle.method_calls.specs.refine_form.Form.{Scope, Moved}
 use Rattle.method_calls.specs.Facts.{HasEnd, HasWords}
-use Rattle.refine_form.specs.Frames.{Under, base, stack_base, address_of, OpenFrame}
+use Rattle.method_calls.specs.refine_form.Frames.{Under, base, stack_base, address_of, OpenFrame}
 use Rattle.refine_calls.proofs.FramesFit.{has_end, link_word, place_word, put_opens}
-use Rattle.refine_form.specs.Stands.{setup, Kept, Stands}
+use Rattle.method_calls.specs.refine_form.Stands.{setup, Kept, Stands}
 use Rattle.method_calls.specs.Names.{put}
 use Rattle.refine_calls.proofs.Bridge.{set_words, same_at, before_long}
 use Rattle.refine_calls.proofs.MovesFit.{frame_address, frame_long}
 use Rattle.refine_calls.proofs.FactsMoves.{set_apart}
-use Rattle.refine_form.specs.Worlds.{IsFresh}
+use Rattle.method_calls.specs.refine_form.Worlds.{IsFresh}
 use Rattle.refine_calls.proofs.Bridge.{reads_of}
 
 module _ (setting : Setting) (statics : List ℕ) (few : length statics ≤ MOST_STATICS) where
@@ -36,7 +36,7 @@ module _ (setting : Setting) (statics : List ℕ) (few : length statics ≤ MOST
     frame_small = let a = all_small h.keeps.grounded.limits in let d = h.frame.depth_is in let i = h.frame.in_depth in
         omega (arith, a, d, i)
 
-    -- the object stands before the stack
+    -- the object is before the stack
     pub object_low : u.object + HEADER_WORDS ≤ stack_base setting statics
     object_low = subst (λ o. o + HEADER_WORDS ≤ stack_base setting statics) h.frame.stands.1
         (subst (λ (a : Placing). address_of setting statics a u.self + HEADER_WORDS ≤ stack_base setting statics)
@@ -58,7 +58,7 @@ module _ (setting : Setting) (statics : List ℕ) (few : length statics ≤ MOST
   frame_end s u st cells h = has_end setting statics s u st cells h.frame
       (let a = all_small h.keeps.grounded.limits in omega (arith, a))
 
-  -- ---- what is put by
+  -- ---- what is saved
 
   kept_put : (s : Scope) (u : Under) (st : State) (link place : ℕ) → Kept setting statics s u [] st
       → Kept setting statics s (put u link place) [] st

@@ -6,24 +6,27 @@ use Rattle.std.specs.Prelude.{position, slice_index, slice_set}
 use Rattle.std.specs.Str.{bytes_eq}
 use Rattle.std.proofs.lemmas.List.{length-replicate, replicate-append-replicate}
 use Rattle.std.specs.Option.{unwrap_or}
-use Rattle.code_conventions.specs.declared.memory.TheConstants.{FIRST_VARIABLE, MOST_VARIABLES, OBJECT_WORD, PLACE_WORD}
-use Rattle.rpp_words.specs.declared.input.TheConstants.{FRAME_WORDS}
-use Rattle.rpp_tree.specs.declared.tree.Ident.{Ident}
-use Rattle.rpp_tree.specs.declared.tree.Var.{Var}
-use Rattle.buddy_book.specs.Place.{Placing}
-use Rattle.roopl_semantics.specs.Store.{Value, Binding, State, object_at, class_of_head}
-use Rattle.roopl_semantics.specs.Value.{Part, cell_named, own_class, slot_or_field}
-use Rattle.class_table.specs.Members.{field_of}
-use Rattle.class_table.specs.Classes.{class_fields}
-use Rattle.roopl_semantics.specs.Execution.{Setting, bound}
-use Rattle.refine_form.specs.Form.{Scope}
+use Rattle.method_calls.specs.code_conventions.declared.memory.TheConstants.{FIRST_VARIABLE, MOST_VARIABLES}
+use Rattle.method_calls.specs.code_conventions.declared.memory.TheConstants.{OBJECT_WORD, PLACE_WORD}
+use Rattle.buddy_pisa.specs.rpp_words.declared.input.TheConstants.{FRAME_WORDS}
+use Rattle.method_calls.specs.rpp_tree.declared.tree.Ident.{Ident}
+use Rattle.method_calls.specs.rpp_tree.declared.tree.Var.{Var}
+use Rattle.buddy_pisa.specs.buddy_book.Place.{Placing}
+use Rattle.method_calls.specs.roopl_semantics.Store.{Value, Binding, State, object_at, class_of_head}
+use Rattle.method_calls.specs.roopl_semantics.Value.{Part, cell_named, own_class, slot_or_field}
+use Rattle.method_calls.specs.class_table.Members.{field_of}
+use Rattle.method_calls.specs.class_table.Classes.{class_fields}
+use Rattle.method_calls.specs.roopl_semantics.Execution.{Setting, bound}
+use Rattle.method_calls.specs.refine_form.Form.{Scope}
 use Rattle.method_calls.specs.Names.{caller_of, deeper}
-use Rattle.refine_form.specs.Frames.{Caller, Under, values_of, value_words, filled_to, frame_words, callers_words}
-use Rattle.refine_form.specs.Frames.{above_words, stack_words, memory, StandsAt, CallersStand, cell_at, cell_in}
-use Rattle.refine_form.specs.Frames.{OpenFrame}
-use Rattle.pisa_isa.specs.declared.fixed.TheConstants.{STACK_CELL, END_CELL}
+use Rattle.method_calls.specs.refine_form.Frames.{Caller, Under, values_of, value_words, filled_to, frame_words}
+use Rattle.method_calls.specs.refine_form.Frames.{callers_words}
+use Rattle.method_calls.specs.refine_form.Frames.{above_words, stack_words, memory, StandsAt, CallersStand, cell_at}
+use Rattle.method_calls.specs.refine_form.Frames.{cell_in}
+use Rattle.method_calls.specs.refine_form.Frames.{OpenFrame}
+use Rattle.buddy_pisa.specs.pisa_isa.declared.fixed.TheConstants.{STACK_CELL, END_CELL}
 
--- ---- zeros behind
+-- ---- zeros after it
 
 pub fill_more : (n : ℕ) (x : List ℕ) (k : ℕ) → length x + k ≤ n
     → (x ++ replicate k 0) ++ replicate (n - length (x ++ replicate k 0)) 0 ≡ x ++ replicate (n - length x) 0
@@ -41,7 +44,8 @@ module _ (setting : Setting) (statics : List ℕ) where
   pub length_values : (at : Placing) (vs : List Value) → length (value_words setting statics at vs) ≡ length vs
   length_values at [] = refl
   length_values at (v ∷ vs) =
-      let e : length (value_words setting statics at vs ++ Rattle.refine_form.specs.Frames.value_word setting statics
+      let e : length (value_words setting statics at vs ++ Rattle.method_calls.specs.refine_form.Frames.value_word
+      setting statics
       at v ∷ []) ≡ length (value_words setting statics at vs) + 1 =
       length-append (value_words setting statics at vs) _ in
       let i = length_values at vs in
@@ -65,7 +69,8 @@ module _ (setting : Setting) (statics : List ℕ) where
   length_map f [] = refl
   length_map f (x ∷ l) = ap suc (length_map f l)
 
-  pub length_callers : (at : Placing) (store : Rattle.roopl_semantics.specs.Store.Store) (callers : List Caller)
+  pub length_callers : (at : Placing) (store : Rattle.method_calls.specs.roopl_semantics.Store.Store)
+      (callers : List Caller)
       → CallersStand setting statics at store callers → length (callers_words setting statics at callers)
       ≡ FRAME_WORDS * length callers
   length_callers at store [] h = refl
@@ -98,7 +103,7 @@ module _ (setting : Setting) (statics : List ℕ) where
 
   -- the same words, seen from the frame below and from the frame above
   pub same_stack : (s : Scope) (u : Under) (st : State) (at : Placing)
-      (store : Rattle.roopl_semantics.specs.Store.Store) (vs : List Value)
+      (store : Rattle.method_calls.specs.roopl_semantics.Store.Store) (vs : List Value)
       → CallersStand setting statics at store u.callers → length u.put_by ≡ FIRST_VARIABLE
       → length st.frame ≤ MOST_VARIABLES → length vs ≤ MOST_VARIABLES
       → 2 + length u.callers ≤ setting.limits.deep → filled_to setting statics N
@@ -142,7 +147,7 @@ module _ (setting : Setting) (statics : List ℕ) where
     log = st.log;
   }
 
-  -- a frame with all arguments above it is the callee's open frame
+  -- a frame with all arguments above it is the callee's current frame
   abbrev pub enters : (s s' : Scope) (u : Under) (vals : List Value) (st : State) (cells : List ℕ)
       → OpenFrame setting statics s u vals st cells → length vals ≡ length s'.vars → 1 + st.depth ≤ setting.limits.deep
       → OpenFrame setting statics s' (deeper s u st) [] (callee_of s'.vars vals st) cells
@@ -159,7 +164,8 @@ module _ (setting : Setting) (statics : List ℕ) where
       record {
         at = h.at;
         placed = h.placed;
-        cells_are = h.cells_are ∙ ap (λ z. Rattle.refine_form.specs.Frames.before_stack setting statics h.at st.store
+        cells_are = h.cells_are ∙ ap (λ z. Rattle.method_calls.specs.refine_form.Frames.before_stack setting statics
+            h.at st.store
             ++ z) shown;
         names_are = names;
         self_is = h.self_is;
@@ -177,11 +183,11 @@ module _ (setting : Setting) (statics : List ℕ) where
       }
 
   pub fits_above : (vals : List Value) (depth : ℕ) → 1 + depth ≤ setting.limits.deep
-      → Rattle.refine_form.specs.Frames.AboveFits setting statics vals depth
+      → Rattle.method_calls.specs.refine_form.Frames.AboveFits setting statics vals depth
   fits_above [] depth h = tt
   fits_above (v ∷ vals) depth h = h
 
-  -- and where it ends, so is the frame below again, with the values above it
+  -- and if it ends, so is the frame below again, with the values above it
   abbrev pub leaves : (s s' : Scope) (u : Under) (vals : List Value) (st end : State) (before cells : List ℕ)
       → OpenFrame setting statics s u vals st before → OpenFrame setting statics s' (deeper s u st) [] end cells
       → length s'.vars ≤ 32 → OpenFrame setting statics s u (values_of setting statics end.frame)
@@ -198,7 +204,8 @@ module _ (setting : Setting) (statics : List ℕ) where
       record {
         at = o.at;
         placed = o.placed;
-        cells_are = o.cells_are ∙ ap (λ z. Rattle.refine_form.specs.Frames.before_stack setting statics o.at
+        cells_are = o.cells_are ∙ ap (λ z. Rattle.method_calls.specs.refine_form.Frames.before_stack setting statics
+            o.at
             end.store ++ z) (sym (same_stack s u st o.at end.store (values_of setting statics end.frame) stand.3
             h.put_long h.few (omega (arith, many, lv, few)) room));
         names_are = h.names_are;
@@ -236,18 +243,18 @@ module _ (setting : Setting) (statics : List ℕ) where
 
   -- ---- the fixed cells
 
-  -- where the frame stands
+  -- the address of the frame
   abbrev pub frame_at : Under → ℕ
-  frame_at u = Rattle.refine_form.specs.Frames.stack_base setting statics + FRAME_WORDS * length u.callers
+  frame_at u = Rattle.method_calls.specs.refine_form.Frames.stack_base setting statics + FRAME_WORDS * length u.callers
 
-  stack_base_cell : (at : Placing) (store : Rattle.roopl_semantics.specs.Store.Store) (stack : List ℕ)
+  stack_base_cell : (at : Placing) (store : Rattle.method_calls.specs.roopl_semantics.Store.Store) (stack : List ℕ)
       → slice_index (memory setting statics at store stack) STACK_CELL
-      ≡ Rattle.refine_form.specs.Frames.stack_base setting statics
+      ≡ Rattle.method_calls.specs.refine_form.Frames.stack_base setting statics
   stack_base_cell at store stack = refl
 
-  stack_end_cell : (at : Placing) (store : Rattle.roopl_semantics.specs.Store.Store) (stack : List ℕ)
+  stack_end_cell : (at : Placing) (store : Rattle.method_calls.specs.roopl_semantics.Store.Store) (stack : List ℕ)
       → slice_index (memory setting statics at store stack) END_CELL
-      ≡ Rattle.refine_form.specs.Frames.stack_base setting statics + N
+      ≡ Rattle.method_calls.specs.refine_form.Frames.stack_base setting statics + N
   stack_end_cell at store stack = refl
 
   pub base_is : (s : Scope) (u : Under) (vals : List Value) (st : State) (cells : List ℕ)
@@ -255,13 +262,13 @@ module _ (setting : Setting) (statics : List ℕ) where
   base_is s u vals st cells h none =
       ap (λ l. slice_index l STACK_CELL) h.cells_are ∙ stack_base_cell h.at st.store
       (stack_words setting statics h.at u st.frame vals)
-      ∙ (let z : Rattle.refine_form.specs.Frames.stack_base setting statics
-      ≡ Rattle.refine_form.specs.Frames.stack_base setting statics + FRAME_WORDS * length u.callers = omega
+      ∙ (let z : Rattle.method_calls.specs.refine_form.Frames.stack_base setting statics
+      ≡ Rattle.method_calls.specs.refine_form.Frames.stack_base setting statics + FRAME_WORDS * length u.callers = omega
       (arith, none) in z)
 
-  -- the stack's end tells the depth
+  -- the stack's end determines the depth
   pub has_end : (s : Scope) (u : Under) (st : State) (cells : List ℕ) → OpenFrame setting statics s u [] st cells
-      → Rattle.refine_form.specs.Frames.stack_base setting statics + N < 2 ^ 31
+      → Rattle.method_calls.specs.refine_form.Frames.stack_base setting statics + N < 2 ^ 31
       → Rattle.method_calls.specs.Facts.HasEnd cells (frame_at u)
       (Rattle.std.specs.Prelude.not (Rattle.std.specs.Prelude.nat_lt (1 + length u.callers) setting.limits.deep))
   has_end s u st cells h small =
@@ -285,7 +292,7 @@ module _ (setting : Setting) (statics : List ℕ) where
       some_left : (a b : ℕ) → Rattle.std.specs.Prelude.not (Rattle.std.specs.Prelude.nat_lt a b) ≡ false → a < b
       some_left a b e = grind (arith, Rattle.std.proofs.lemmas.Bool.Decides.nat_tests, e)
 
-  -- the frame of main alone, with nothing put by: the memory is the layout
+  -- only the frame of main, with nothing stored above it: the memory is the layout
   pub ends : (s : Scope) (st : State) (cells : List ℕ) (self class object : ℕ)
       → OpenFrame setting statics s (record {
         callers = [];
@@ -294,7 +301,8 @@ module _ (setting : Setting) (statics : List ℕ) where
         object = object;
         put_by = replicate FIRST_VARIABLE 0;
       }) [] st cells → st.frame ≡ [] → 1 ≤ setting.limits.deep
-      → cells ≡ Rattle.roopl_semantics.specs.Layout.layout setting.program setting.limits statics st.store st.log
+      → cells ≡ Rattle.method_calls.specs.roopl_semantics.Layout.layout setting.program setting.limits statics st.store
+      st.log
   ends s st cells self class object h alone deep =
       let u : Under = record {
         callers = [];
@@ -303,17 +311,18 @@ module _ (setting : Setting) (statics : List ℕ) where
         object = object;
         put_by = replicate FIRST_VARIABLE 0;
       } in
-      let L = Rattle.roopl_semantics.specs.Layout.placed_layout setting.program setting.limits statics st.store in
+      let L = Rattle.method_calls.specs.roopl_semantics.Layout.placed_layout setting.program setting.limits statics
+      st.store in
       let zeros : filled_to setting statics N (stack_words setting statics h.at u [] []) ≡ replicate N 0 =
       (let z : FRAME_WORDS ≤ N = omega (arith, deep) in fill_more N [] FRAME_WORDS z
       ∙ (let y : N - 0 ≡ N = omega arith in ap (λ j. replicate j 0) y)) in
       h.cells_are
-      ∙ ap (λ f. Rattle.refine_form.specs.Frames.before_stack setting statics h.at st.store
+      ∙ ap (λ f. Rattle.method_calls.specs.refine_form.Frames.before_stack setting statics h.at st.store
       ++ filled_to setting statics N (stack_words setting statics h.at u f [])) alone
-      ∙ ap (λ z. Rattle.refine_form.specs.Frames.before_stack setting statics h.at st.store ++ z) zeros
-      ∙ ap (λ o. L (unwrap_or o Rattle.roopl_semantics.specs.Layout.no_placing)) (sym h.placed)
+      ∙ ap (λ z. Rattle.method_calls.specs.refine_form.Frames.before_stack setting statics h.at st.store ++ z) zeros
+      ∙ ap (λ o. L (unwrap_or o Rattle.method_calls.specs.roopl_semantics.Layout.no_placing)) (sym h.placed)
 
-  -- ---- what is put by
+  -- ---- what is saved
 
   pub get_in : (xs ys : List ℕ) (y : ℕ) → slice_index (xs ++ (y ∷ ys)) (length xs) ≡ y
   get_in [] ys y = refl
@@ -324,10 +333,11 @@ module _ (setting : Setting) (statics : List ℕ) where
   set_in (x ∷ xs) ys y z = ap (λ l. x ∷ l) (set_in xs ys y z)
 
   -- the memory, split at the frame
-  module _ (at : Placing) (store : Rattle.roopl_semantics.specs.Store.Store) (u : Under) (frame : List Binding)
+  module _ (at : Placing) (store : Rattle.method_calls.specs.roopl_semantics.Store.Store) (u : Under)
+      (frame : List Binding)
       (vals : List Value) (o : ℕ) (more : List ℕ) where
     abbrev low : List ℕ
-    low = Rattle.refine_form.specs.Frames.before_stack setting statics at store
+    low = Rattle.method_calls.specs.refine_form.Frames.before_stack setting statics at store
         ++ callers_words setting statics at u.callers
 
     abbrev high : List ℕ
@@ -342,7 +352,7 @@ module _ (setting : Setting) (statics : List ℕ) where
     pub split : (l p : ℕ) → u.put_by ≡ l ∷ o ∷ p ∷ more → memory setting statics at store
         (stack_words setting statics at u frame vals) ≡ low ++ (l ∷ o ∷ p ∷ top)
     split l p e =
-        let b = Rattle.refine_form.specs.Frames.before_stack setting statics at store in
+        let b = Rattle.method_calls.specs.refine_form.Frames.before_stack setting statics at store in
         let a = callers_words setting statics at u.callers in
         let lf : 3 + length (more ++ value_words setting statics at (values_of setting statics frame))
         ≡ suc (suc (suc (length (more ++ value_words setting statics at (values_of setting statics frame))))) =
@@ -362,8 +372,8 @@ module _ (setting : Setting) (statics : List ℕ) where
 
   module _ (s : Scope) (u : Under) (vals : List Value) (st : State) (cells : List ℕ)
       (h : OpenFrame setting statics s u vals st cells) (l o p : ℕ) (more : List ℕ) (e : u.put_by ≡ l ∷ o ∷ p ∷ more)
-      (long : length (Rattle.refine_form.specs.Frames.before_stack setting statics h.at st.store)
-      ≡ Rattle.refine_form.specs.Frames.stack_base setting statics) where
+      (long : length (Rattle.method_calls.specs.refine_form.Frames.before_stack setting statics h.at st.store)
+      ≡ Rattle.method_calls.specs.refine_form.Frames.stack_base setting statics) where
     abbrev under_it : List ℕ
     under_it = low h.at st.store u st.frame vals o more
 
@@ -371,10 +381,10 @@ module _ (setting : Setting) (statics : List ℕ) where
     over_it = top h.at st.store u st.frame vals o more
 
     pub place_is : length under_it ≡ frame_at u
-    place_is = length-append (Rattle.refine_form.specs.Frames.before_stack setting statics h.at st.store)
+    place_is = length-append (Rattle.method_calls.specs.refine_form.Frames.before_stack setting statics h.at st.store)
         (callers_words setting statics h.at u.callers) ∙ ap
         (λ k. k + length (callers_words setting statics h.at u.callers)) long
-        ∙ ap (λ k. Rattle.refine_form.specs.Frames.stack_base setting statics + k)
+        ∙ ap (λ k. Rattle.method_calls.specs.refine_form.Frames.stack_base setting statics + k)
         (length_callers h.at st.store u.callers h.callers_stand)
 
     place_two : length (under_it ++ (l ∷ o ∷ [])) ≡ frame_at u + PLACE_WORD
@@ -407,7 +417,7 @@ module _ (setting : Setting) (statics : List ℕ) where
         ∙ ap (slice_index ((under_it ++ (l ∷ [])) ++ (o ∷ p ∷ over_it))) (sym place_one)
         ∙ get_in (under_it ++ (l ∷ [])) (p ∷ over_it) o
 
-    -- another object is put by
+    -- another object is saved
     abbrev pub put_object : (o' : ℕ) → OpenFrame setting statics s (record u { put_by = l ∷ o' ∷ p ∷ more }) vals st
         (slice_set cells (frame_at u + OBJECT_WORD) o')
     put_object o' =
@@ -435,7 +445,7 @@ module _ (setting : Setting) (statics : List ℕ) where
           above_fits = h.above_fits;
         }
 
-    -- another link and another place are put by
+    -- another link and another place are saved
     pub put_opens : (l' p' : ℕ) → OpenFrame setting statics s (record u { put_by = l' ∷ o ∷ p' ∷ more }) vals st
         (slice_set (slice_set cells (frame_at u) l') (frame_at u + PLACE_WORD) p')
     put_opens l' p' =

@@ -1,24 +1,24 @@
--- What is kept stays so where a value moves up into the frame above, and back.
+-- What is kept stays so if a value moves up into the frame above, and back.
 use Rattle.std.proofs.Common.{◌≡◌, ℕ, ◌+◌, ◌<◌, Bool, true, false, List, [], ◌∷◌, map, Some, refl, sym, ap, ◌∙◌, arith}
 use Rattle.std.proofs.lemmas.Bool.{ltb-true, ltb-false}
 use Rattle.std.specs.Prelude.{nat_lt, is_some}
-use Rattle.class_table.specs.declared.kind.Kind.TheVariants as kind
-use Rattle.rpp_tree.specs.declared.tree.Ident.{Ident}
-use Rattle.class_table.specs.declared.kind.Kind.{Kind}
-use Rattle.roopl_semantics.specs.Store.{Value, Word, Nil, Name, Store, State, main_name, is_zero, cleared}
-use Rattle.roopl_semantics.specs.Value.{Cell, Slot, Part, read, written}
-use Rattle.roopl_semantics.specs.Execution.{Setting}
-use Rattle.roopl_semantics.specs.Laws.{one_if_name}
-use Rattle.meaning_sound.specs.Sound.{named_fits, head_named, is_live, fits, held, local_type, value_of, cell_kind}
-use Rattle.meaning_sound.specs.Sound.{part_kind, Typed, count_named}
-use Rattle.refine_frame.specs.Open.{IsGrounded}
-use Rattle.meaning_sound.proofs.Lists.{fits_kept, all_kept}
-use Rattle.meaning_sound.proofs.Cells.{heads_written, counts_written, read_fits, typed_written, held_written}
-use Rattle.meaning_sound.proofs.Moves.{cleared_fits}
-use Rattle.meaning_sound.proofs.Objects.{all_live}
-use Rattle.refine_form.specs.Form.{Scope, Moved}
-use Rattle.refine_form.specs.Frames.{Caller, Under, cell_in}
-use Rattle.refine_form.specs.Stands.{shape_of, extra, setup, CallersFit, AllMoved, Kept}
+use Rattle.method_calls.specs.class_table.declared.kind.Kind.TheVariants as kind
+use Rattle.method_calls.specs.rpp_tree.declared.tree.Ident.{Ident}
+use Rattle.method_calls.specs.class_table.declared.kind.Kind.{Kind}
+use Rattle.method_calls.specs.roopl_semantics.Store.{Value, Word, Nil, Name, Store, State, main_name, is_zero, cleared}
+use Rattle.method_calls.specs.roopl_semantics.Value.{Cell, Slot, Part, read, written}
+use Rattle.method_calls.specs.roopl_semantics.Execution.{Setting}
+use Rattle.method_calls.specs.roopl_semantics.Laws.{one_if_name}
+use Rattle.method_calls.specs.meaning_sound.Sound.{named_fits, head_named, is_live, fits, held, local_type, value_of, cell_kind}
+use Rattle.method_calls.specs.meaning_sound.Sound.{part_kind, Typed, count_named}
+use Rattle.method_calls.specs.refine_frame.Open.{IsGrounded}
+use Rattle.method_calls.proofs.meaning_sound_laws.Lists.{fits_kept, all_kept}
+use Rattle.method_calls.proofs.meaning_sound_laws.Cells.{heads_written, counts_written, read_fits, typed_written, held_written}
+use Rattle.method_calls.proofs.meaning_sound_laws.Moves.{cleared_fits}
+use Rattle.method_calls.proofs.meaning_sound_laws.Objects.{all_live}
+use Rattle.method_calls.specs.refine_form.Form.{Scope, Moved}
+use Rattle.method_calls.specs.refine_form.Frames.{Caller, Under, cell_in}
+use Rattle.method_calls.specs.refine_form.Stands.{shape_of, extra, setup, CallersFit, AllMoved, Kept}
 
 cleared_none : (m : ℕ) (v : Value) → one_if_name m (cleared v) ≡ 0
 cleared_none m (Word w) = refl
@@ -36,7 +36,7 @@ CountsAre u moved st = (name count : ℕ) → count_named st.store name ≡ Some
     → count ≡ held name st + extra u moved name
 
 module _ (setting : Setting) (statics : List ℕ) where
-  -- ---- where heads stay, so do types
+  -- ---- if heads stay, so do types
 
   pub callers_stay : (store other : Store) → ((m : ℕ) → head_named other m ≡ head_named store m)
       → (callers : List Caller) → CallersFit setting statics store callers → CallersFit setting statics other callers

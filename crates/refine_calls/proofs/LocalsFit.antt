@@ -1,4 +1,4 @@
--- What blocks with a local variable need of an open frame, for a variable of any type.
+-- What blocks with a local variable need of a current frame, for a variable of any type.
 use Rattle.std.proofs.Common.{inl, inr, ◌≡◌, ℕ, suc, ◌+◌, ◌-◌, ◌^◌, ◌<◌, ◌≤◌, Bool, true, false, List, [], ◌∷◌, length}
 use Rattle.std.proofs.Common.{map, Option, Some, None, refl, sym, ap, ◌∙◌, subst, arith}
 use Rattle.std.proofs.lemmas.Bool.{eqb-true}
@@ -7,110 +7,113 @@ use Rattle.std.specs.Prelude.{Ok, Err}
 use Rattle.std.specs.Int.Bits.{xor_self}
 use Rattle.std.specs.Option.{unwrap_or, option_map}
 use Rattle.std.specs.Str.{bytes_eq}
-use Rattle.rpp_words.specs.declared.input.TheConstants.{FIXED_CELLS}
-use Rattle.code_conventions.specs.declared.memory.TheConstants.{FIRST_VARIABLE, MOST_VARIABLES}
-use Rattle.class_table.specs.declared.kind.Kind.TheVariants as kind
-use Rattle.rpp_words.proofs.Laws.{xor-twice}
-use Rattle.rpp_tree.specs.declared.tree.Var.{Var}
-use Rattle.rpp_tree.specs.Tree.{Expression, Number, Null, Variable, Element, Binary, Source, nodes}
-use Rattle.class_table.specs.declared.kind.Kind.{Kind}
-use Rattle.class_table.specs.Expressions.{occurs}
-use Rattle.paired_code.specs.Does.{Fine}
-use Rattle.roopl_semantics.specs.Run.{after_cost, given}
-use Rattle.roopl_semantics.specs.Store.{Value, Word, Nil, Name, Binding, State, main_name, number_of, same_value}
-use Rattle.roopl_semantics.specs.Value.{Slot, Part, variable_value, read, value, evaluated, element_of, element_cell}
-use Rattle.roopl_semantics.specs.Value.{read_cell, slot_or_field, combined}
-use Rattle.roopl_semantics.specs.Execution.{Setting, opened, closed}
-use Rattle.roopl_semantics.specs.Laws.{one_if_name}
-use Rattle.meaning_sound.specs.Sound.{fits, value_of, local_type, AllFit}
-use Rattle.class_table.specs.Inheritance.{kind_of_var}
-use Rattle.meaning_sound.proofs.Classes.{KnowsClasses}
-use Rattle.class_table.proofs.FirstPlaces.{position_cons}
-use Rattle.meaning_sound.proofs.Values.{ValueFits, int_value, value_fits, IsInt}
-use Rattle.refine_form.specs.Form.{World, Scope, with_var, told}
+use Rattle.buddy_pisa.specs.rpp_words.declared.input.TheConstants.{FIXED_CELLS}
+use Rattle.method_calls.specs.code_conventions.declared.memory.TheConstants.{FIRST_VARIABLE, MOST_VARIABLES}
+use Rattle.method_calls.specs.class_table.declared.kind.Kind.TheVariants as kind
+use Rattle.buddy_pisa.proofs.rpp_words_laws.Laws.{xor-twice}
+use Rattle.method_calls.specs.rpp_tree.declared.tree.Var.{Var}
+use Rattle.method_calls.specs.rpp_tree.Tree.{Expression, Number, Null, Variable, Element, Binary, Source, nodes}
+use Rattle.method_calls.specs.class_table.declared.kind.Kind.{Kind}
+use Rattle.method_calls.specs.class_table.Expressions.{occurs}
+use Rattle.buddy_pisa.specs.paired_code.Does.{Fine}
+use Rattle.method_calls.specs.roopl_semantics.Run.{after_cost, given}
+use Rattle.method_calls.specs.roopl_semantics.Store.{Value, Word, Nil, Name, Binding, State, main_name, number_of}
+use Rattle.method_calls.specs.roopl_semantics.Store.{same_value}
+use Rattle.method_calls.specs.roopl_semantics.Value.{Slot, Part, variable_value, read, value, evaluated, element_of}
+use Rattle.method_calls.specs.roopl_semantics.Value.{element_cell}
+use Rattle.method_calls.specs.roopl_semantics.Value.{read_cell, slot_or_field, combined}
+use Rattle.method_calls.specs.roopl_semantics.Execution.{Setting, opened, closed}
+use Rattle.method_calls.specs.roopl_semantics.Laws.{one_if_name}
+use Rattle.method_calls.specs.meaning_sound.Sound.{fits, value_of, local_type, AllFit}
+use Rattle.method_calls.specs.class_table.Inheritance.{kind_of_var}
+use Rattle.method_calls.proofs.meaning_sound_laws.Classes.{KnowsClasses}
+use Rattle.method_calls.proofs.class_table_laws.FirstPlaces.{position_cons}
+use Rattle.method_calls.proofs.meaning_sound_laws.Values.{ValueFits, int_value, value_fits, IsInt}
+use Rattle.method_calls.specs.refine_form.Form.{World, Scope, with_var, told}
 use Rattle.method_calls.specs.Facts.{LocalFacts, new_word}
-use Rattle.refine_form.specs.Frames.{Under, value_word, OpenFrame}
+use Rattle.method_calls.specs.refine_form.Frames.{Under, value_word, OpenFrame}
 use Rattle.refine_calls.proofs.SlotMoves.{new_set, new_clear}
-use Rattle.refine_form.specs.Stands.{shape_of, extra, Stands}
+use Rattle.method_calls.specs.refine_form.Stands.{shape_of, extra, Stands}
 use Rattle.method_calls.specs.Names.{IntInit}
 use Rattle.refine_calls.proofs.Bridge.{set_words, typed, callers_long, before_long, as_many_vars}
 use Rattle.refine_calls.proofs.MovesFit.{frame_address, frame_long, frame_read}
 use Rattle.refine_calls.proofs.FactsMoves.{same_means}
 use Rattle.refine_calls.proofs.FramePlaces.{frame_small}
-use Rattle.class_table.specs.Program.{IsAccepted}
-use Rattle.class_table.specs.Expressions.{is_int}
-use Rattle.buddy_book.specs.Place.{Placing}
-use Rattle.roopl_semantics.specs.Store.{Store}
-use Rattle.roopl_semantics.specs.Layout.{no_placing}
-use Rattle.refine_frame.proofs.Memory.{base_above}
-use Rattle.meaning_sound.proofs.Stores.{differs}
-use Rattle.meaning_sound.proofs.Values.{word_fits}
-use Rattle.refine_form.specs.Stands.{Reads, setup}
-use Rattle.refine_form.specs.Frames.{base}
-use Rattle.refine_form.specs.Worlds.{Place, world_of}
+use Rattle.method_calls.specs.class_table.Program.{IsAccepted}
+use Rattle.method_calls.specs.class_table.Expressions.{is_int}
+use Rattle.buddy_pisa.specs.buddy_book.Place.{Placing}
+use Rattle.method_calls.specs.roopl_semantics.Store.{Store}
+use Rattle.method_calls.specs.roopl_semantics.Layout.{no_placing}
+use Rattle.method_calls.proofs.refine_frame_laws.Memory.{base_above}
+use Rattle.method_calls.proofs.meaning_sound_laws.Stores.{differs}
+use Rattle.method_calls.proofs.meaning_sound_laws.Values.{word_fits}
+use Rattle.method_calls.specs.refine_form.Stands.{Reads, setup}
+use Rattle.method_calls.specs.refine_form.Frames.{base}
+use Rattle.method_calls.specs.refine_form.Worlds.{Place, world_of}
 use Rattle.method_calls.specs.Names.{IsNull, NilInit, IsInit}
 use Rattle.refine_calls.proofs.FactsFit.{known}
 use Rattle.refine_calls.proofs.SlotMoves.{new_free}
 use Rattle.refine_calls.proofs.Bridge.{reads_of}
-use Rattle.pisa_isa.specs.declared.image.TheConstants.{MOST_STATICS}
+use Rattle.buddy_pisa.specs.pisa_isa.declared.image.TheConstants.{MOST_STATICS}
 
 -- ---- a variable that does not occur is not read
 
 module _ (program : Source) (b : Binding) (frame : List Binding) (self depth : ℕ)
-    (store : Rattle.roopl_semantics.specs.Store.Store) (log : Rattle.buddy_book.specs.Place.Log) where
-  abbrev with_it : State
-  with_it = record { frame = b ∷ frame; self = self; depth = depth; store = store; log = log }
+    (store : Rattle.method_calls.specs.roopl_semantics.Store.Store) (log : Rattle.buddy_pisa.specs.buddy_book.Place.Log)
+  where
+    abbrev with_it : State
+    with_it = record { frame = b ∷ frame; self = self; depth = depth; store = store; log = log }
 
-  abbrev without_it : State
-  without_it = record { frame = frame; self = self; depth = depth; store = store; log = log }
+    abbrev without_it : State
+    without_it = record { frame = frame; self = self; depth = depth; store = store; log = log }
 
-  name_under : (name : List ℕ) → bytes_eq name b.name ≡ false
-      → variable_value program with_it name ≡ variable_value program without_it name
-  name_under name apart =
-      ap (λ r. read with_it (slot_or_field program with_it name r))
-      (position_cons (bytes_eq name) b.name (map (λ (x : Binding). x.name) frame) false apart)
-      ∙ by (position (bytes_eq name) (map (λ (x : Binding). x.name) frame))
-    where
-      by : (r : Option ℕ) → read with_it (slot_or_field program with_it name (option_map suc r))
-          ≡ read without_it (slot_or_field program without_it name r)
-      by (Some i) = refl
-      by None = refl
+    name_under : (name : List ℕ) → bytes_eq name b.name ≡ false
+        → variable_value program with_it name ≡ variable_value program without_it name
+    name_under name apart =
+        ap (λ r. read with_it (slot_or_field program with_it name r))
+        (position_cons (bytes_eq name) b.name (map (λ (x : Binding). x.name) frame) false apart)
+        ∙ by (position (bytes_eq name) (map (λ (x : Binding). x.name) frame))
+      where
+        by : (r : Option ℕ) → read with_it (slot_or_field program with_it name (option_map suc r))
+            ≡ read without_it (slot_or_field program without_it name r)
+        by (Some i) = refl
+        by None = refl
 
-  element_under : (v : Value) (i : ℕ) → read_cell with_it (element_cell with_it v i)
-      ≡ read_cell without_it (element_cell without_it v i)
-  element_under (Word w) i = refl
-  element_under Nil i = refl
-  element_under (Name n) i = by (Rattle.std.specs.Prelude.nat_lt i
-      (length (Rattle.roopl_semantics.specs.Store.object_at store n).cells))
-    where
-      by : (t : Bool) → read_cell with_it (Rattle.std.specs.Prelude.if◌then◌else◌ t (Ok (Part n i)) (Err 9))
-          ≡ read_cell without_it (Rattle.std.specs.Prelude.if◌then◌else◌ t (Ok (Part n i)) (Err 9))
-      by true = refl
-      by false = refl
+    element_under : (v : Value) (i : ℕ) → read_cell with_it (element_cell with_it v i)
+        ≡ read_cell without_it (element_cell without_it v i)
+    element_under (Word w) i = refl
+    element_under Nil i = refl
+    element_under (Name n) i = by (Rattle.std.specs.Prelude.nat_lt i
+        (length (Rattle.method_calls.specs.roopl_semantics.Store.object_at store n).cells))
+      where
+        by : (t : Bool) → read_cell with_it (Rattle.std.specs.Prelude.if◌then◌else◌ t (Ok (Part n i)) (Err 9))
+            ≡ read_cell without_it (Rattle.std.specs.Prelude.if◌then◌else◌ t (Ok (Part n i)) (Err 9))
+        by true = refl
+        by false = refl
 
-  neither : (x y : Bool) → (x || y) ≡ false → (x ≡ false) × (y ≡ false)
-  neither true y h = absurd (cc)
-  neither false y h = (refl, h)
+    neither : (x y : Bool) → (x || y) ≡ false → (x ≡ false) × (y ≡ false)
+    neither true y h = absurd (cc)
+    neither false y h = (refl, h)
 
-  pub value_under : (e : Expression) → occurs b.name e ≡ false → value program with_it e ≡ value program without_it e
-  value_under (Number at word) h = refl
-  value_under (Null at) h = refl
-  value_under (Variable name) h = ap (λ v. Ok v) (name_under name.text h)
-  value_under (Element name index) h =
-      let n = neither (bytes_eq name.text b.name) (occurs b.name index) h in
-      ap (λ r. read_cell with_it (element_of program with_it name.text r)) (value_under index n.1)
-      ∙ by n.0 (value program without_it index)
-    where
-      by : bytes_eq name.text b.name ≡ false → (r : Result Value ℕ)
-          → read_cell with_it (element_of program with_it name.text r)
-          ≡ read_cell without_it (element_of program without_it name.text r)
-      by a (Ok i) = ap (λ v. read_cell with_it (element_cell with_it v (number_of i))) (name_under name.text a)
-          ∙ element_under (variable_value program without_it name.text) (number_of i)
-      by a (Err f) = refl
-  value_under (Binary at o left right) h =
-      let n = neither (occurs b.name left) (occurs b.name right) h in
-      ap (λ x. combined o x (value program with_it right)) (value_under left n.0)
-      ∙ ap (combined o (value program without_it left)) (value_under right n.1)
+    pub value_under : (e : Expression) → occurs b.name e ≡ false → value program with_it e ≡ value program without_it e
+    value_under (Number at word) h = refl
+    value_under (Null at) h = refl
+    value_under (Variable name) h = ap (λ v. Ok v) (name_under name.text h)
+    value_under (Element name index) h =
+        let n = neither (bytes_eq name.text b.name) (occurs b.name index) h in
+        ap (λ r. read_cell with_it (element_of program with_it name.text r)) (value_under index n.1)
+        ∙ by n.0 (value program without_it index)
+      where
+        by : bytes_eq name.text b.name ≡ false → (r : Result Value ℕ)
+            → read_cell with_it (element_of program with_it name.text r)
+            ≡ read_cell without_it (element_of program without_it name.text r)
+        by a (Ok i) = ap (λ v. read_cell with_it (element_cell with_it v (number_of i))) (name_under name.text a)
+            ∙ element_under (variable_value program without_it name.text) (number_of i)
+        by a (Err f) = refl
+    value_under (Binary at o left right) h =
+        let n = neither (occurs b.name left) (occurs b.name right) h in
+        ap (λ x. combined o x (value program with_it right)) (value_under left n.0)
+        ∙ ap (combined o (value program without_it left)) (value_under right n.1)
 
 -- ---- ints
 
@@ -184,7 +187,7 @@ module _ (place : Place) (accepted : IsAccepted place.setting.program) (few : le
 
   placing_is : (s : Scope) (u : Under) (vals : List Value) (st : State) (cells : List ℕ)
       (f : OpenFrame setting statics s u vals st cells) → unwrap_or
-      (Rattle.buddy_book.specs.Place.place setting.limits.heap st.log) no_placing ≡ f.at
+      (Rattle.buddy_pisa.specs.buddy_book.Place.place setting.limits.heap st.log) no_placing ≡ f.at
   placing_is s u vals st cells f = ap (λ o. unwrap_or o no_placing) f.placed
 
   -- the value of a new variable: of its type, no name, a word
@@ -384,7 +387,7 @@ module _ (place : Place) (accepted : IsAccepted place.setting.program) (few : le
         tails : {a c : List ℕ} {xs ys : List (List ℕ)} → a ∷ xs ≡ c ∷ ys → xs ≡ ys
         tails e = cc
 
-    -- where the variable held no name, the counts are right without it
+    -- if the variable held no name, the counts are right without it
     pub counted : ((m : ℕ) → one_if_name m v ≡ 0) → Stands setting statics s u [] without
         (slice_set cells (word_place u s) 0)
     counted none = record {

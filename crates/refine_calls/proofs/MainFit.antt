@@ -1,47 +1,47 @@
--- What main needs of its open frame.
+-- What main needs of its current frame.
 use Rattle.std.proofs.Common.{◌≡◌, ℕ, zero, suc, ◌+◌, ◌-◌, ◌*◌, ◌^◌, ◌<◌, ◌≤◌, Bool, true, false, Some, None, List, []}
 use Rattle.std.proofs.Common.{◌∷◌, ◌++◌, length, map, refl, sym, ap, ◌∙◌, subst, arith}
 use Rattle.std.specs.Prelude.{replicate, slice_index, slice_set, nat_eq, if◌then◌else◌}
 use Rattle.std.specs.Option.{option_map}
 use Rattle.std.specs.List.{All}
-use Rattle.rpp_words.specs.declared.input.TheConstants.{FRAME_WORDS, FIXED_CELLS}
-use Rattle.code_conventions.specs.declared.memory.TheConstants.{FIRST_VARIABLE, HEADER_WORDS}
-use Rattle.rpp_words.specs.Words.{IsWord}
-use Rattle.refine_frame.proofs.Tells.{cells_small}
+use Rattle.buddy_pisa.specs.rpp_words.declared.input.TheConstants.{FRAME_WORDS, FIXED_CELLS}
+use Rattle.method_calls.specs.code_conventions.declared.memory.TheConstants.{FIRST_VARIABLE, HEADER_WORDS}
+use Rattle.buddy_pisa.specs.rpp_words.Words.{IsWord}
+use Rattle.method_calls.proofs.refine_frame_laws.Tells.{cells_small}
 use Rattle.refine_calls.proofs.Bridge.{set_words}
-use Rattle.rpp_words.specs.declared.input.FieldWord.{FieldWord}
-use Rattle.rpp_words.specs.declared.input.Limits.{Limits}
-use Rattle.rpp_tree.specs.declared.tree.Var.{Var}
-use Rattle.rpp_tree.specs.Tree.{Source}
-use Rattle.buddy_book.specs.Book.{start}
-use Rattle.pisa_isa.specs.Image.{Segments}
-use Rattle.pisa_isa.specs.Loaded.{loaded, statics_at, heap_base, fixed_cells, empty_heads, with_words}
-use Rattle.pisa_isa.specs.declared.image.TheConstants.{MOST_STATICS}
-use Rattle.roopl_semantics.specs.Store.{Head, OfClass, Binding, main_name}
-use Rattle.rpp_words.specs.Limits.{IsLimits}
-use Rattle.roopl_semantics.specs.Source.{IsValid, main_body, main_object, starting}
-use Rattle.class_table.specs.Classes.{main_of}
-use Rattle.roopl_semantics.specs.Layout.{HasStatics}
-use Rattle.roopl_semantics.specs.Execution.{Setting}
-use Rattle.meaning_sound.proofs.Starting.{starting_sound}
-use Rattle.roopl_semantics.proofs.Starting.{starts_loaded}
-use Rattle.refine_frame.proofs.Entering.{starting_grounded}
-use Rattle.refine_form.specs.Form.{Scope}
+use Rattle.buddy_pisa.specs.rpp_words.declared.input.FieldWord.{FieldWord}
+use Rattle.buddy_pisa.specs.rpp_words.declared.input.Limits.{Limits}
+use Rattle.method_calls.specs.rpp_tree.declared.tree.Var.{Var}
+use Rattle.method_calls.specs.rpp_tree.Tree.{Source}
+use Rattle.buddy_pisa.specs.buddy_book.Book.{start}
+use Rattle.buddy_pisa.specs.pisa_isa.Image.{Segments}
+use Rattle.buddy_pisa.specs.pisa_isa.Loaded.{loaded, statics_at, heap_base, fixed_cells, empty_heads, with_words}
+use Rattle.buddy_pisa.specs.pisa_isa.declared.image.TheConstants.{MOST_STATICS}
+use Rattle.method_calls.specs.roopl_semantics.Store.{Head, OfClass, Binding, main_name}
+use Rattle.buddy_pisa.specs.rpp_words.Limits.{IsLimits}
+use Rattle.method_calls.specs.roopl_semantics.Source.{IsValid, main_body, main_object, starting}
+use Rattle.method_calls.specs.class_table.Classes.{main_of}
+use Rattle.method_calls.specs.roopl_semantics.Layout.{HasStatics}
+use Rattle.method_calls.specs.roopl_semantics.Execution.{Setting}
+use Rattle.method_calls.proofs.meaning_sound_laws.Starting.{starting_sound}
+use Rattle.method_calls.proofs.roopl_semantics_laws.Starting.{starts_loaded}
+use Rattle.method_calls.proofs.refine_frame_laws.Entering.{starting_grounded}
+use Rattle.method_calls.specs.refine_form.Form.{Scope}
 use Rattle.method_calls.specs.Facts.{MainFacts}
-use Rattle.refine_form.specs.Frames.{Under, stack_words, before_stack, filled_to}
+use Rattle.method_calls.specs.refine_form.Frames.{Under, stack_words, before_stack, filled_to}
 use Rattle.refine_calls.proofs.FramesFit.{fill_more, base_is, ends}
-use Rattle.refine_form.specs.Stands.{Stands}
+use Rattle.method_calls.specs.refine_form.Stands.{Stands}
 use Rattle.refine_calls.proofs.MovesFit.{frame_long}
 use Rattle.refine_calls.proofs.FramePlaces.{all_small}
-use Rattle.class_table.specs.Program.{IsAccepted}
-use Rattle.roopl_semantics.proofs.MainPlace.{class_inside}
-use Rattle.buddy_book.specs.Place.{Placing}
-use Rattle.class_table.specs.Inheritance.{is_or_inherits}
-use Rattle.meaning_sound.specs.Sound.{AllFit, local_type, head_of, head_named}
-use Rattle.refine_frame.proofs.Memory.{base_above}
-use Rattle.refine_form.specs.Frames.{base}
-use Rattle.refine_form.specs.Stands.{local_of, setup, HasElements}
-use Rattle.refine_form.specs.Worlds.{Place, world_of}
+use Rattle.method_calls.specs.class_table.Program.{IsAccepted}
+use Rattle.method_calls.proofs.roopl_semantics_laws.MainPlace.{class_inside}
+use Rattle.buddy_pisa.specs.buddy_book.Place.{Placing}
+use Rattle.method_calls.specs.class_table.Inheritance.{is_or_inherits}
+use Rattle.method_calls.specs.meaning_sound.Sound.{AllFit, local_type, head_of, head_named}
+use Rattle.method_calls.proofs.refine_frame_laws.Memory.{base_above}
+use Rattle.method_calls.specs.refine_form.Frames.{base}
+use Rattle.method_calls.specs.refine_form.Stands.{local_of, setup, HasElements}
+use Rattle.method_calls.specs.refine_form.Worlds.{Place, world_of}
 use Rattle.refine_calls.specs.Laws.{OpensMain}
 use Rattle.refine_calls.proofs.Bridge.{reads_of}
 

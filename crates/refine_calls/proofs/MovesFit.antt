@@ -1,28 +1,32 @@
--- Reads and writes of any cell of an open frame, and values that move up into the frame above, and back.
+-- Reads and writes of any cell of a current frame, and values that move up into the frame above,
+-- and back.
 use Rattle.std.proofs.Common.{◌≡◌, ℕ, ◌+◌, ◌-◌, ◌*◌, ◌<◌, ◌≤◌, List, [], ◌∷◌, ◌++◌, length, map, Some, refl, sym, ap}
 use Rattle.std.proofs.Common.{◌∙◌, subst, arith, length-append}
 use Rattle.std.proofs.lemmas.List.{length-map, length-replicate}
 use Rattle.std.specs.Prelude.{replicate, slice_index, slice_set, is_some}
 use Rattle.std.specs.Option.{option_map}
-use Rattle.rpp_words.specs.declared.input.TheConstants.{FRAME_WORDS}
-use Rattle.code_conventions.specs.declared.memory.TheConstants.{FIRST_VARIABLE, HEADER_WORDS, MOST_VARIABLES}
-use Rattle.class_table.specs.declared.kind.Kind.{Kind}
-use Rattle.buddy_book.specs.Place.{Placing}
-use Rattle.roopl_semantics.specs.Store.{Value, OfClass, Store, Binding, State, object_at, class_of_head}
-use Rattle.roopl_semantics.specs.Value.{Cell, Slot, Part, read, written}
-use Rattle.roopl_semantics.specs.Execution.{Setting}
-use Rattle.meaning_sound.specs.Sound.{head_of, head_named, local_type, value_of, cell_kind}
-use Rattle.meaning_sound.proofs.Lists.{all_inside}
-use Rattle.meaning_sound.proofs.Stores.{live_object}
-use Rattle.meaning_sound.proofs.Cells.{heads_written}
-use Rattle.refine_form.specs.Form.{Scope, Moved}
-use Rattle.refine_form.specs.Frames.{Caller, Under, base, stack_base, address_of, value_word, values_of, frame_words}
-use Rattle.refine_form.specs.Frames.{callers_words, above_words, stack_words, memory, before_stack, StandsAt}
-use Rattle.refine_form.specs.Frames.{CallersStand, OpenFrame}
+use Rattle.buddy_pisa.specs.rpp_words.declared.input.TheConstants.{FRAME_WORDS}
+use Rattle.method_calls.specs.code_conventions.declared.memory.TheConstants.{FIRST_VARIABLE, HEADER_WORDS}
+use Rattle.method_calls.specs.code_conventions.declared.memory.TheConstants.{MOST_VARIABLES}
+use Rattle.method_calls.specs.class_table.declared.kind.Kind.{Kind}
+use Rattle.buddy_pisa.specs.buddy_book.Place.{Placing}
+use Rattle.method_calls.specs.roopl_semantics.Store.{Value, OfClass, Store, Binding, State, object_at, class_of_head}
+use Rattle.method_calls.specs.roopl_semantics.Value.{Cell, Slot, Part, read, written}
+use Rattle.method_calls.specs.roopl_semantics.Execution.{Setting}
+use Rattle.method_calls.specs.meaning_sound.Sound.{head_of, head_named, local_type, value_of, cell_kind}
+use Rattle.method_calls.proofs.meaning_sound_laws.Lists.{all_inside}
+use Rattle.method_calls.proofs.meaning_sound_laws.Stores.{live_object}
+use Rattle.method_calls.proofs.meaning_sound_laws.Cells.{heads_written}
+use Rattle.method_calls.specs.refine_form.Form.{Scope, Moved}
+use Rattle.method_calls.specs.refine_form.Frames.{Caller, Under, base, stack_base, address_of, value_word, values_of}
+use Rattle.method_calls.specs.refine_form.Frames.{frame_words}
+use Rattle.method_calls.specs.refine_form.Frames.{callers_words, above_words, stack_words, memory, before_stack}
+use Rattle.method_calls.specs.refine_form.Frames.{StandsAt}
+use Rattle.method_calls.specs.refine_form.Frames.{CallersStand, OpenFrame}
 use Rattle.refine_calls.proofs.FramesFit.{frame_at, fits_above}
 use Rattle.refine_calls.proofs.SlotMoves.{slot_set, slot_get, above_set, above_get, above_clear, above_zero_word, until}
 use Rattle.refine_calls.proofs.SlotMoves.{below, length_with, names_with}
-use Rattle.refine_form.specs.Stands.{shape_of, extra, moved_values, CallersFit, Reads}
+use Rattle.method_calls.specs.refine_form.Stands.{shape_of, extra, moved_values, CallersFit, Reads}
 use Rattle.refine_calls.proofs.Bridge.{stack_fits, callers_long, before_long, part_low, part_read, part_write}
 
 pub class_at : (store : Store) (n c : ℕ) → head_named store n ≡ Some (OfClass c)
@@ -36,7 +40,7 @@ module _ (setting : Setting) (statics : List ℕ) where
   abbrev pub frame_address : Under → ℕ
   frame_address u = frame_at setting statics u
 
-  -- the objects of open calls stand where they stood
+  -- the objects of active calls keep their addresses
   pub callers_on : (at : Placing) (store other : Store) → ((m : ℕ) → head_named other m ≡ head_named store m)
       → (callers : List Caller) → CallersFit setting statics store callers
       → CallersStand setting statics at store callers → CallersStand setting statics at other callers
@@ -48,7 +52,7 @@ module _ (setting : Setting) (statics : List ℕ) where
     callers_on at store other heads callers f.3 h.3,
   )
 
-  -- where a cell stands
+  -- the position of a cell
   abbrev pub place_of : Placing → Under → State → Cell → ℕ
   place_of at u st (Slot i) = frame_address u + (FIRST_VARIABLE + (length st.frame - 1 - i))
   place_of at u st (Part n i) = address_of setting statics at n + (HEADER_WORDS + i)
@@ -105,7 +109,7 @@ module _ (setting : Setting) (statics : List ℕ) where
     cell_inside (Part n i) k e = let l = frame_long in let p = part_low setting statics s u moved st cells h n i k e in
         omega (arith, l, p)
 
-    -- a cell of the frame or of an object stands below the words above the frame's variables
+    -- a cell of the frame or of an object is below the words above the frame's variables
     pub cell_low : (c : Cell) (k : Kind) → cell_kind setting.program (shape_of setting.program s) st.store c ≡ Some k
         → place_of at u st c < frame_address u + (FIRST_VARIABLE + length st.frame)
     cell_low (Slot i) k e = let t = slot_there i k e in omega (arith, t)
@@ -161,7 +165,8 @@ module _ (setting : Setting) (statics : List ℕ) where
         let same = frame_as c v in
         record {
           at = at;
-          placed = ap (λ l. Rattle.buddy_book.specs.Place.place setting.limits.heap l) same.2 ∙ h.frame.placed;
+          placed = ap (λ l. Rattle.buddy_pisa.specs.buddy_book.Place.place setting.limits.heap l) same.2
+              ∙ h.frame.placed;
           cells_are = cells_written c k v e;
           names_are = same.4 ∙ h.frame.names_are;
           self_is = same.0 ∙ h.frame.self_is;
@@ -173,7 +178,8 @@ module _ (setting : Setting) (statics : List ℕ) where
           put_long = h.frame.put_long;
           few = subst (λ n. n ≤ MOST_VARIABLES) (sym same.3) h.frame.few;
           few_vals = h.frame.few_vals;
-          above_fits = subst (λ d. Rattle.refine_form.specs.Frames.AboveFits setting statics vs d) (sym same.1)
+          above_fits = subst (λ d. Rattle.method_calls.specs.refine_form.Frames.AboveFits setting statics vs d)
+              (sym same.1)
               h.frame.above_fits;
         }
 

@@ -1,23 +1,23 @@
--- A frame with its arguments and its receiver taken is the open frame of the receiver's method, and
--- back: what is kept goes over.
+-- A frame with its arguments and its receiver taken is the current frame of the receiver's method,
+-- and back: what is kept goes over.
 use Rattle.std.proofs.Common.{◌≡◌, ◌≢◌, ℕ, ◌+◌, ◌<◌, Bool, true, false, List, [], ◌∷◌, length, map, Some, refl, sym, ap}
 use Rattle.std.proofs.Common.{◌∙◌, subst, arith}
 use Rattle.std.proofs.lemmas.Bool.{ltb-true, ltb-false}
 use Rattle.std.specs.Prelude.{replicate, nat_lt, if◌then◌else◌}
-use Rattle.class_table.specs.declared.kind.Kind.TheVariants as kind
-use Rattle.rpp_tree.specs.declared.tree.Ident.{Ident}
-use Rattle.class_table.specs.declared.kind.Kind.{Kind}
-use Rattle.roopl_semantics.specs.Store.{Value, Name, OfClass, State, main_name, object_at, class_of_head}
-use Rattle.roopl_semantics.specs.Execution.{Setting, bound}
-use Rattle.roopl_semantics.specs.Laws.{one_if_name, holders_among}
-use Rattle.meaning_sound.specs.Sound.{named_fits, head_named, is_live, AllFit, local_type, value_of, held, cell_kind}
-use Rattle.meaning_sound.proofs.Objects.{all_live}
-use Rattle.meaning_sound.proofs.Stores.{same_number, other_number}
-use Rattle.meaning_sound.proofs.Invocations.{types_of_params, bound_values}
-use Rattle.refine_form.specs.Form.{Scope, Moved, pairs}
-use Rattle.refine_form.specs.Frames.{Under, cell_in}
-use Rattle.refine_form.specs.Stands.{shape_of, extra, receiver_held, Kept}
-use Rattle.refine_form.specs.Worlds.{Place}
+use Rattle.method_calls.specs.class_table.declared.kind.Kind.TheVariants as kind
+use Rattle.method_calls.specs.rpp_tree.declared.tree.Ident.{Ident}
+use Rattle.method_calls.specs.class_table.declared.kind.Kind.{Kind}
+use Rattle.method_calls.specs.roopl_semantics.Store.{Value, Name, OfClass, State, main_name, object_at, class_of_head}
+use Rattle.method_calls.specs.roopl_semantics.Execution.{Setting, bound}
+use Rattle.method_calls.specs.roopl_semantics.Laws.{one_if_name, holders_among}
+use Rattle.method_calls.specs.meaning_sound.Sound.{named_fits, head_named, is_live, AllFit, local_type, value_of, held, cell_kind}
+use Rattle.method_calls.proofs.meaning_sound_laws.Objects.{all_live}
+use Rattle.method_calls.proofs.meaning_sound_laws.Stores.{same_number, other_number}
+use Rattle.method_calls.proofs.meaning_sound_laws.Invocations.{types_of_params, bound_values}
+use Rattle.method_calls.specs.refine_form.Form.{Scope, Moved, pairs}
+use Rattle.method_calls.specs.refine_form.Frames.{Under, cell_in}
+use Rattle.method_calls.specs.refine_form.Stands.{shape_of, extra, receiver_held, Kept}
+use Rattle.method_calls.specs.refine_form.Worlds.{Place}
 use Rattle.method_calls.specs.Names.{deeper_on}
 use Rattle.refine_calls.proofs.KeptMoves.{CountsAre}
 use Rattle.refine_calls.proofs.EntersFit.{pairs_values, HaveKinds, moved_types, types_moved}

@@ -1,38 +1,42 @@
--- What calls on the object of a variable need of open frames.
+-- What calls on the object of a variable need of current frames.
 use Rattle.std.proofs.Common.{◌≡◌, ◌≢◌, ℕ, zero, suc, ◌+◌, ◌^◌, ◌<◌, ◌≤◌, Bool, true, false, List, [], ◌∷◌, length, map}
 use Rattle.std.proofs.Common.{Option, Some, None, refl, sym, ap, ◌∙◌, subst, arith}
 use Rattle.std.proofs.lemmas.List.{length-map, length-set, get_or-set_other}
 use Rattle.std.specs.Prelude.{replicate, slice_index, slice_set, nat_eq, if◌then◌else◌}
 use Rattle.std.specs.Option.{unwrap_or, option_map}
-use Rattle.code_conventions.specs.declared.memory.TheConstants.{OBJECT_WORD}
-use Rattle.rpp_words.specs.declared.input.TheConstants.{FRAME_WORDS, FIXED_CELLS}
-use Rattle.class_table.specs.declared.kind.Kind.TheVariants as kind
-use Rattle.rpp_tree.specs.declared.tree.Ident.{Ident}
-use Rattle.rpp_tree.specs.declared.tree.Var.{Var}
-use Rattle.rpp_tree.specs.Tree.{Source}
-use Rattle.class_table.specs.declared.kind.Kind.{Kind}
-use Rattle.class_table.specs.Inheritance.{is_or_inherits}
-use Rattle.class_table.proofs.FoundMethods.{dispatched_method, own_range}
-use Rattle.buddy_book.specs.Place.{Placing, block_of, place as placing_of}
-use Rattle.pisa_isa.specs.Loaded.{statics_at}
-use Rattle.roopl_semantics.specs.Store.{Value, Word, Nil, Name, Head, OfClass, OfInts, OfObjects, Object, Store}
-use Rattle.roopl_semantics.specs.Store.{Binding, State, main_name, object_at, class_of_head, no_object, is_zero, is_nil}
-use Rattle.roopl_semantics.specs.Store.{number_of, cleared}
-use Rattle.roopl_semantics.specs.Value.{Cell, Slot, Part, read, written, with_value}
-use Rattle.roopl_semantics.specs.Layout.{no_placing}
-use Rattle.roopl_semantics.specs.Execution.{Setting, bound}
-use Rattle.meaning_sound.specs.Sound.{named_fits, head_named, fits, local_type, value_of, cell_kind}
-use Rattle.meaning_sound.proofs.Lists.{all_inside}
-use Rattle.meaning_sound.proofs.Stores.{other_number, changed_here}
-use Rattle.meaning_sound.proofs.Cells.{part_of, heads_written, read_fits, kind_stays, value_at_is, with_value_values}
-use Rattle.meaning_sound.proofs.Classes.{KnowsClasses}
-use Rattle.refine_frame.proofs.Memory.{base_above}
-use Rattle.refine_frame.proofs.Tells.{IsReference, reference_read, name_word as reference_word}
-use Rattle.refine_form.specs.Form.{Scope, Moved, Routines, pairs}
-use Rattle.refine_form.specs.Frames.{Under, base, stack_base, address_of, value_word, before_stack, cell_in}
-use Rattle.refine_form.specs.Frames.{OpenFrame}
-use Rattle.refine_form.specs.Stands.{shape_of, extra, moved_values, spot_in, setup, Kept, Reads, Stands}
-use Rattle.refine_form.specs.Worlds.{Place, world_of}
+use Rattle.method_calls.specs.code_conventions.declared.memory.TheConstants.{OBJECT_WORD}
+use Rattle.buddy_pisa.specs.rpp_words.declared.input.TheConstants.{FRAME_WORDS, FIXED_CELLS}
+use Rattle.method_calls.specs.class_table.declared.kind.Kind.TheVariants as kind
+use Rattle.method_calls.specs.rpp_tree.declared.tree.Ident.{Ident}
+use Rattle.method_calls.specs.rpp_tree.declared.tree.Var.{Var}
+use Rattle.method_calls.specs.rpp_tree.Tree.{Source}
+use Rattle.method_calls.specs.class_table.declared.kind.Kind.{Kind}
+use Rattle.method_calls.specs.class_table.Inheritance.{is_or_inherits}
+use Rattle.method_calls.proofs.class_table_laws.FoundMethods.{dispatched_method, own_range}
+use Rattle.buddy_pisa.specs.buddy_book.Place.{Placing, block_of, place as placing_of}
+use Rattle.buddy_pisa.specs.pisa_isa.Loaded.{statics_at}
+use Rattle.method_calls.specs.roopl_semantics.Store.{Value, Word, Nil, Name, Head, OfClass, OfInts, OfObjects, Object}
+use Rattle.method_calls.specs.roopl_semantics.Store.{Store}
+use Rattle.method_calls.specs.roopl_semantics.Store.{Binding, State, main_name, object_at, class_of_head, no_object}
+use Rattle.method_calls.specs.roopl_semantics.Store.{is_zero, is_nil}
+use Rattle.method_calls.specs.roopl_semantics.Store.{number_of, cleared}
+use Rattle.method_calls.specs.roopl_semantics.Value.{Cell, Slot, Part, read, written, with_value}
+use Rattle.method_calls.specs.roopl_semantics.Layout.{no_placing}
+use Rattle.method_calls.specs.roopl_semantics.Execution.{Setting, bound}
+use Rattle.method_calls.specs.meaning_sound.Sound.{named_fits, head_named, fits, local_type, value_of, cell_kind}
+use Rattle.method_calls.proofs.meaning_sound_laws.Lists.{all_inside}
+use Rattle.method_calls.proofs.meaning_sound_laws.Stores.{other_number, changed_here}
+use Rattle.method_calls.proofs.meaning_sound_laws.Cells.{part_of, heads_written, read_fits, kind_stays, value_at_is}
+use Rattle.method_calls.proofs.meaning_sound_laws.Cells.{with_value_values}
+use Rattle.method_calls.proofs.meaning_sound_laws.Classes.{KnowsClasses}
+use Rattle.method_calls.proofs.refine_frame_laws.Memory.{base_above}
+use Rattle.method_calls.proofs.refine_frame_laws.Tells.{IsReference, reference_read, name_word as reference_word}
+use Rattle.method_calls.specs.refine_form.Form.{Scope, Moved, Routines, pairs}
+use Rattle.method_calls.specs.refine_form.Frames.{Under, base, stack_base, address_of, value_word, before_stack}
+use Rattle.method_calls.specs.refine_form.Frames.{cell_in}
+use Rattle.method_calls.specs.refine_form.Frames.{OpenFrame}
+use Rattle.method_calls.specs.refine_form.Stands.{shape_of, extra, moved_values, spot_in, setup, Kept, Reads, Stands}
+use Rattle.method_calls.specs.refine_form.Worlds.{Place, world_of}
 use Rattle.method_calls.specs.Facts.{ReceiverWords, OnFacts, ReceiverFacts, GoesOn, ComesBack, HasPlace, address}
 use Rattle.method_calls.specs.Facts.{out_from}
 use Rattle.method_calls.specs.Names.{IsReceiver, IsVariable, class_named, class_found, slot_of, deeper, deeper_on}
@@ -87,7 +91,8 @@ set_get (x ∷ vs) zero v h = refl
 set_get (x ∷ vs) (suc i) v h = set_get vs i v (omega arith)
 
 -- the same object has the same class after the moves out
-pub out_heads : (setting : Setting) (shape : Rattle.class_table.specs.Scope.Locals) (cs : List Cell) (st : State)
+pub out_heads : (setting : Setting) (shape : Rattle.method_calls.specs.class_table.Scope.Locals) (cs : List Cell)
+    (st : State)
     (m : ℕ) → head_named (out_from cs st).store m ≡ head_named st.store m
 out_heads setting shape [] st m = refl
 out_heads setting shape (c ∷ cs) st m = heads_written setting (λ n. 0) shape 0 (out_from cs st) c
@@ -125,7 +130,7 @@ module _ (place : Place) (routine : ℕ → Ident → ℕ) (linked : IsLinked pl
   abbrev own_of : State → ℕ → ℕ
   own_of st n = class_of_head (object_at st.store n).head
 
-  -- the present object stands at no 0
+  -- the address of the current object is not 0
   pub positive : (s : Scope) (u : Under) (moved : List Moved) (st : State) (cells : List ℕ)
       → Stands setting statics s u moved st cells → 0 < u.object
   positive s u moved st cells h = subst (λ o. 0 < o) h.frame.stands.1 (by (nat_eq u.self main_name))
@@ -247,11 +252,12 @@ module _ (place : Place) (routine : ℕ → Ident → ℕ) (linked : IsLinked pl
       k = kind.Class r.class
 
       by : (c : Cell) → cell_kind program (shape_of program s) (written st c v).store c ≡ Some k
-          → Rattle.meaning_sound.specs.Sound.AllFit program (written st c v).store
+          → Rattle.method_calls.specs.meaning_sound.Sound.AllFit program (written st c v).store
           (map local_type (shape_of program s)) (map value_of (written st c v).frame)
-          → ((m : ℕ) (object : Object) → Rattle.roopl_semantics.specs.Store.object_named (written st c v).store m
-          ≡ Some object → Rattle.meaning_sound.specs.Sound.AllFit program (written st c v).store
-          (Rattle.meaning_sound.specs.Sound.cell_kinds program object.head) object.cells)
+          → ((m : ℕ) (object : Object) → Rattle.method_calls.specs.roopl_semantics.Store.object_named
+          (written st c v).store m
+          ≡ Some object → Rattle.method_calls.specs.meaning_sound.Sound.AllFit program (written st c v).store
+          (Rattle.method_calls.specs.meaning_sound.Sound.cell_kinds program object.head) object.cells)
           → read (written st c v) c ≡ v
       by (Slot i) e variables objects =
           let l = all_inside program (written st (Slot i) v).store (map local_type (shape_of program s))
@@ -267,9 +273,10 @@ module _ (place : Place) (routine : ℕ → Ident → ℕ) (linked : IsLinked pl
           let f : Object → Object = λ o. record o { cells = slice_set o.cells i v } in
           let p = part_of program st.store n i k (sym (kind_stays setting (λ m. 0) (shape_of program s) 0 st (Part n i)
           v (Part n i)) ∙ e) in
-          let there : Rattle.roopl_semantics.specs.Store.object_named st1.store n ≡ Some (f p.object) =
+          let there : Rattle.method_calls.specs.roopl_semantics.Store.object_named st1.store n ≡ Some (f p.object) =
           changed_here st.store n f ∙ ap (option_map f) p.named in
-          let l = all_inside program st1.store (Rattle.meaning_sound.specs.Sound.cell_kinds program p.object.head)
+          let l = all_inside program st1.store (Rattle.method_calls.specs.meaning_sound.Sound.cell_kinds program
+          p.object.head)
           (slice_set p.object.cells i v) i k (objects n (f p.object) there) p.kind_is in
           let d : length (slice_set p.object.cells i v) ≡ length p.object.cells = length-set p.object.cells i v in
           ap (λ o. unwrap_or (Rattle.std.specs.Prelude.slice_get (unwrap_or o no_object).cells i) Nil) there
@@ -308,7 +315,8 @@ module _ (place : Place) (routine : ℕ → Ident → ℕ) (linked : IsLinked pl
     heads1 : (m : ℕ) → head_named st1.store m ≡ head_named st.store m
     heads1 m = heads_written setting (extra u moved1) (shape_of program s) s.class st c1 (cleared (read st c1)) m
 
-    abbrev t1 : Rattle.meaning_sound.specs.Sound.Typed setting (extra u moved1) (shape_of program s) s.class st
+    abbrev t1 : Rattle.method_calls.specs.meaning_sound.Sound.Typed setting (extra u moved1) (shape_of program s)
+        s.class st
     t1 = typed setting statics s u moved1 st cells (reads_of h)
 
     kept1 : Kept setting statics s u (taken place x n ∷ moved1) st1
@@ -435,7 +443,7 @@ module _ (place : Place) (routine : ℕ → Ident → ℕ) (linked : IsLinked pl
           object_word_small;
     }
 
-    abbrev callee_at : List Var → ℕ → Rattle.buddy_book.specs.Place.Log → State
+    abbrev callee_at : List Var → ℕ → Rattle.buddy_pisa.specs.buddy_book.Place.Log → State
     callee_at params depth log = record {
       frame = bound params vals;
       self = n;
@@ -444,7 +452,7 @@ module _ (place : Place) (routine : ℕ → Ident → ℕ) (linked : IsLinked pl
       log = log;
     }
 
-    abbrev Opens : List Var → ℕ → Rattle.buddy_book.specs.Place.Log → Type 0
+    abbrev Opens : List Var → ℕ → Rattle.buddy_pisa.specs.buddy_book.Place.Log → Type 0
     Opens params depth log = Stands setting statics s1 (deeper_on place s u st1 n) [] (callee_at params depth log)
         cells2
 
@@ -679,7 +687,8 @@ module _ (place : Place) (routine : ℕ → Ident → ℕ) (linked : IsLinked pl
       word2_small = let l = Rattle.refine_calls.proofs.FramePlaces.object_small setting statics linked.few s2 on2 [] end
           cells o in omega (arith, l)
 
-      abbrev typed_home : Rattle.meaning_sound.specs.Sound.Typed setting (extra u back2) (shape_of program s) s.class
+      abbrev typed_home : Rattle.method_calls.specs.meaning_sound.Sound.Typed setting (extra u back2)
+          (shape_of program s) s.class
           home2
       typed_home = typed_by setting statics s u back2 home2 kept_home values2 cells3 home_frame
 
@@ -716,7 +725,7 @@ module _ (place : Place) (routine : ℕ → Ident → ℕ) (linked : IsLinked pl
         back = came;
       }
 
-  -- the callee's place stands in the table of the receiver's class
+  -- the callee's code address is in the table of the receiver's class
   pub place_on : (s : Scope) (u : Under) (st end : State) (cells : List ℕ) (x name : Ident) (args : List Ident) (n : ℕ)
       → Stands setting statics (scope_on st n name) (deeper_on place s u st n) [] end cells
       → (r : IsReceiver program s x name args) → is_or_inherits program (own_of st n) (class_named program s x) ≡ true

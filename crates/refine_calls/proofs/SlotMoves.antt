@@ -1,17 +1,17 @@
--- The words of variables and of the frame above, in the memory of an open frame.
+-- The words of variables and of the frame above, in the memory of a current frame.
 use Rattle.std.proofs.Common.{◌≡◌, ◌≢◌, ℕ, zero, suc, ◌+◌, ◌-◌, ◌*◌, ◌<◌, ◌≤◌, true, false, List, [], ◌∷◌, ◌++◌, length}
-use Rattle.std.proofs.Common.{map, replicate, refl, sym, ap, ◌∙◌, subst, arith, append-nil, append_assoc, length-append}
+use Rattle.std.proofs.Common.{map, replicate, refl, sym, ap, ◌∙◌, arith, append-nil, append_assoc, length-append}
 use Rattle.std.specs.Prelude.{slice_index, slice_set}
 use Rattle.std.proofs.lemmas.Bool.Decides.{nat_tests}
 use Rattle.std.proofs.lemmas.List.{replicate-append-replicate}
-use Rattle.code_conventions.specs.declared.memory.TheConstants.{FIRST_VARIABLE, MOST_VARIABLES}
-use Rattle.rpp_words.specs.declared.input.TheConstants.{FRAME_WORDS}
-use Rattle.buddy_book.specs.Place.{Placing}
-use Rattle.roopl_semantics.specs.Store.{Value, Word, Nil, Name, Binding, Store, is_zero, cleared}
-use Rattle.roopl_semantics.specs.Value.{with_value, value_at}
-use Rattle.roopl_semantics.specs.Execution.{Setting}
-use Rattle.refine_form.specs.Frames.{Caller, Under, base, stack_base, value_word, values_of, value_words}
-use Rattle.refine_form.specs.Frames.{frame_words, callers_words, above_words, stack_words, memory, before_stack}
+use Rattle.method_calls.specs.code_conventions.declared.memory.TheConstants.{FIRST_VARIABLE, MOST_VARIABLES}
+use Rattle.buddy_pisa.specs.rpp_words.declared.input.TheConstants.{FRAME_WORDS}
+use Rattle.buddy_pisa.specs.buddy_book.Place.{Placing}
+use Rattle.method_calls.specs.roopl_semantics.Store.{Value, Word, Nil, Name, Binding, Store, is_zero, cleared}
+use Rattle.method_calls.specs.roopl_semantics.Value.{with_value, value_at}
+use Rattle.method_calls.specs.roopl_semantics.Execution.{Setting}
+use Rattle.method_calls.specs.refine_form.Frames.{Caller, Under, base, stack_base, value_word, values_of, value_words}
+use Rattle.method_calls.specs.refine_form.Frames.{frame_words, callers_words, above_words, stack_words, memory, before_stack}
 use Rattle.refine_calls.proofs.FramesFit.{frame_at, length_values, length_map, length_frame}
 
 -- ---- lists
@@ -95,7 +95,7 @@ module _ (setting : Setting) (statics : List ℕ) (at : Placing) where
   names_with (b ∷ frame) zero v = refl
   names_with (b ∷ frame) (suc i) v = ap (λ l. b.name ∷ l) (names_with frame i v)
 
-  -- ---- the memory, split behind what is put by
+  -- ---- the memory, split after what is stored above the frame
 
   module _ (store : Store) (callers : List Caller) (put_by : List ℕ) (put_long : length put_by ≡ FIRST_VARIABLE)
       (long_callers : length (callers_words setting statics at callers) ≡ FRAME_WORDS * length callers)
@@ -107,7 +107,7 @@ module _ (setting : Setting) (statics : List ℕ) (at : Placing) where
       abbrev pub below : List ℕ
       below = (before_stack setting statics at store ++ callers_words setting statics at callers) ++ put_by
 
-      -- behind the variables of a frame of so many
+      -- after the variables of a frame of so many
       abbrev pub behind : ℕ → List ℕ
       behind n = replicate (FRAME_WORDS - (FIRST_VARIABLE + n)) 0 ++ (above_words setting statics at vals
           ++ replicate (N - (FRAME_WORDS * length callers + (FRAME_WORDS + length
@@ -305,15 +305,6 @@ module _ (setting : Setting) (statics : List ℕ) (at : Placing) where
         z)
         ∙ sym (free_above vals few room)
 
-    pub above_in : (vals : List Value) → length vals < 32 → FRAME_WORDS * length callers + 1024 ≤ M
-        → length until + (FIRST_VARIABLE + length vals) < length (memory setting statics at store (with_above vals))
-    above_in vals few room =
-        let m = long_moved vals in
-        let l = length-append until (moved_words vals ++ (0 ∷ replicate (left vals) 0)) in
-        let l2 = length-append (moved_words vals) (0 ∷ replicate (left vals) 0) in
-        subst (λ c. length until + (FIRST_VARIABLE + length vals) < length c) (sym (free_above vals few room))
-        (omega (arith, l, l2, m))
-
 -- ---- words of values
 
 module _ (setting : Setting) (statics : List ℕ) where
@@ -397,15 +388,6 @@ module _ (setting : Setting) (statics : List ℕ) (at : Placing) (store : Store)
       (value_words setting statics at vs ++ (0 ∷ rest_part)) new_place (length frame) new_is
       ∙ get_right (value_words setting statics at vs) (0 ∷ rest_part) (length frame) 0
       (let l = long_vs in omega (arith, l))
-
-  pub new_get : (b : Binding) → slice_index (memory setting statics at store
-      (stack_words setting statics at u (b ∷ frame) [])) new_place ≡ value_word setting statics at b.value
-  new_get b =
-      ap (λ c. slice_index c new_place) (with_split b) ∙ get_right low_part
-      (value_words setting statics at vs ++ (value_word setting statics at b.value ∷ rest_part)) new_place
-      (length frame) new_is
-      ∙ get_right (value_words setting statics at vs) (value_word setting statics at b.value ∷ rest_part) (length frame)
-      0 (let l = long_vs in omega (arith, l))
 
   pub new_clear : (b : Binding) → slice_set (memory setting statics at store
       (stack_words setting statics at u (b ∷ frame) [])) new_place 0

@@ -1,13 +1,13 @@
 -- The laws in the form of their statements.
 use Rattle.std.proofs.Common.{◌≤◌, length, subst, arith}
-use Rattle.roopl_semantics.proofs.MainPlace.{class_inside}
+use Rattle.method_calls.proofs.roopl_semantics_laws.MainPlace.{class_inside}
 use Rattle.refine_calls.specs.Laws.{FramesAreOpen, ReceiversAreOpen, LocalsAreOpen, MainIsOpen}
 use Rattle.refine_calls.proofs.FactsFit.{frame_facts}
 use Rattle.refine_calls.proofs.ReceiversFit.{receiver_facts}
 use Rattle.refine_calls.proofs.LocalsFit.{local_facts}
 use Rattle.refine_calls.proofs.MainFit.{main_opens}
 use Rattle.refine_calls.proofs.StaticsWords.{statics_words}
-use Rattle.pisa_isa.specs.declared.image.TheConstants.{MOST_STATICS}
+use Rattle.buddy_pisa.specs.pisa_isa.declared.image.TheConstants.{MOST_STATICS}
 
 pub frames_are_open : FramesAreOpen
 frames_are_open place routine linked = frame_facts place routine linked

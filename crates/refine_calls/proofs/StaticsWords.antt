@@ -4,15 +4,15 @@ use Rattle.std.proofs.Common.{arith, length-append, refl}
 use Rattle.std.proofs.lemmas.List.{length-replicate}
 use Rattle.std.specs.Prelude.{replicate, slice_set}
 use Rattle.std.specs.List.{All}
-use Rattle.code_conventions.specs.declared.memory.TheConstants.{HEADER_WORDS, COUNT_WORD}
-use Rattle.code_conventions.specs.Header.{header}
-use Rattle.rpp_tree.specs.Tree.{Source}
-use Rattle.pisa_isa.specs.Image.{Segments}
-use Rattle.pisa_isa.specs.declared.image.TheConstants.{MOST_STATICS}
-use Rattle.class_table.specs.Classes.{main_of}
-use Rattle.roopl_semantics.specs.Source.{main_fields}
-use Rattle.roopl_semantics.specs.Layout.{HasStatics, table_at, main_statics, tables}
-use Rattle.refine_frame.proofs.TableWords.{table_place, table_offset}
+use Rattle.method_calls.specs.code_conventions.declared.memory.TheConstants.{HEADER_WORDS, COUNT_WORD}
+use Rattle.method_calls.specs.code_conventions.Header.{header}
+use Rattle.method_calls.specs.rpp_tree.Tree.{Source}
+use Rattle.buddy_pisa.specs.pisa_isa.Image.{Segments}
+use Rattle.buddy_pisa.specs.pisa_isa.declared.image.TheConstants.{MOST_STATICS}
+use Rattle.method_calls.specs.class_table.Classes.{main_of}
+use Rattle.method_calls.specs.roopl_semantics.Source.{main_fields}
+use Rattle.method_calls.specs.roopl_semantics.Layout.{HasStatics, table_at, main_statics, tables}
+use Rattle.method_calls.proofs.refine_frame_laws.TableWords.{table_place, table_offset}
 use Rattle.refine_calls.proofs.Bridge.{set_words}
 use Rattle.refine_calls.proofs.MainFit.{AllWords, words_append, words_cons, no_words, zero_words}
 
@@ -41,7 +41,7 @@ offset_low number (p ∷ places) zero = omega arith
 offset_low number (p ∷ places) (suc class) = let r = offset_low (number + 1) places class in let a =
     length-append p (tables (number + 1) places) in omega (arith, r, a)
 
--- a header's words are 0 but for its head and its count
+-- a header's words are 0 except for its head and its reference count
 pub header_is : (head count : ℕ)
     → header head count ≡ slice_set (slice_set (replicate HEADER_WORDS 0) 0 head) COUNT_WORD count
 header_is head count = refl

@@ -1,31 +1,31 @@
--- The open frames of an image have what the laws of calls, of blocks with a local variable and of
--- `main` take as premises.
+-- The current frames of an image have what the laws of calls, of blocks with a local variable and
+-- of `main` take as premises.
 use Rattle.std.specs.Prelude.{◌≡◌, ℕ, ◌+◌, ◌^◌, ◌<◌, ◌≤◌, true, List, [], length, slice_get}
 use Rattle.std.specs.Prelude.{slice_index, Some}
 use Rattle.std.specs.Option.{unwrap_or}
-use Rattle.rpp_words.specs.Limits.{IsLimits}
-use Rattle.rpp_words.specs.declared.input.FieldWord.{FieldWord}
-use Rattle.rpp_tree.specs.declared.tree.Ident.{Ident}
-use Rattle.rpp_tree.specs.Tree.{Source}
-use Rattle.class_table.specs.Classes.{method_named, main_of}
-use Rattle.class_table.specs.Table.{table_of, slot_in}
-use Rattle.class_table.specs.Inheritance.{is_or_inherits}
-use Rattle.class_table.specs.Program.{IsAccepted}
-use Rattle.paired_code.specs.declared.part.Symbol.{Symbol}
-use Rattle.paired_code.specs.Machine.{Image}
-use Rattle.paired_code.specs.Layout.{Routine, Tidy}
+use Rattle.buddy_pisa.specs.rpp_words.Limits.{IsLimits}
+use Rattle.buddy_pisa.specs.rpp_words.declared.input.FieldWord.{FieldWord}
+use Rattle.method_calls.specs.rpp_tree.declared.tree.Ident.{Ident}
+use Rattle.method_calls.specs.rpp_tree.Tree.{Source}
+use Rattle.method_calls.specs.class_table.Classes.{method_named, main_of}
+use Rattle.method_calls.specs.class_table.Table.{table_of, slot_in}
+use Rattle.method_calls.specs.class_table.Inheritance.{is_or_inherits}
+use Rattle.method_calls.specs.class_table.Program.{IsAccepted}
+use Rattle.buddy_pisa.specs.paired_code.declared.part.Symbol.{Symbol}
+use Rattle.buddy_pisa.specs.paired_code.Machine.{Image}
+use Rattle.buddy_pisa.specs.paired_code.Layout.{Routine, Tidy}
 use Rattle.buddy_pisa.specs.Promise.{AllocatorLaw}
-use Rattle.pisa_isa.specs.Image.{Segments}
-use Rattle.pisa_isa.specs.declared.image.TheConstants.{MOST_STATICS}
-use Rattle.roopl_semantics.specs.Layout.{HasStatics}
-use Rattle.roopl_semantics.specs.Source.{IsValid, main_body}
-use Rattle.refine_form.specs.Form.{Routines}
-use Rattle.refine_form.specs.Worlds.{Place, world_of}
+use Rattle.buddy_pisa.specs.pisa_isa.Image.{Segments}
+use Rattle.buddy_pisa.specs.pisa_isa.declared.image.TheConstants.{MOST_STATICS}
+use Rattle.method_calls.specs.roopl_semantics.Layout.{HasStatics}
+use Rattle.method_calls.specs.roopl_semantics.Source.{IsValid, main_body}
+use Rattle.method_calls.specs.refine_form.Form.{Routines}
+use Rattle.method_calls.specs.refine_form.Worlds.{Place, world_of}
 use Rattle.method_calls.specs.Facts.{FrameFacts, ReceiverFacts, LocalFacts, MainFacts}
 use Rattle.method_calls.specs.Names.{known_of, receivers_of, IsInit}
 
 -- The routine of a method in a class runs the method that the class has for the name, in the scope
--- of the class that the method is written in, and its place stands in the method's slot of the
+-- of the class that the method is written in. Its code address is in the method's slot of the
 -- class.
 pub record Route (program : Source) (places : List (List ℕ)) (routines : Routines)
     (routine : ℕ → Ident → ℕ) (own slot : ℕ) (name : Ident) : Type 0 where
@@ -45,9 +45,9 @@ pub record HasAllocator (im : Image) : Type 0 where
   pub law : AllocatorLaw body
   pub routine : Routine im 0 top body
 
--- The static cells of a place are those of an image of its accepted program, its routines stand in
--- its code, and its class tables lead to them: for each class, and each slot that the class or one
--- that it inherits from has for a name.
+-- The static cells of a code address are those of an image of its accepted program, and its
+-- routines are in its code. Its class tables lead to them: for each class, and each slot that the
+-- class or one that it inherits from has for a name.
 pub record IsLinked (place : Place) (routine : ℕ → Ident → ℕ) : Type 0 where
   pub accepted : IsAccepted place.setting.program
   pub image : Segments
@@ -64,13 +64,13 @@ pub record IsLinked (place : Place) (routine : ℕ → Ident → ℕ) : Type 0 w
   pub tidy : Tidy place.im
   pub allocator : HasAllocator place.im
 
--- an open frame has what calls take as premises
+-- a current frame has what calls take as premises
 abbrev pub FramesAreOpen : Type 0
 FramesAreOpen =
     (place : Place) (routine : ℕ → Ident → ℕ) → IsLinked place routine
     → FrameFacts (world_of place) (known_of place routine)
 
--- and what calls on the object of a variable take beside
+-- and what calls on the object of a variable assume in addition
 abbrev pub ReceiversAreOpen : Type 0
 ReceiversAreOpen =
     (place : Place) (routine : ℕ → Ident → ℕ) → IsLinked place routine
@@ -87,8 +87,8 @@ pub record OpensMain (place : Place) (input : List FieldWord) (main : ℕ) : Typ
   pub facts : MainFacts (world_of place) place.statics input
   pub routine_is : facts.main ≡ main
 
--- where a routine is the one of `main`, the loaded memory is its open frame, and where that ends,
--- it is the layout
+-- if a routine is the one of `main`, the loaded memory is its current frame, and if that ends, it
+-- is the layout
 abbrev pub MainIsOpen : Type 0
 MainIsOpen =
     (place : Place) (image : Segments) (input : List FieldWord) (main : ℕ)

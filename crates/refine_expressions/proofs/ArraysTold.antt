@@ -1,26 +1,26 @@
--- Two arrays that an expression reads are one exactly where their words are the same.
+-- Two arrays that an expression reads are one exactly if their words are the same.
 use Rattle.std.proofs.Common.{◌≡◌, ℕ, ◌≤◌, false, List, [], length, Some, refl, sym, ap, ◌∙◌, arith}
 use Rattle.std.specs.Prelude.{nat_eq, Ok}
-use Rattle.rpp_tree.specs.declared.tree.Ident.{Ident}
-use Rattle.rpp_tree.specs.Tree.{Expression, Number, Null, Variable, Element, Binary, Lvalue, Whole, Item}
-use Rattle.class_table.specs.declared.kind.Kind.{Kind}
-use Rattle.class_table.specs.declared.kind.Kind.TheVariants as kind
-use Rattle.class_table.specs.Expressions.{is_int, element_kind, variable_type, type_of, place_type}
-use Rattle.roopl_semantics.specs.Store.{Value, Word, Nil, Name, State, same_value}
-use Rattle.roopl_semantics.specs.Value.{cell_named, variable_value}
-use Rattle.roopl_semantics.specs.Execution.{Setting}
-use Rattle.meaning_sound.proofs.Classes.{KnowsClasses}
-use Rattle.meaning_sound.proofs.Stores.{other_number}
-use Rattle.refine_frame.proofs.Tells.{IsRef, name_word, words_tell, reference_cell}
-use Rattle.refine_form.specs.Form.{Scope}
-use Rattle.refine_form.specs.Frames.{Under, value_word}
-use Rattle.refine_form.specs.Stands.{shape_of, extra, setup, Reads}
-use Rattle.register_expressions.specs.Number.{index_of}
+use Rattle.refine_calls.specs.rpp_tree.declared.tree.Ident.{Ident}
+use Rattle.refine_calls.specs.rpp_tree.Tree.{Expression, Number, Null, Variable, Element, Binary, Lvalue, Whole, Item}
+use Rattle.refine_calls.specs.class_table.declared.kind.Kind.{Kind}
+use Rattle.refine_calls.specs.class_table.declared.kind.Kind.TheVariants as kind
+use Rattle.refine_calls.specs.class_table.Expressions.{is_int, element_kind, variable_type, type_of, place_type}
+use Rattle.refine_calls.specs.roopl_semantics.Store.{Value, Word, Nil, Name, State, same_value}
+use Rattle.refine_calls.specs.roopl_semantics.Value.{cell_named, variable_value}
+use Rattle.refine_calls.specs.roopl_semantics.Execution.{Setting}
+use Rattle.refine_calls.proofs.meaning_sound_laws.Classes.{KnowsClasses}
+use Rattle.refine_calls.proofs.meaning_sound_laws.Stores.{other_number}
+use Rattle.expr_uncompute.proofs.refine_frame_laws.Tells.{IsRef, name_word, words_tell, reference_cell}
+use Rattle.refine_calls.specs.refine_form.Form.{Scope}
+use Rattle.refine_calls.specs.refine_form.Frames.{Under, value_word}
+use Rattle.refine_calls.specs.refine_form.Stands.{shape_of, extra, setup, Reads}
+use Rattle.expr_uncompute.specs.register_expressions.Number.{index_of}
 use Rattle.expr_uncompute.specs.Means.{shown, TellsArrays, TellsShares}
 use Rattle.refine_expressions.specs.Typing.{spot_in}
 use Rattle.refine_expressions.proofs.WordsRead.{named_has}
 use Rattle.refine_expressions.proofs.ExpressionsRead.{A, L, B, T, t0, shown_ref, element_parts, binary_parts}
-use Rattle.pisa_isa.specs.declared.image.TheConstants.{MOST_STATICS}
+use Rattle.refine_calls.specs.pisa_isa.declared.image.TheConstants.{MOST_STATICS}
 
 no_int : (array k : Kind) → element_kind array ≡ Some k → is_int array ≡ false
 no_int kind.Int k e = absurd (cc)
@@ -89,7 +89,7 @@ module _ (setting : Setting) (statics : List ℕ) (few : length statics ≤ MOST
   HasKind e = (k : Kind) × (type_of (T setting statics few classes s u st cells h) (shape_of setting.program s) e
       ≡ Ok k)
 
-  -- the index of a place, nil where it is no element
+  -- the index of a place, nil if it is no element
   pub index_typed : (target : Lvalue) (k : Kind) → place_type (T setting statics few classes s u st cells h)
       (shape_of setting.program s) target ≡ Ok k → HasKind (index_of target)
   index_typed (Whole name) k t = (kind.Nil, refl)

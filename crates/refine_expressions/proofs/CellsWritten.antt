@@ -1,17 +1,17 @@
--- A write of a value of the cell's type keeps an open frame that expressions are read from,
+-- A write of a value of the cell's type keeps a current frame that expressions are read from,
 -- whatever its counts.
 use Rattle.std.proofs.Common.{◌≡◌, ℕ, ◌+◌, ◌^◌, ◌<◌, true, List, [], Some, arith}
 use Rattle.std.specs.Prelude.{slice_set}
-use Rattle.class_table.specs.declared.kind.Kind.{Kind}
-use Rattle.roopl_semantics.specs.Store.{Value, State, main_name}
-use Rattle.roopl_semantics.specs.Value.{Cell, read, written}
-use Rattle.roopl_semantics.specs.Laws.{one_if_name}
-use Rattle.roopl_semantics.specs.Execution.{Setting}
-use Rattle.meaning_sound.specs.Sound.{fits, held, cell_kind}
-use Rattle.meaning_sound.proofs.Cells.{held_written}
-use Rattle.refine_form.specs.Form.{Scope}
-use Rattle.refine_form.specs.Frames.{Under, value_word}
-use Rattle.refine_form.specs.Stands.{shape_of, extra, Reads}
+use Rattle.refine_calls.specs.class_table.declared.kind.Kind.{Kind}
+use Rattle.refine_calls.specs.roopl_semantics.Store.{Value, State, main_name}
+use Rattle.refine_calls.specs.roopl_semantics.Value.{Cell, read, written}
+use Rattle.refine_calls.specs.roopl_semantics.Laws.{one_if_name}
+use Rattle.refine_calls.specs.roopl_semantics.Execution.{Setting}
+use Rattle.refine_calls.specs.meaning_sound.Sound.{fits, held, cell_kind}
+use Rattle.refine_calls.proofs.meaning_sound_laws.Cells.{held_written}
+use Rattle.refine_calls.specs.refine_form.Form.{Scope}
+use Rattle.refine_calls.specs.refine_form.Frames.{Under, value_word}
+use Rattle.refine_calls.specs.refine_form.Stands.{shape_of, extra, Reads}
 use Rattle.refine_calls.proofs.Bridge.{set_words, typed}
 use Rattle.refine_calls.proofs.MovesFit.{place_of, frame_write}
 use Rattle.refine_calls.proofs.KeptMoves.{kept_unheld}

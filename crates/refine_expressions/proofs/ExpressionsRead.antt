@@ -1,37 +1,37 @@
--- Every typed expression reads what stands in the memory of an open frame, with its values' words.
+-- Every typed expression reads what is in the memory of a current frame, with its values' words.
 use Rattle.std.proofs.Common.{◌≡◌, ℕ, ◌+◌, ◌≤◌, Bool, true, false, List, [], length, Some, refl, sym, ap, ◌∙◌, subst}
 use Rattle.std.proofs.Common.{arith}
 use Rattle.std.proofs.lemmas.Bool.{eqb-true}
 use Rattle.std.proofs.lemmas.Bool.Decides.{nat_tests}
 use Rattle.std.specs.Prelude.{nat_eq, ◌&&◌, slice_index, if◌then◌else◌, Result, Ok, Err}
-use Rattle.rpp_tree.specs.declared.tree.Ident.{Ident}
-use Rattle.rpp_tree.specs.declared.tree.BinOp.{BinOp}
-use Rattle.rpp_tree.specs.Tree.{Expression, Number, Null, Variable, Element, Binary, Lvalue, Whole, Item}
-use Rattle.class_table.specs.declared.kind.Kind.{Kind}
-use Rattle.class_table.specs.declared.kind.Kind.TheVariants as kind
-use Rattle.class_table.specs.Refusal.{type_differs, refused_operator}
-use Rattle.class_table.specs.Expressions.{is_int, element_kind, variable_type, type_of, element_of as element_type}
-use Rattle.class_table.specs.Expressions.{index_is_int, first_token, is_comparison, is_refused, operands_fit, compares}
-use Rattle.class_table.specs.Expressions.{place_type}
-use Rattle.class_table.proofs.PassedRules.{handed_on, both_true, int_kind, some_of}
-use Rattle.buddy_book.specs.Place.{block_of}
-use Rattle.pisa_isa.specs.Loaded.{statics_at}
-use Rattle.pisa_isa.specs.declared.image.TheConstants.{MOST_STATICS}
-use Rattle.roopl_semantics.specs.Store.{Value, Word, Nil, Name, State, main_name, object_at, number_of}
-use Rattle.roopl_semantics.specs.Value.{variable_value, value, cell_named}
-use Rattle.roopl_semantics.specs.Execution.{Setting}
-use Rattle.meaning_sound.specs.Sound.{fits}
-use Rattle.meaning_sound.specs.Plain.{HasWords, PlaceHasWords}
-use Rattle.meaning_sound.proofs.Classes.{KnowsClasses}
-use Rattle.meaning_sound.proofs.Stores.{other_number}
-use Rattle.meaning_sound.proofs.Cells.{read_fits}
-use Rattle.meaning_sound.proofs.Values.{ValueFits, int_value, value_fits}
-use Rattle.refine_frame.proofs.Tells.{cells_small, IsRef, words_tell}
-use Rattle.refine_frame.proofs.ExpressionWords.{both_or_none, value_refers}
-use Rattle.refine_form.specs.Form.{Scope}
-use Rattle.refine_form.specs.Frames.{Under, base, value_word}
-use Rattle.refine_form.specs.Stands.{shape_of, extra, setup, Reads}
-use Rattle.register_expressions.specs.Number.{Bases, word_of, IsArray, Sees, read_of}
+use Rattle.refine_calls.specs.rpp_tree.declared.tree.Ident.{Ident}
+use Rattle.refine_calls.specs.rpp_tree.declared.tree.BinOp.{BinOp}
+use Rattle.refine_calls.specs.rpp_tree.Tree.{Expression, Number, Null, Variable, Element, Binary, Lvalue, Whole, Item}
+use Rattle.refine_calls.specs.class_table.declared.kind.Kind.{Kind}
+use Rattle.refine_calls.specs.class_table.declared.kind.Kind.TheVariants as kind
+use Rattle.refine_calls.specs.class_table.Refusal.{type_differs, refused_operator}
+use Rattle.refine_calls.specs.class_table.Expressions.{is_int, element_kind, variable_type, type_of, element_of as element_type}
+use Rattle.refine_calls.specs.class_table.Expressions.{index_is_int, first_token, is_comparison, is_refused, operands_fit, compares}
+use Rattle.refine_calls.specs.class_table.Expressions.{place_type}
+use Rattle.refine_calls.proofs.class_table_laws.PassedRules.{handed_on, both_true, int_kind, some_of}
+use Rattle.refine_calls.specs.buddy_book.Place.{block_of}
+use Rattle.refine_calls.specs.pisa_isa.Loaded.{statics_at}
+use Rattle.refine_calls.specs.pisa_isa.declared.image.TheConstants.{MOST_STATICS}
+use Rattle.refine_calls.specs.roopl_semantics.Store.{Value, Word, Nil, Name, State, main_name, object_at, number_of}
+use Rattle.refine_calls.specs.roopl_semantics.Value.{variable_value, value, cell_named}
+use Rattle.refine_calls.specs.roopl_semantics.Execution.{Setting}
+use Rattle.refine_calls.specs.meaning_sound.Sound.{fits}
+use Rattle.refine_calls.specs.meaning_sound.Plain.{HasWords, PlaceHasWords}
+use Rattle.refine_calls.proofs.meaning_sound_laws.Classes.{KnowsClasses}
+use Rattle.refine_calls.proofs.meaning_sound_laws.Stores.{other_number}
+use Rattle.refine_calls.proofs.meaning_sound_laws.Cells.{read_fits}
+use Rattle.refine_calls.proofs.meaning_sound_laws.Values.{ValueFits, int_value, value_fits}
+use Rattle.expr_uncompute.proofs.refine_frame_laws.Tells.{cells_small, IsRef, words_tell}
+use Rattle.expr_uncompute.proofs.refine_frame_laws.ExpressionWords.{both_or_none, value_refers}
+use Rattle.refine_calls.specs.refine_form.Form.{Scope}
+use Rattle.refine_calls.specs.refine_form.Frames.{Under, base, value_word}
+use Rattle.refine_calls.specs.refine_form.Stands.{shape_of, extra, setup, Reads}
+use Rattle.expr_uncompute.specs.register_expressions.Number.{Bases, word_of, IsArray, Sees, read_of}
 use Rattle.expr_uncompute.specs.Means.{is_equation, shown, AreOperands, words as both_words, compared, OperandsOf}
 use Rattle.expr_uncompute.specs.Means.{IsInt, StandsArray, Means, MeansPlace}
 use Rattle.refine_expressions.specs.Typing.{spot_in, free_in}
@@ -53,19 +53,19 @@ module _ (setting : Setting) (statics : List ℕ) (few : length statics ≤ MOST
   abbrev pub L : ℕ → ℕ
   L = slots_at setting statics classes s u st cells h
 
-  abbrev pub P : Rattle.rpp_tree.specs.Tree.Source
+  abbrev pub P : Rattle.refine_calls.specs.rpp_tree.Tree.Source
   P = setting.program
 
-  abbrev pub T : Rattle.class_table.specs.Scope.Typing
+  abbrev pub T : Rattle.refine_calls.specs.class_table.Scope.Typing
   T = typing setting statics classes s u st cells h
 
-  abbrev pub S : Rattle.class_table.specs.Scope.Locals
+  abbrev pub S : Rattle.refine_calls.specs.class_table.Scope.Locals
   S = shape_of P s
 
   abbrev pub low : ℕ
   low = frame_address setting statics u + free_in P s
 
-  abbrev pub t0 : Rattle.meaning_sound.specs.Sound.Typed setting (extra u []) S s.class st
+  abbrev pub t0 : Rattle.refine_calls.specs.meaning_sound.Sound.Typed setting (extra u []) S s.class st
   t0 = typed setting statics s u [] st cells h
 
   -- the parts of an element

@@ -1,22 +1,22 @@
--- The words of an open frame with no values above it: what its cells hold, and the free words
--- behind its variables.
+-- The words of a current frame with no values above it: what its cells hold, and the free words
+-- after its variables.
 use Rattle.std.proofs.Common.{◌≡◌, ℕ, ◌+◌, ◌-◌, ◌*◌, ◌<◌, ◌≤◌, List, [], ◌++◌, length, sym, ap, ◌∙◌, subst, arith}
 use Rattle.std.proofs.Common.{length-append}
 use Rattle.std.proofs.lemmas.List.{get_or-replicate, length-replicate, length-map}
 use Rattle.std.specs.Prelude.{replicate, slice_index, Some}
-use Rattle.code_conventions.specs.declared.memory.TheConstants.{FIRST_VARIABLE}
-use Rattle.rpp_words.specs.declared.input.TheConstants.{FRAME_WORDS}
-use Rattle.class_table.specs.declared.kind.Kind.{Kind}
-use Rattle.buddy_book.specs.Place.{Placing}
-use Rattle.roopl_semantics.specs.Store.{Binding, State}
-use Rattle.roopl_semantics.specs.Value.{Cell, read}
-use Rattle.roopl_semantics.specs.Execution.{Setting}
-use Rattle.meaning_sound.specs.Sound.{cell_kind}
-use Rattle.refine_frame.specs.Open as open_frame
-use Rattle.refine_form.specs.Form.{Scope}
-use Rattle.refine_form.specs.Frames.{Under, stack_base, address_of, value_word, values_of, value_words}
-use Rattle.refine_form.specs.Frames.{callers_words, stack_words, before_stack}
-use Rattle.refine_form.specs.Stands.{shape_of, setup, Reads}
+use Rattle.refine_calls.specs.code_conventions.declared.memory.TheConstants.{FIRST_VARIABLE}
+use Rattle.refine_calls.specs.rpp_words.declared.input.TheConstants.{FRAME_WORDS}
+use Rattle.refine_calls.specs.class_table.declared.kind.Kind.{Kind}
+use Rattle.refine_calls.specs.buddy_book.Place.{Placing}
+use Rattle.refine_calls.specs.roopl_semantics.Store.{Binding, State}
+use Rattle.refine_calls.specs.roopl_semantics.Value.{Cell, read}
+use Rattle.refine_calls.specs.roopl_semantics.Execution.{Setting}
+use Rattle.refine_calls.specs.meaning_sound.Sound.{cell_kind}
+use Rattle.expr_uncompute.specs.refine_frame.Open as open_frame
+use Rattle.refine_calls.specs.refine_form.Form.{Scope}
+use Rattle.refine_calls.specs.refine_form.Frames.{Under, stack_base, address_of, value_word, values_of, value_words}
+use Rattle.refine_calls.specs.refine_form.Frames.{callers_words, stack_words, before_stack}
+use Rattle.refine_calls.specs.refine_form.Stands.{shape_of, setup, Reads}
 use Rattle.refine_calls.proofs.FramesFit.{length_values}
 use Rattle.refine_calls.proofs.SlotMoves.{below, behind, split, get_left, get_right}
 use Rattle.refine_calls.proofs.Bridge.{same_at, same_memory, as_many_vars, callers_long, before_long, stack_fits}
@@ -34,7 +34,7 @@ module _ (setting : Setting) (statics : List ℕ) (s : Scope) (u : Under) (st : 
       ≡ value_word setting statics a (read st c)) (sym (same_at setting statics s u [] st cells h))
       (frame_read setting statics s u [] st cells h c k has)
 
-  -- a cell stands below the free words
+  -- a cell is below the free words
   pub cell_low : (c : Cell) (k : Kind) → cell_kind setting.program (shape_of setting.program s) st.store c ≡ Some k
       → place_of setting statics at u st c < frame_address setting statics u + (FIRST_VARIABLE + length s.vars)
   cell_low c k has =
@@ -49,13 +49,13 @@ module _ (setting : Setting) (statics : List ℕ) (s : Scope) (u : Under) (st : 
   pub in_cells : frame_address setting statics u + FRAME_WORDS ≤ length cells
   in_cells = let l = all_cells in let d = h.frame.depth_is in let i = h.frame.in_depth in omega (arith, l, d, i)
 
-  -- the present object
+  -- the current object
   pub object_is : u.object ≡ address_of setting statics at st.self
   object_is =
       sym h.frame.stands.1 ∙ ap (address_of setting statics h.frame.at) (sym h.frame.self_is)
       ∙ ap (λ (a : Placing). address_of setting statics a st.self) (sym (same_at setting statics s u [] st cells h))
 
-  -- the memory, in the form of one open frame
+  -- the memory, in the form of one current frame
   pub memory_is : cells ≡ open_frame.memory (setup setting statics) at st.store
       (stack_words setting statics at u st.frame [])
   memory_is =
@@ -88,7 +88,7 @@ module _ (setting : Setting) (statics : List ℕ) (s : Scope) (u : Under) (st : 
   long_own = length_values setting statics h.frame.at (values_of setting statics st.frame)
       ∙ length-map st.frame (λ (b : Binding). b.value)
 
-  -- the words behind the variables are free
+  -- the words after the variables are free
   pub free_words : (a : ℕ) → frame_address setting statics u + (FIRST_VARIABLE + length s.vars) ≤ a
       → a < frame_address setting statics u + FRAME_WORDS → slice_index cells a ≡ 0
   free_words a lo hi =

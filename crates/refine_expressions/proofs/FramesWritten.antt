@@ -1,25 +1,25 @@
--- Open frames before and after a write: where cells stand, what they hold, and the memory after the
--- write.
+-- Current frames before and after a write: the addresses of cells, what they hold, and the memory
+-- after the write.
 use Rattle.std.proofs.Common.{◌≡◌, ℕ, ◌+◌, ◌-◌, List, [], length, Some, refl, sym, ap, ◌∙◌, arith}
 use Rattle.std.specs.Prelude.{slice_index, Ok}
 use Rattle.std.specs.Option.{unwrap_or}
-use Rattle.code_conventions.specs.declared.memory.TheConstants.{FIRST_VARIABLE, HEADER_WORDS}
-use Rattle.pisa_isa.specs.Machine.{Memory}
-use Rattle.rpp_tree.specs.Tree.{Lvalue, Source}
-use Rattle.class_table.specs.declared.kind.Kind.{Kind}
-use Rattle.class_table.specs.Expressions.{place_type}
-use Rattle.buddy_book.specs.Place.{place}
-use Rattle.roopl_semantics.specs.Store.{Value, State}
-use Rattle.roopl_semantics.specs.Value.{Cell, Slot, Part, read, written, cell_of}
-use Rattle.roopl_semantics.specs.Layout.{no_placing}
-use Rattle.meaning_sound.specs.Sound.{cell_kind}
-use Rattle.meaning_sound.proofs.Classes.{KnowsClasses}
-use Rattle.meaning_sound.proofs.Values.{cell_found, place_fits}
-use Rattle.refine_form.specs.Form.{Scope, Open, registers}
-use Rattle.refine_form.specs.Frames.{Under, address_of, value_word}
-use Rattle.refine_form.specs.Stands.{shape_of, extra, Reads}
-use Rattle.refine_form.specs.Worlds.{Place, world_of}
-use Rattle.refine_form.proofs.Rules.{as_known}
+use Rattle.refine_calls.specs.code_conventions.declared.memory.TheConstants.{FIRST_VARIABLE, HEADER_WORDS}
+use Rattle.refine_calls.specs.pisa_isa.Machine.{Memory}
+use Rattle.refine_calls.specs.rpp_tree.Tree.{Lvalue, Source}
+use Rattle.refine_calls.specs.class_table.declared.kind.Kind.{Kind}
+use Rattle.refine_calls.specs.class_table.Expressions.{place_type}
+use Rattle.refine_calls.specs.buddy_book.Place.{place}
+use Rattle.refine_calls.specs.roopl_semantics.Store.{Value, State}
+use Rattle.refine_calls.specs.roopl_semantics.Value.{Cell, Slot, Part, read, written, cell_of}
+use Rattle.refine_calls.specs.roopl_semantics.Layout.{no_placing}
+use Rattle.refine_calls.specs.meaning_sound.Sound.{cell_kind}
+use Rattle.refine_calls.proofs.meaning_sound_laws.Classes.{KnowsClasses}
+use Rattle.refine_calls.proofs.meaning_sound_laws.Values.{cell_found, place_fits}
+use Rattle.refine_calls.specs.refine_form.Form.{Scope, Open, registers}
+use Rattle.refine_calls.specs.refine_form.Frames.{Under, address_of, value_word}
+use Rattle.refine_calls.specs.refine_form.Stands.{shape_of, extra, Reads}
+use Rattle.refine_calls.specs.refine_form.Worlds.{Place, world_of}
+use Rattle.refine_calls.proofs.refine_form_laws.Rules.{as_known}
 use Rattle.meaning_inverse.proofs.Known.{Context}
 use Rattle.meaning_inverse.proofs.Cells.{length_with}
 use Rattle.refine_calls.proofs.Bridge.{typed}
@@ -32,7 +32,7 @@ module _ (p : Place) (classes : KnowsClasses p.setting.program) (s : Scope) (u :
   abbrev pub P : Source
   P = p.setting.program
 
-  -- where objects and variables stand in a state
+  -- the addresses of objects and variables in a state
   abbrev pub A : State → ℕ → ℕ
   A st n = address_of p.setting p.statics (unwrap_or (place p.setting.limits.heap st.log) no_placing) n
 

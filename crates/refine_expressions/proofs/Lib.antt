@@ -1,3 +1,11 @@
+pub use Rattle.refine_calls.proofs.class_table_laws
+pub use Rattle.refine_calls.proofs.stmt_inverter_laws
+pub use Rattle.refine_calls.proofs.meaning_sound_laws
+pub use Rattle.meaning_inverse.proofs as meaning_inverse_laws
+pub use Rattle.refine_calls.proofs.paired_code_laws
+pub use Rattle.refine_calls.proofs.refine_form_laws
+pub use Rattle.expr_uncompute.proofs as expr_uncompute_laws
+pub use Rattle.refine_calls.proofs as refine_calls_laws
 pub mod Names
 pub mod FrameReads
 pub mod WordsRead

@@ -1,13 +1,13 @@
--- Where names of a scope stand, by their places among the variables and the fields.
+-- The storage slots of names in a scope, by their positions among the variables and the fields.
 use Rattle.std.proofs.Common.{◌≡◌, ℕ, suc, ◌+◌, ◌-◌, Bool, true, false, List, [], ◌∷◌, length, map, Option, Some, None}
 use Rattle.std.proofs.Common.{refl, sym, ap, ◌∙◌, arith}
 use Rattle.std.specs.Prelude.{position, if◌then◌else◌}
 use Rattle.std.specs.Option.{option_map}
 use Rattle.std.specs.Str.{bytes_eq}
-use Rattle.code_conventions.specs.declared.memory.TheConstants.{FIRST_VARIABLE}
-use Rattle.rpp_tree.specs.declared.tree.Var.{Var}
-use Rattle.class_table.proofs.FirstPlaces.{position_cons, bytes_turned}
-use Rattle.code_scope.specs.Visible.{word_named}
+use Rattle.refine_calls.specs.code_conventions.declared.memory.TheConstants.{FIRST_VARIABLE}
+use Rattle.refine_calls.specs.rpp_tree.declared.tree.Var.{Var}
+use Rattle.refine_calls.proofs.class_table_laws.FirstPlaces.{position_cons, bytes_turned}
+use Rattle.expr_uncompute.specs.code_scope.Visible.{word_named}
 
 abbrev pub var_name : Var → List ℕ
 var_name var = var.name.text

@@ -1,6 +1,6 @@
 -- What an expression reads the same in two states, in the form that code of expressions asks for.
-use Rattle.rpp_tree.specs.Tree.{Expression, Number, Null, Variable, Element, Binary, Lvalue, Whole, Item, Source}
-use Rattle.roopl_semantics.specs.Store.{State}
+use Rattle.refine_calls.specs.rpp_tree.Tree.{Expression, Number, Null, Variable, Element, Binary, Lvalue, Whole, Item, Source}
+use Rattle.refine_calls.specs.roopl_semantics.Store.{State}
 use Rattle.meaning_inverse.proofs.Steady.{SameReads, SamePlace, value_same, place_same}
 use Rattle.expr_uncompute.specs.Means.{SameValues, SameCells}
 

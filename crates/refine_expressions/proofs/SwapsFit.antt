@@ -1,34 +1,34 @@
--- The code of a swap has the law of a statement over open frames.
+-- The code of a swap has the law of a statement over current frames.
 use Rattle.std.proofs.Common.{◌≡◌, ℕ, suc, ◌+◌, ◌^◌, ◌<◌, ◌≤◌, true, false, List, [], ◌++◌, length, Some, sym, ap, ◌∙◌}
 use Rattle.std.proofs.Common.{subst, arith}
 use Rattle.std.specs.Prelude.{slice_index, slice_set, Ok}
-use Rattle.rpp_tree.specs.Tree.{Lvalue, Swap, Source}
-use Rattle.class_table.specs.declared.kind.Kind.{Kind}
-use Rattle.class_table.specs.Expressions.{place_type}
-use Rattle.buddy_book.specs.Place.{Placing}
-use Rattle.pisa_isa.specs.Machine.{Memory}
-use Rattle.pisa_isa.specs.declared.image.TheConstants.{MOST_STATICS}
-use Rattle.paired_code.specs.declared.part.Symbol.{Symbol}
-use Rattle.roopl_semantics.specs.Store.{Value, State, Word, main_name}
-use Rattle.roopl_semantics.specs.Value.{Cell, read, written, cell_of}
-use Rattle.roopl_semantics.specs.Elements.{index_elements, own_element, share_array}
-use Rattle.roopl_semantics.specs.Laws.{one_if_name}
-use Rattle.roopl_semantics.specs.Execution.{exec}
-use Rattle.meaning_sound.specs.Sound.{cell_kind, fits, count_named, held}
-use Rattle.meaning_sound.proofs.Classes.{KnowsClasses}
-use Rattle.meaning_sound.proofs.Lists.{fits_kept}
-use Rattle.meaning_sound.proofs.Cells.{read_fits, counts_written, heads_written, kind_stays}
-use Rattle.meaning_sound.proofs.AfterWrites.{read_moved}
+use Rattle.refine_calls.specs.rpp_tree.Tree.{Lvalue, Swap, Source}
+use Rattle.refine_calls.specs.class_table.declared.kind.Kind.{Kind}
+use Rattle.refine_calls.specs.class_table.Expressions.{place_type}
+use Rattle.refine_calls.specs.buddy_book.Place.{Placing}
+use Rattle.refine_calls.specs.pisa_isa.Machine.{Memory}
+use Rattle.refine_calls.specs.pisa_isa.declared.image.TheConstants.{MOST_STATICS}
+use Rattle.refine_calls.specs.paired_code.declared.part.Symbol.{Symbol}
+use Rattle.refine_calls.specs.roopl_semantics.Store.{Value, State, Word, main_name}
+use Rattle.refine_calls.specs.roopl_semantics.Value.{Cell, read, written, cell_of}
+use Rattle.refine_calls.specs.roopl_semantics.Elements.{index_elements, own_element, share_array}
+use Rattle.refine_calls.specs.roopl_semantics.Laws.{one_if_name}
+use Rattle.refine_calls.specs.roopl_semantics.Execution.{exec}
+use Rattle.refine_calls.specs.meaning_sound.Sound.{cell_kind, fits, count_named, held}
+use Rattle.refine_calls.proofs.meaning_sound_laws.Classes.{KnowsClasses}
+use Rattle.refine_calls.proofs.meaning_sound_laws.Lists.{fits_kept}
+use Rattle.refine_calls.proofs.meaning_sound_laws.Cells.{read_fits, counts_written, heads_written, kind_stays}
+use Rattle.refine_calls.proofs.meaning_sound_laws.AfterWrites.{read_moved}
 use Rattle.meaning_inverse.proofs.Facts.{SwapTyped, swap_typed, PlacesSwapped, places_swapped}
-use Rattle.refine_form.specs.Form.{Scope, StmtLaw}
-use Rattle.refine_form.specs.Frames.{Under, value_word}
-use Rattle.refine_form.specs.Stands.{shape_of, extra, Reads, Stands}
-use Rattle.refine_form.specs.Worlds.{Place, world_of, rates_of}
+use Rattle.refine_calls.specs.refine_form.Form.{Scope, StmtLaw}
+use Rattle.refine_calls.specs.refine_form.Frames.{Under, value_word}
+use Rattle.refine_calls.specs.refine_form.Stands.{shape_of, extra, Reads, Stands}
+use Rattle.refine_calls.specs.refine_form.Worlds.{Place, world_of, rates_of}
 use Rattle.refine_calls.proofs.Bridge.{typed, reads_of}
 use Rattle.refine_calls.proofs.MovesFit.{place_of}
 use Rattle.expr_uncompute.specs.Code.{place_words}
-use Rattle.register_expressions.specs.Number.{read_of, index_of}
-use Rattle.register_expressions.specs.Laws.{bases_of}
+use Rattle.expr_uncompute.specs.register_expressions.Number.{read_of, index_of}
+use Rattle.expr_uncompute.specs.register_expressions.Laws.{bases_of}
 use Rattle.expr_uncompute.specs.Laws.{swapped_at}
 use Rattle.expr_uncompute.specs.Promises.{CanRun, SwapLaw}
 use Rattle.expr_uncompute.specs.Means.{cell_address, MeansPlace, TellsShares}
@@ -180,7 +180,7 @@ module _ (p : Place) (few : length p.statics ≤ MOST_STATICS) (classes : KnowsC
 
   module _ (at : ℕ) (left right : Lvalue) (ok : IsPassed p.setting.program s (Swap at left right)
       (place_words left + place_words right)) where
-    abbrev spot : List ℕ → Rattle.refine_form.specs.declared.spot.Spot.Spot
+    abbrev spot : List ℕ → Rattle.refine_calls.specs.refine_form.declared.spot.Spot.Spot
     spot = spot_in P s
 
     abbrev free : ℕ

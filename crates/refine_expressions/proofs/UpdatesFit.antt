@@ -1,33 +1,33 @@
--- The code of an update has the law of a statement over open frames.
+-- The code of an update has the law of a statement over current frames.
 use Rattle.std.proofs.Common.{◌≡◌, ℕ, suc, ◌+◌, ◌^◌, ◌<◌, ◌≤◌, false, List, [], ◌++◌, length, Some, refl, sym, ap, ◌∙◌}
 use Rattle.std.proofs.Common.{subst, arith}
 use Rattle.std.specs.Prelude.{slice_index, slice_set, Ok}
-use Rattle.rpp_tree.specs.declared.tree.UpdateOp.{UpdateOp}
-use Rattle.rpp_tree.specs.Tree.{Expression, Lvalue, Update, Source}
-use Rattle.class_table.specs.declared.kind.Kind.TheVariants as kind
-use Rattle.pisa_isa.specs.Machine.{Memory}
-use Rattle.pisa_isa.specs.declared.image.TheConstants.{MOST_STATICS}
-use Rattle.paired_code.specs.declared.part.Symbol.{Symbol}
-use Rattle.roopl_semantics.specs.Operators.{updated}
-use Rattle.roopl_semantics.specs.Store.{Value, Word, State, number_of}
-use Rattle.roopl_semantics.specs.Value.{Cell, read, written, value, cell_of}
-use Rattle.roopl_semantics.specs.Elements.{elements, index_elements, own_element, share_array}
-use Rattle.roopl_semantics.specs.Laws.{one_if_name}
-use Rattle.roopl_semantics.specs.Execution.{exec}
-use Rattle.meaning_sound.specs.Sound.{cell_kind}
-use Rattle.meaning_sound.proofs.Classes.{KnowsClasses}
-use Rattle.meaning_sound.proofs.Cells.{read_fits, counts_written}
-use Rattle.meaning_sound.proofs.Values.{IsInt, int_value, value_found, word_fits, updated_word}
+use Rattle.refine_calls.specs.rpp_tree.declared.tree.UpdateOp.{UpdateOp}
+use Rattle.refine_calls.specs.rpp_tree.Tree.{Expression, Lvalue, Update, Source}
+use Rattle.refine_calls.specs.class_table.declared.kind.Kind.TheVariants as kind
+use Rattle.refine_calls.specs.pisa_isa.Machine.{Memory}
+use Rattle.refine_calls.specs.pisa_isa.declared.image.TheConstants.{MOST_STATICS}
+use Rattle.refine_calls.specs.paired_code.declared.part.Symbol.{Symbol}
+use Rattle.refine_calls.specs.roopl_semantics.Operators.{updated}
+use Rattle.refine_calls.specs.roopl_semantics.Store.{Value, Word, State, number_of}
+use Rattle.refine_calls.specs.roopl_semantics.Value.{Cell, read, written, value, cell_of}
+use Rattle.refine_calls.specs.roopl_semantics.Elements.{elements, index_elements, own_element, share_array}
+use Rattle.refine_calls.specs.roopl_semantics.Laws.{one_if_name}
+use Rattle.refine_calls.specs.roopl_semantics.Execution.{exec}
+use Rattle.refine_calls.specs.meaning_sound.Sound.{cell_kind}
+use Rattle.refine_calls.proofs.meaning_sound_laws.Classes.{KnowsClasses}
+use Rattle.refine_calls.proofs.meaning_sound_laws.Cells.{read_fits, counts_written}
+use Rattle.refine_calls.proofs.meaning_sound_laws.Values.{IsInt, int_value, value_found, word_fits, updated_word}
 use Rattle.meaning_inverse.proofs.Facts.{UpdateTyped, update_typed, PlaceWritten, place_written}
-use Rattle.refine_form.specs.Form.{Scope, StmtLaw}
-use Rattle.refine_form.specs.Frames.{Under, value_word}
-use Rattle.refine_form.specs.Stands.{shape_of, extra, Reads, Stands}
-use Rattle.refine_form.specs.Worlds.{Place, world_of, rates_of}
+use Rattle.refine_calls.specs.refine_form.Form.{Scope, StmtLaw}
+use Rattle.refine_calls.specs.refine_form.Frames.{Under, value_word}
+use Rattle.refine_calls.specs.refine_form.Stands.{shape_of, extra, Reads, Stands}
+use Rattle.refine_calls.specs.refine_form.Worlds.{Place, world_of, rates_of}
 use Rattle.refine_calls.proofs.Bridge.{typed, reads_of}
-use Rattle.register_expressions.specs.Code.{words}
+use Rattle.expr_uncompute.specs.register_expressions.Code.{words}
 use Rattle.expr_uncompute.specs.Code.{place_words}
-use Rattle.register_expressions.specs.Number.{read_of, index_of}
-use Rattle.register_expressions.specs.Laws.{bases_of}
+use Rattle.expr_uncompute.specs.register_expressions.Number.{read_of, index_of}
+use Rattle.expr_uncompute.specs.register_expressions.Laws.{bases_of}
 use Rattle.expr_uncompute.specs.Promises.{CanRun, UpdateLaw}
 use Rattle.expr_uncompute.specs.Means.{shown, cell_address, Means, MeansPlace, TellsShares}
 use Rattle.expr_uncompute.proofs.StatementRows.{update_does}
@@ -48,7 +48,7 @@ module _ (p : Place) (few : length p.statics ≤ MOST_STATICS) (classes : KnowsC
   abbrev P : Source
   P = p.setting.program
 
-  abbrev spot : List ℕ → Rattle.refine_form.specs.declared.spot.Spot.Spot
+  abbrev spot : List ℕ → Rattle.refine_calls.specs.refine_form.declared.spot.Spot.Spot
   spot = spot_in P s
 
   abbrev free : ℕ

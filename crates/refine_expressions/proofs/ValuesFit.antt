@@ -1,59 +1,59 @@
--- The code of tests and values has the laws of tests and values over open frames.
+-- The code of conditions and values has the laws of conditions and values over current frames.
 use Rattle.std.proofs.Common.{◌≡◌, ℕ, ◌+◌, ◌-◌, ◌<◌, ◌≤◌, ⊎_elim, Bool, true, false, List, [], ◌∷◌, ◌++◌, length, refl}
 use Rattle.std.proofs.Common.{ap, ◌∙◌, subst, arith}
 use Rattle.std.proofs.lemmas.List.{get_or_append_left, get_or-append_right, get_or-replicate}
 use Rattle.std.specs.Prelude.{replicate, slice_index, bit_xor, if◌then◌else◌, Result, Ok, Err}
 use Rattle.std.specs.Option.{unwrap_or}
-use Rattle.rpp_words.specs.declared.input.TheConstants.{FRAME_WORDS}
-use Rattle.rpp_tree.specs.Tree.{Expression, nodes}
-use Rattle.class_table.specs.declared.kind.Kind.{Kind}
-use Rattle.class_table.specs.declared.kind.Kind.TheVariants as kind
-use Rattle.class_table.specs.Expressions.{is_int}
-use Rattle.class_table.proofs.PassedRules.{int_kind}
-use Rattle.buddy_book.specs.Place.{place, block_of}
-use Rattle.pisa_isa.specs.Loaded.{statics_at}
-use Rattle.pisa_isa.specs.Machine.{Memory}
-use Rattle.pisa_isa.specs.declared.image.TheConstants.{MOST_STATICS}
-use Rattle.paired_code.specs.declared.part.Symbol.{Symbol}
-use Rattle.paired_code.specs.Layout.{xor}
-use Rattle.paired_code.specs.Does.{Fine, Fault}
-use Rattle.paired_code.proofs.Laws.{will_more}
-use Rattle.roopl_semantics.specs.Run.{after_cost, given, give, ◌>>=◌}
-use Rattle.roopl_semantics.specs.Operators.{truth_word}
-use Rattle.roopl_semantics.specs.Store.{Value, Word, Nil, Name, State, main_name}
-use Rattle.roopl_semantics.specs.Value.{value}
-use Rattle.roopl_semantics.specs.Layout.{no_placing}
-use Rattle.roopl_semantics.specs.Execution.{holds}
-use Rattle.meaning_sound.specs.Sound.{fits}
-use Rattle.meaning_sound.proofs.Classes.{KnowsClasses}
-use Rattle.meaning_sound.proofs.Stores.{other_number}
-use Rattle.meaning_sound.proofs.Values.{IsInt as IsWord, int_value, value_found}
-use Rattle.refine_frame.proofs.Tells.{cells_small}
-use Rattle.register_expressions.specs.Code.{words}
-use Rattle.register_expressions.specs.Laws.{Temporary, Ready}
+use Rattle.refine_calls.specs.rpp_words.declared.input.TheConstants.{FRAME_WORDS}
+use Rattle.refine_calls.specs.rpp_tree.Tree.{Expression, nodes}
+use Rattle.refine_calls.specs.class_table.declared.kind.Kind.{Kind}
+use Rattle.refine_calls.specs.class_table.declared.kind.Kind.TheVariants as kind
+use Rattle.refine_calls.specs.class_table.Expressions.{is_int}
+use Rattle.refine_calls.proofs.class_table_laws.PassedRules.{int_kind}
+use Rattle.refine_calls.specs.buddy_book.Place.{place, block_of}
+use Rattle.refine_calls.specs.pisa_isa.Loaded.{statics_at}
+use Rattle.refine_calls.specs.pisa_isa.Machine.{Memory}
+use Rattle.refine_calls.specs.pisa_isa.declared.image.TheConstants.{MOST_STATICS}
+use Rattle.refine_calls.specs.paired_code.declared.part.Symbol.{Symbol}
+use Rattle.refine_calls.specs.paired_code.Layout.{xor}
+use Rattle.refine_calls.specs.paired_code.Does.{Fine, Fault}
+use Rattle.refine_calls.proofs.paired_code_laws.Laws.{will_more}
+use Rattle.refine_calls.specs.roopl_semantics.Run.{after_cost, given, give, ◌>>=◌}
+use Rattle.refine_calls.specs.roopl_semantics.Operators.{truth_word}
+use Rattle.refine_calls.specs.roopl_semantics.Store.{Value, Word, Nil, Name, State, main_name}
+use Rattle.refine_calls.specs.roopl_semantics.Value.{value}
+use Rattle.refine_calls.specs.roopl_semantics.Layout.{no_placing}
+use Rattle.refine_calls.specs.roopl_semantics.Execution.{holds}
+use Rattle.refine_calls.specs.meaning_sound.Sound.{fits}
+use Rattle.refine_calls.proofs.meaning_sound_laws.Classes.{KnowsClasses}
+use Rattle.refine_calls.proofs.meaning_sound_laws.Stores.{other_number}
+use Rattle.refine_calls.proofs.meaning_sound_laws.Values.{IsInt as IsWord, int_value, value_found}
+use Rattle.expr_uncompute.proofs.refine_frame_laws.Tells.{cells_small}
+use Rattle.expr_uncompute.specs.register_expressions.Code.{words}
+use Rattle.expr_uncompute.specs.register_expressions.Laws.{Temporary, Ready}
 use Rattle.expr_uncompute.specs.Means.{shown, IsInt}
 use Rattle.expr_uncompute.specs.Promises as code
 use Rattle.expr_uncompute.proofs.Meeting.{told_value, told_test, value_meets, test_meets}
-use Rattle.refine_form.specs.Form.{World, Scope, registers, bit, told, flagged, holding, TestLaw, ValueLaw}
-use Rattle.refine_form.specs.Form.{test_rates}
-use Rattle.refine_form.specs.Frames.{Under, base}
-use Rattle.refine_form.specs.Stands.{setup, Reads}
-use Rattle.refine_form.specs.Worlds.{Place, world_of}
-use Rattle.refine_form.proofs.Rules.{meets_as, meets_told, meets_slack}
+use Rattle.refine_calls.specs.refine_form.Form.{World, Scope, registers, bit, told, flagged, holding, TestLaw, ValueLaw}
+use Rattle.refine_calls.specs.refine_form.Form.{test_rates}
+use Rattle.refine_calls.specs.refine_form.Frames.{Under, base}
+use Rattle.refine_calls.specs.refine_form.Stands.{setup, Reads}
+use Rattle.refine_calls.specs.refine_form.Worlds.{Place, world_of}
+use Rattle.refine_calls.proofs.refine_form_laws.Rules.{meets_as, meets_told, meets_slack}
 use Rattle.refine_expressions.specs.Typing.{IsTyped, spot_in, free_in}
 use Rattle.refine_calls.proofs.MovesFit.{frame_address}
 use Rattle.refine_expressions.proofs.FrameReads.{free_words, all_cells, in_cells}
 use Rattle.refine_expressions.proofs.WordsRead.{names_at, slots_at}
 use Rattle.refine_expressions.proofs.ExpressionsRead.{means, sees, value_is, refers, int_shown}
 
--- the counts that a step stands for
+-- the cost units that a step is worth
 pub some_counts : (n : ℕ) → 1 ≤ n + 64
 some_counts n = omega arith
 
 many_counts : (n : ℕ) → 3 ≤ n + 64
 many_counts n = omega arith
 
--- the temporaries are clear where the other registers have what statements keep in them
+-- the temporaries are clear if the other registers have what statements keep in them
 clear : (link object frame flag place r : ℕ) → Temporary r
     → slice_index (registers link object frame 0 0 0 flag place) r ≡ 0
 clear link object frame flag place r t = ⊎_elim low high t
@@ -95,7 +95,7 @@ module _ (p : Place) (few : length p.statics ≤ MOST_STATICS) (classes : KnowsC
   abbrev w : World
   w = world_of p
 
-  abbrev P : Rattle.rpp_tree.specs.Tree.Source
+  abbrev P : Rattle.refine_calls.specs.rpp_tree.Tree.Source
   P = p.setting.program
 
   -- the memory with a flag, or with a word
@@ -160,7 +160,7 @@ module _ (p : Place) (few : length p.statics ≤ MOST_STATICS) (classes : KnowsC
             (unwrap_or (place p.setting.limits.heap st.log) no_placing).blocks n)
             (other_number n main_name r.no_main)
 
-  -- a test
+  -- a condition
   pub test_fits : (s : Scope) (e : Expression) → IsTyped P s e kind.Int → (q : List Symbol)
       → code.TestLaw (spot_in P s) (free_in P s) 11 e q → TestLaw (world_of p) s e q
   test_fits s e ok q law n d u v st cells h =

@@ -1,46 +1,46 @@
--- What an expression reads stands in the memory of an open frame, and each word stands for its value.
+-- What an expression reads is in the memory of a current frame, and each word represents its value.
 use Rattle.std.proofs.Common.{◌≡◌, ◌≢◌, ℕ, ◌+◌, ◌-◌, ◌<◌, ◌≤◌, true, List, [], length, map, Option, Some, None, refl}
 use Rattle.std.proofs.Common.{sym, ap, ◌∙◌, subst, arith}
 use Rattle.std.proofs.lemmas.List.{length-replicate}
 use Rattle.std.specs.Prelude.{slice_index, slice_get, position, if◌then◌else◌, Ok}
 use Rattle.std.specs.Option.{unwrap_or, option_map, option_or}
 use Rattle.std.specs.Str.{bytes_eq}
-use Rattle.rpp_words.specs.declared.input.TheConstants.{FIXED_CELLS}
-use Rattle.code_conventions.specs.declared.memory.TheConstants.{FIRST_VARIABLE, HEADER_WORDS}
-use Rattle.rpp_tree.specs.declared.tree.Ident.{Ident}
-use Rattle.class_table.specs.declared.kind.Kind.{Kind}
-use Rattle.class_table.specs.declared.kind.Kind.TheVariants as kind
-use Rattle.class_table.specs.Table.{table_of, field_in}
-use Rattle.class_table.specs.Scope.{Typing, Locals, local_kind, kind_at, field_kind, kind_in}
-use Rattle.class_table.specs.Refusal.{unknown_name}
-use Rattle.class_table.specs.Expressions.{element_kind, variable_type}
-use Rattle.class_table.specs.Program.{setting_in}
-use Rattle.class_table.proofs.PassedRules.{some_of}
-use Rattle.buddy_book.specs.Place.{Placing, place, block_of}
-use Rattle.pisa_isa.specs.Loaded.{statics_at}
-use Rattle.roopl_semantics.specs.Store.{Value, Word, Nil, Name, Head, OfClass, OfInts, OfObjects, State, main_name}
-use Rattle.roopl_semantics.specs.Store.{object_at}
-use Rattle.roopl_semantics.specs.Value.{Cell, Slot, Part, cell_named, slot_of, slot_or_field, variable_value, read}
-use Rattle.roopl_semantics.specs.Layout.{head_word, no_placing}
-use Rattle.roopl_semantics.specs.Execution.{Setting}
-use Rattle.meaning_sound.specs.Sound.{head_of, head_named, head_fits, named_fits, fits, cell_kinds, cell_kind}
-use Rattle.meaning_sound.specs.Sound.{part_kind}
-use Rattle.meaning_sound.proofs.Classes.{KnowsClasses}
-use Rattle.meaning_sound.proofs.Lists.{all_length}
-use Rattle.meaning_sound.proofs.Names.{type_at, local_kind_is, field_number_is}
-use Rattle.meaning_sound.proofs.Stores.{other_number, live_object}
-use Rattle.meaning_sound.proofs.Cells.{read_fits}
-use Rattle.meaning_sound.proofs.Regions.{region_inside}
-use Rattle.meaning_sound.proofs.Values.{variable_fits, IsArray, array_head, same_elements}
-use Rattle.refine_frame.proofs.Memory.{base_above}
-use Rattle.refine_frame.proofs.Tells.{reference_read, read_head}
-use Rattle.code_scope.specs.Visible.{word_named}
-use Rattle.refine_form.specs.declared.spot.Spot.{Spot}
-use Rattle.refine_form.specs.declared.spot.Spot.TheVariants.{Field, Frame}
-use Rattle.refine_form.specs.Form.{Scope}
-use Rattle.refine_form.specs.Frames.{Under, base, stack_base, address_of, value_word, stack_words}
-use Rattle.refine_form.specs.Stands.{shape_of, extra, setup, Reads}
-use Rattle.register_expressions.specs.Number.{Bases, address_of as spot_address}
+use Rattle.refine_calls.specs.rpp_words.declared.input.TheConstants.{FIXED_CELLS}
+use Rattle.refine_calls.specs.code_conventions.declared.memory.TheConstants.{FIRST_VARIABLE, HEADER_WORDS}
+use Rattle.refine_calls.specs.rpp_tree.declared.tree.Ident.{Ident}
+use Rattle.refine_calls.specs.class_table.declared.kind.Kind.{Kind}
+use Rattle.refine_calls.specs.class_table.declared.kind.Kind.TheVariants as kind
+use Rattle.refine_calls.specs.class_table.Table.{table_of, field_in}
+use Rattle.refine_calls.specs.class_table.Scope.{Typing, Locals, local_kind, kind_at, field_kind, kind_in}
+use Rattle.refine_calls.specs.class_table.Refusal.{unknown_name}
+use Rattle.refine_calls.specs.class_table.Expressions.{element_kind, variable_type}
+use Rattle.refine_calls.specs.class_table.Program.{setting_in}
+use Rattle.refine_calls.proofs.class_table_laws.PassedRules.{some_of}
+use Rattle.refine_calls.specs.buddy_book.Place.{Placing, place, block_of}
+use Rattle.refine_calls.specs.pisa_isa.Loaded.{statics_at}
+use Rattle.refine_calls.specs.roopl_semantics.Store.{Value, Word, Nil, Name, Head, OfClass, OfInts, OfObjects, State, main_name}
+use Rattle.refine_calls.specs.roopl_semantics.Store.{object_at}
+use Rattle.refine_calls.specs.roopl_semantics.Value.{Cell, Slot, Part, cell_named, slot_of, slot_or_field, variable_value, read}
+use Rattle.refine_calls.specs.roopl_semantics.Layout.{head_word, no_placing}
+use Rattle.refine_calls.specs.roopl_semantics.Execution.{Setting}
+use Rattle.refine_calls.specs.meaning_sound.Sound.{head_of, head_named, head_fits, named_fits, fits, cell_kinds, cell_kind}
+use Rattle.refine_calls.specs.meaning_sound.Sound.{part_kind}
+use Rattle.refine_calls.proofs.meaning_sound_laws.Classes.{KnowsClasses}
+use Rattle.refine_calls.proofs.meaning_sound_laws.Lists.{all_length}
+use Rattle.refine_calls.proofs.meaning_sound_laws.Names.{type_at, local_kind_is, field_number_is}
+use Rattle.refine_calls.proofs.meaning_sound_laws.Stores.{other_number, live_object}
+use Rattle.refine_calls.proofs.meaning_sound_laws.Cells.{read_fits}
+use Rattle.refine_calls.proofs.meaning_sound_laws.Regions.{region_inside}
+use Rattle.refine_calls.proofs.meaning_sound_laws.Values.{variable_fits, IsArray, array_head, same_elements}
+use Rattle.expr_uncompute.proofs.refine_frame_laws.Memory.{base_above}
+use Rattle.expr_uncompute.proofs.refine_frame_laws.Tells.{reference_read, read_head}
+use Rattle.expr_uncompute.specs.code_scope.Visible.{word_named}
+use Rattle.refine_calls.specs.refine_form.declared.spot.Spot.{Spot}
+use Rattle.refine_calls.specs.refine_form.declared.spot.Spot.TheVariants.{Field, Frame}
+use Rattle.refine_calls.specs.refine_form.Form.{Scope}
+use Rattle.refine_calls.specs.refine_form.Frames.{Under, base, stack_base, address_of, value_word, stack_words}
+use Rattle.refine_calls.specs.refine_form.Stands.{shape_of, extra, setup, Reads}
+use Rattle.expr_uncompute.specs.register_expressions.Number.{Bases, address_of as spot_address}
 use Rattle.expr_uncompute.specs.Means.{shown, cell_address}
 use Rattle.refine_expressions.specs.Typing.{spot_in, free_in}
 use Rattle.refine_expressions.proofs.Names.{var_name, word_at, word_is}
@@ -54,14 +54,15 @@ module _ (setting : Setting) (statics : List ℕ) (classes : KnowsClasses settin
   abbrev pub bases : Bases
   bases = record { object = u.object; frame = frame_address setting statics u }
 
-  -- where objects and arrays stand by their names, and variables by their places in the frame
+  -- the addresses of objects and arrays by their object ids, and of variables by their words of the
+  -- frame
   abbrev pub names_at : ℕ → ℕ
   names_at n = address_of setting statics (unwrap_or (place setting.limits.heap st.log) no_placing) n
 
   abbrev pub slots_at : ℕ → ℕ
   slots_at i = frame_address setting statics u + (FIRST_VARIABLE + (length st.frame - 1 - i))
 
-  abbrev pub program : Rattle.rpp_tree.specs.Tree.Source
+  abbrev pub program : Rattle.refine_calls.specs.rpp_tree.Tree.Source
   program = setting.program
 
   abbrev pub typing : Typing
@@ -153,7 +154,7 @@ module _ (setting : Setting) (statics : List ℕ) (classes : KnowsClasses settin
             ∙ fields e (field_in (table_of program) s.class name.text) refl
             ∙ ap (λ r. place_of setting statics at u st (slot_or_field program st name.text r)) (sym e)
 
-    -- it stands below the free words
+    -- it is below the free words
     pub name_low : spot_address bases (spot_in program s name.text) < frame_address setting statics u + free_in program
         s
     name_low =
@@ -166,7 +167,7 @@ module _ (setting : Setting) (statics : List ℕ) (classes : KnowsClasses settin
         ≡ shown names_at slots_at (variable_value program st name.text)
     name_word = ap (slice_index cells) at_spot ∙ cell_at_word (cell_named program st name.text) k named_has
 
-    -- where it stands is where its cell does
+    -- its address is that of its cell
     pub name_place : spot_address bases (spot_in program s name.text)
         ≡ cell_address names_at slots_at (cell_named program st name.text)
     name_place = at_spot ∙ by (cell_named program st name.text)
@@ -186,7 +187,7 @@ module _ (setting : Setting) (statics : List ℕ) (classes : KnowsClasses settin
         → slice_index cells (names_at n + i + HEADER_WORDS) ≡ shown names_at slots_at (read st (Part n i))
     pub low : names_at n + HEADER_WORDS + length (object_at st.store n).cells ≤ stack_base setting statics
 
-  -- a name that stands in a cell of a type of arrays
+  -- an object id that is in a cell of a type of arrays
   pub array_stands : (c : Cell) (array k : Kind) (n : ℕ) → cell_kind program shape st.store c ≡ Some array
       → element_kind array ≡ Some k → read st c ≡ Name n → ArrayStands n k
   array_stands c array k n has e reads =

@@ -1,27 +1,28 @@
--- The code of tests, values, updates and swaps, by what it does with words, has their laws over
--- open frames.
+-- The code of conditions, values, updates and swaps, by what it does with words, has their laws
+-- over current frames.
 use Rattle.std.specs.Prelude.{ℕ, ◌+◌, ◌≤◌, List, length}
-use Rattle.rpp_tree.specs.declared.tree.UpdateOp.{UpdateOp}
-use Rattle.rpp_tree.specs.Tree.{Expression, Lvalue, Update, Swap}
-use Rattle.class_table.specs.declared.kind.Kind.{Kind}
-use Rattle.class_table.specs.declared.kind.Kind.TheVariants as kind
-use Rattle.class_table.specs.Program.{IsAccepted}
-use Rattle.paired_code.specs.declared.part.Symbol.{Symbol}
-use Rattle.register_expressions.specs.Code.{words}
+use Rattle.refine_calls.specs.rpp_tree.declared.tree.UpdateOp.{UpdateOp}
+use Rattle.refine_calls.specs.rpp_tree.Tree.{Expression, Lvalue, Update, Swap}
+use Rattle.refine_calls.specs.class_table.declared.kind.Kind.{Kind}
+use Rattle.refine_calls.specs.class_table.declared.kind.Kind.TheVariants as kind
+use Rattle.refine_calls.specs.class_table.Program.{IsAccepted}
+use Rattle.refine_calls.specs.paired_code.declared.part.Symbol.{Symbol}
+use Rattle.expr_uncompute.specs.register_expressions.Code.{words}
 use Rattle.expr_uncompute.specs.Code.{place_words}
 use Rattle.expr_uncompute.specs.Promises as code
-use Rattle.refine_form.specs.Form.{Scope, TestLaw, ValueLaw, StmtLaw}
-use Rattle.refine_form.specs.Worlds.{Place, world_of}
-use Rattle.code_conventions.specs.declared.registers.TheConstants.{FLAG, VALUE}
+use Rattle.refine_calls.specs.refine_form.Form.{Scope, TestLaw, ValueLaw, StmtLaw}
+use Rattle.refine_calls.specs.refine_form.Worlds.{Place, world_of}
+use Rattle.refine_calls.specs.code_conventions.declared.registers.TheConstants.{FLAG, VALUE}
 use Rattle.refine_expressions.specs.Typing.{IsTyped, IsPassed, spot_in, free_in}
-use Rattle.pisa_isa.specs.declared.image.TheConstants.{MOST_STATICS}
+use Rattle.refine_calls.specs.pisa_isa.declared.image.TheConstants.{MOST_STATICS}
 
 -- an accepted program, and not too many static cells
 pub record IsLaidOut (place : Place) : Type 0 where
   pub accepted : IsAccepted place.setting.program
   pub few : length place.statics ≤ MOST_STATICS
 
--- code that xors the truth of an int expression's number into the flag tests what the source says
+-- code that xors the truth value of an int expression's number into the flag tests what the source
+-- says
 abbrev pub TestsAreTold : Type 0
 TestsAreTold =
     (place : Place) → IsLaidOut place → (s : Scope) (e : Expression)

@@ -1,7 +1,8 @@
-// What code of expressions does over open frames, each law the contract of a function.
+// What code of expressions does over current frames, each law the contract of a function.
 ghost use Rattle.refine_expressions.specs.Laws.{TestsAreTold, ValuesAreTold, UpdatesAreTold, SwapsAreTold};
 
-/// The code of a test xors the truth of the source's value into the flag, wherever the frame is open.
+/// The code of a condition xors the truth value of the source's value into the flag, wherever the
+/// frame is open.
 pub fn tests_are_told()
     ensures { TestsAreTold }
 {}
@@ -11,12 +12,13 @@ pub fn values_are_told()
     ensures { ValuesAreTold }
 {}
 
-/// The code of an update does what the source says of it, along and back, wherever the frame is open.
+/// The code of an update does what the source says of it, in both directions, wherever the frame is
+/// open.
 pub fn updates_are_told()
     ensures { UpdatesAreTold }
 {}
 
-/// The code of a swap does what the source says of it, along and back, of places of any type.
+/// The code of a swap does what the source says of it, in both directions, of places of any type.
 pub fn swaps_are_told()
     ensures { SwapsAreTold }
 {}

@@ -1,8 +1,7 @@
-//! The code of expressions, updates and swaps over the memory of open frames: what it reads are the
-//! words of the values that the source reads, and what it writes are those that the source writes.
-//! So it has the laws of tests, values and statements. The layers above cite the laws of `laws`,
-//! and hand the registers `FLAG` and
-//! `VALUE` to the code of tests and values.
+//! The code of expressions, updates and swaps over the memory of current frames. It reads the words
+//! of the values that the source reads, and writes those that the source writes. So it has the laws
+//! of conditions, values and statements. The layers above cite the laws of `laws`, and hand the
+//! registers `FLAG` and `VALUE` to the code of conditions and values.
 #![tactic(auto)]
 
 pub mod laws;

@@ -2,22 +2,22 @@
 use Rattle.std.proofs.Common.{◌≡◌, ℕ, zero, suc, ◌+◌, ◌-◌, ◌≤◌, ⊎_elim, true, false, List, [], ◌∷◌, ◌++◌, sym, ◌∙◌}
 use Rattle.std.proofs.Common.{subst, arith, append-nil}
 use Rattle.std.proofs.lemmas.Bool.{cases_lt}
-use Rattle.rpp_tree.specs.Tree.{Statement, Statements, End, Then}
-use Rattle.stmt_inverter.specs.Inverse.{inverse, inverse_statement}
-use Rattle.pisa_isa.specs.Machine.{Memory}
+use Rattle.refine_frame.specs.rpp_tree.Tree.{Statement, Statements, End, Then}
+use Rattle.refine_frame.specs.stmt_inverter.Inverse.{inverse, inverse_statement}
+use Rattle.refine_frame.specs.pisa_isa.Machine.{Memory}
 use Rattle.paired_code.specs.declared.part.Symbol.{Symbol}
 use Rattle.paired_code.specs.Pieces.{Done, Will}
 use Rattle.paired_code.specs.Does.{Told, told_then, Meets, fine, more, in_order}
 use Rattle.paired_code.proofs.Laws.{will_of, will_more}
 use Rattle.paired_code.proofs.Small.{runs_still, runs_empty}
 use Rattle.paired_code.proofs.Does.{will_last}
-use Rattle.roopl_semantics.specs.Store.{State}
-use Rattle.roopl_semantics.specs.Execution.{exec, statement}
+use Rattle.refine_frame.specs.roopl_semantics.Store.{State}
+use Rattle.refine_frame.specs.roopl_semantics.Execution.{exec, statement}
 use Rattle.refine_form.specs.Form.{World, Scope, Open, Owes, RunsBody, StmtLaw, BlockLaw, AllMethods, told, one}
 use Rattle.refine_form.proofs.Told.{alone, told_block, told_joined, count, cost_counts, plus_fine, told_after}
 use Rattle.refine_form.proofs.Rules.{meets_less, meets_told, meets_then}
 
--- what is owed for less fuel
+-- what is assumed for less fuel
 pub owes_less : (w : World) (n n' : ℕ) → n' ≤ n → Owes w n → Owes w n'
 owes_less w n n' h owes = λ k l r lr. owes k (omega arith) r lr
 
@@ -89,7 +89,7 @@ module _ (w : World) (s : Scope) (first : Statement) (rest : Statements) (p q : 
 
 -- ---- the induction
 
--- so the routines owe what they are to owe, for any fuel
+-- so the routines satisfy the assumptions about them, for any fuel
 pub all_owe : (w : World) → AllMethods w → (n : ℕ) → Owes w n
 all_owe w laws zero k l r lr = absurd (omega arith)
 all_owe w laws (suc n) k l r lr = ⊎_elim (λ h. all_owe w laws n k h r lr)

@@ -1,9 +1,9 @@
--- Which pieces hold which, for the calls of paired_code.
+-- Which fragments hold which, for the calls of paired_code.
 use Rattle.std.proofs.Common.{◌≡◌, ℕ, ◌+◌, List, [], ◌∷◌, ◌++◌, length, refl, sym, ap, ◌∙◌, arith, length-append}
 use Rattle.std.proofs.Common.{append_assoc, append-nil}
-use Rattle.code_conventions.specs.Cells.{bra}
+use Rattle.refine_frame.specs.code_conventions.Cells.{bra}
 use Rattle.paired_code.specs.declared.part.Symbol.TheVariants.{Own}
-use Rattle.pisa_isa.specs.declared.notes.Mark.{Mark}
+use Rattle.refine_frame.specs.pisa_isa.declared.notes.Mark.{Mark}
 use Rattle.paired_code.specs.Layout.{between, fork}
 use Rattle.paired_code.specs.Code.{Code, moved_on, shift, seq_code, branch_code, loop_code}
 use Rattle.refine_form.specs.Held.{Holds, HoldsBoth}
@@ -72,7 +72,7 @@ both_seq a b =
           ∙ ap (λ n. shift 0 a.marks ++ shift n b.marks) e;
     }
 
--- the part that is run where the flag is 0 stands first
+-- the part that is run if the flag is 0 comes first
 pub both_branch : (r : ℕ) (p q : Code) → HoldsBoth q p (branch_code r p q)
 both_branch r p q =
     let e : 5 + length q.cells ≡ 2 + length q.cells + 3 = omega arith in
@@ -84,7 +84,7 @@ both_branch r p q =
       marks = ap (λ n. shift 2 q.marks ++ shift n p.marks) e;
     }
 
--- the tail of a loop stands first
+-- the second block of a loop comes first
 pub both_loop : (r : ℕ) (head tail : Code) → HoldsBoth tail head (loop_code r head tail)
 both_loop r head tail =
     let e : 5 + length tail.cells ≡ 3 + length tail.cells + 2 = omega arith in
@@ -98,7 +98,7 @@ both_loop r head tail =
       marks = ap (λ n. shift 3 tail.marks ++ shift n head.marks) e;
     }
 
--- what holds a piece that holds two
+-- what holds a fragment that holds two
 pub both_in : (a b c d : Code) → HoldsBoth a b c → Holds c d → HoldsBoth a b d
 both_in a b c d h h2 =
     let n = length h2.before in
@@ -122,7 +122,7 @@ both_in a b c d h h2 =
           ∙ ap (λ k. shift (length (h2.before ++ h.before)) a.marks ++ shift k b.marks) e;
     }
 
--- what two pieces hold that are held
+-- what two fragments hold that are held
 pub both_of : (a a' b b' c : Code) → Holds a a' → Holds b b' → HoldsBoth a' b' c → HoldsBoth a b c
 both_of a a' b b' c ha hb h =
     let n = length h.before in
@@ -156,12 +156,9 @@ both_of a a' b b' c ha hb h =
 
 -- ---- as contracts of code calls say it
 
--- one behind another without marks, and one before
+-- one after another without marks, and one before
 pub behind_clause : (a b c : Code) → a.marks ≡ [] → Holds c b → Holds c (seq_code a b)
 behind_clause a b c e h = holds_in c b (seq_code a b) h (holds_right a b e)
-
-pub before_clause : (a b c : Code) → b.marks ≡ [] → Holds c a → Holds c (seq_code a b)
-before_clause a b c e h = holds_in c a (seq_code a b) h (holds_left a b e)
 
 pub around_clause : (a b c : Code) → a.marks ≡ [] → c.marks ≡ [] → Holds b (seq_code a (seq_code b c))
 around_clause a b c e1 e2 = behind_clause a (seq_code b c) b e1 (holds_left b c e2)

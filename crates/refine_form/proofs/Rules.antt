@@ -1,8 +1,8 @@
--- Rules by which pieces meet the source, where what the first part said is known to the second.
+-- Rules by which fragments meet the source, if what the first part said is known to the second.
 use Rattle.std.proofs.Common.{◌≡◌, ℕ, ◌+◌, ◌-◌, ◌*◌, ◌≤◌, Bool, true, false, List, ◌∷◌, ◌++◌, refl, sym, ap, subst}
 use Rattle.std.proofs.Common.{arith, append_assoc}
 use Rattle.std.proofs.Math.Nat.{mul-add, mul-le-mul_right}
-use Rattle.pisa_isa.specs.Machine.{Memory}
+use Rattle.refine_frame.specs.pisa_isa.Machine.{Memory}
 use Rattle.paired_code.specs.declared.part.Symbol.{Symbol}
 use Rattle.paired_code.specs.Machine.{Image}
 use Rattle.paired_code.specs.Layout.{mirror_cells}
@@ -39,7 +39,7 @@ meets_rate {k = k} {k' = k'} {x = x} h (faults {c = c} {k = j} u) =
     faults (let g : k * c ≤ k' * c = mul-le-mul_right c h in omega (arith, g))
 meets_rate h (more l) = more l
 
--- another relation, by what is known of the result
+-- another relation, by what holds for the result
 pub meets_as : {A : Type 0} {R R' : A → Memory → Type 0} {b : Rates} {n x : ℕ} {t : Told A} {o : Outcome}
     → ((a : A) (m : Memory) (c : ℕ) → t ≡ Fine a c → R a m → R' a m) → Meets R b n x t o → Meets R' b n x t o
 meets_as f (fine {a = a} {m = m} {c = c} r l u) = fine (f a m c refl r) l u
@@ -79,7 +79,7 @@ pub meets_then : {A B : Type 0} (im : Image) (d : Bool) (R1 : A → Memory → T
 meets_then im d R1 R2 b n x y p ps m t g w s = will_first im d p ps m _
     (will_more im p d m _ _ (λ o q. next_known ps x y g s q) w)
 
--- a part of which the source says a count alone
+-- a part of which the source says only a cost
 pub meets_spent : {A : Type 0} {R : A → Memory → Type 0} {b : Rates} {n y k : ℕ} {t : Told A} {o : Outcome} (c x : ℕ)
     → 1 ≤ b.counts → c ≤ k → k + y ≤ b.steps * c + x → Meets R b n y t o → Meets R b (n + c) x (plus c t) (after k o)
 meets_spent {b = b} {k = k} c x hb hc hk (fine {c = c2} {k = k2} r l u) =
@@ -108,7 +108,7 @@ will_next im d p ps m m1 k Q w s = will_first im d p ps m Q
     (will_more im p d m _ _ (λ o e. subst (Next (λ m2 k2. Will im (in_order d ps) d m2 (λ o. Q (after k2 o))) Q) (sym e)
     s) w)
 
--- a piece run along, another, and the first one back: so in both directions
+-- a fragment run forward, another, and the first one back: so in both directions
 
 pub will_around : (im : Image) (d : Bool) (w mid : List Symbol) (m : Memory) (Q : Outcome → Type 0)
     → Will im w false m (Next (λ m1 k1. Will im mid d m1 (Next
@@ -154,7 +154,7 @@ will_around im true w mid m Q h =
     go (Bad v k) q = q
     go (Still k) q = q
 
--- one part and the next, where the first is known
+-- one part and the next, if the first is known
 pub will_two : (im : Image) (p q : List Symbol) (m m1 : Memory) (k : ℕ) (Q : Outcome → Type 0)
     → Will im p false m (λ o. o ≡ Done m1 k) → Will im q false m1 (λ o. Q (after k o)) → Will im (p ++ q) false m Q
 will_two im p q m m1 k Q w s = will_seq im p q m Q (will_more im p false m _ _
@@ -165,7 +165,7 @@ pub will_two_back : (im : Image) (p q : List Symbol) (m m1 : Memory) (k : ℕ) (
 will_two_back im p q m m1 k Q w s = will_seq_back im p q m Q
     (will_more im q true m _ _ (λ o e. subst (Next (λ m2 k2. Will im p true m2 (λ o. Q (after k2 o))) Q) (sym e) s) w)
 
--- one round another, in a direction, where the outer parts are known
+-- one around another, in a direction, if the outer parts are known
 pub will_in : (im : Image) (d : Bool) (v mid : List Symbol) (m m1 m2 m3 : Memory) (k1 k k2 : ℕ)
     → Will im v false m (λ o. o ≡ Done m1 k1) → Will im mid d m1 (λ o. o ≡ Done m2 k)
     → Will im v true m2 (λ o. o ≡ Done m3 k2) → Will im (around v mid) d m (λ o. o ≡ Done m3 (k1 + (k + k2)))
@@ -178,7 +178,7 @@ will_in im d v mid m m1 m2 m3 k1 k k2 a b c =
     (λ o. Q (after k1 o))) (sym e)
     (will_more im v true m2 _ _ (λ o e. ap (λ o. after k1 (after k o)) e) c)) b)) a)
 
--- the same where the middle traps
+-- the same if the middle traps
 pub will_in_trap : (im : Image) (d : Bool) (v mid : List Symbol) (m m1 : Memory) (k1 code : ℕ) (K : ℕ)
     → Will im v false m (λ o. o ≡ Done m1 k1) → Will im mid d m1 (λ o. (k : ℕ) × (k ≤ K) × (o ≡ Trapped code k))
     → Will im (around v mid) d m (λ o. (k : ℕ) × (k ≤ k1 + K) × (o ≡ Trapped code k))
@@ -202,7 +202,7 @@ meets_later {b = b} k (more {k = k2} l) = more (omega (
   mul-add b.counts (k + k2) 1,
 ))
 
--- a part, what is round it, and what the source says where it is left
+-- a part, what is around it, and what the source says where it is left
 wrap_next : {A B : Type 0} {im : Image} {R : A → Memory → Type 0} {R' : B → Memory → Type 0} {b : Rates} {n x : ℕ}
     {t : Told A} {o : Outcome} (w : List Symbol) (k1 y : ℕ) (g : A → Told B)
     → ((a : A) (m2 : Memory) (c : ℕ) → t ≡ Fine a c → R a m2 → Will im w true m2 (Meets R' b (n - c) y (g a)))
@@ -227,7 +227,7 @@ wraps im d w mid m m1 R R' b n x y k1 t g first middle last =
     (λ m2 k2. Will im w true m2 (λ o. Q (after k1 (after k2 o)))) (λ o. Q (after k1 o)))) Q) (sym e)
     (will_more im mid d m1 _ _ (λ o h. wrap_next w k1 y g last h) middle)) first)
 
--- the same, where the part before pays for a count
+-- the same, if the part before pays for a count
 spent_next : {A B : Type 0} {im : Image} {R : A → Memory → Type 0} {R' : B → Memory → Type 0} {b : Rates} {n x : ℕ}
     {t : Told A} {o : Outcome} (w : List Symbol) (k1 y c x' : ℕ) (g : A → Told B) → 1 ≤ b.counts → c ≤ k1
     → k1 + (x + y) ≤ b.steps * c + x' → ((a : A) (m2 : Memory) (c : ℕ) → t ≡ Fine a c → R a m2
@@ -253,7 +253,7 @@ wraps_spent im d w mid m m1 R R' b n x y k1 c x' t g hb hc hk first middle last 
     (λ m2 k2. Will im w true m2 (λ o. Q (after k1 (after k2 o)))) (λ o. Q (after k1 o)))) Q) (sym e)
     (will_more im mid d m1 _ _ (λ o h. spent_next w k1 y c x' g hb hc hk last h) middle)) first)
 
--- ---- an outcome that comes some steps later, before its count is told
+-- ---- an outcome that comes some steps later, before its cost unit is observed
 
 pub data Late (k : ℕ) (Q : Outcome → Type 0) : Outcome → Type 0 where
   late : {o : Outcome} → Q o → Late k Q (after k o)

@@ -1,10 +1,10 @@
--- What the source's runs say, as pieces are told it.
+-- What the source's runs say, as outcomes of fragments.
 use Rattle.std.proofs.Common.{◌≡◌, ℕ, zero, suc, ◌+◌, ◌-◌, refl, sym, ap, ◌∙◌, ◌≤◌, arith}
-use Rattle.rpp_tree.specs.Tree.{Statement, Statements, End, Then, joined}
+use Rattle.refine_frame.specs.rpp_tree.Tree.{Statement, Statements, End, Then, joined}
 use Rattle.paired_code.specs.Does.{Told, Fine, Fault, More, plus, told_then}
-use Rattle.roopl_semantics.specs.Run.{Run, Done, Fault as FaultRun, More as MoreRun, after_cost, ◌>>=◌}
-use Rattle.roopl_semantics.specs.Store.{State}
-use Rattle.roopl_semantics.specs.Execution.{Setting, exec, statement}
+use Rattle.refine_frame.specs.roopl_semantics.Run.{Run, Done, Fault as FaultRun, More as MoreRun, after_cost, ◌>>=◌}
+use Rattle.refine_frame.specs.roopl_semantics.Store.{State}
+use Rattle.refine_frame.specs.roopl_semantics.Execution.{Setting, exec, statement}
 use Rattle.refine_form.specs.Form.{told, one}
 
 pub told_after : {A : Type 0} (n : ℕ) (r : Run A) → told (after_cost n r) ≡ plus n (told r)

@@ -1,26 +1,26 @@
--- The form of a law of a piece of a program: what it does wherever it stands in an image, in both
--- directions. Each crate proves its own pieces against this form, from the laws of their parts, and
--- knows no other crate's pieces.
+-- The form of a law of a code fragment of a program: what it does at any code address of an image,
+-- in both directions. Each crate proves its own fragments against this form, from the laws of their
+-- parts, and knows no other crate's fragments.
 use Rattle.std.specs.Prelude.{◌≡◌, ℕ, suc, bit_xor, ◌<◌, ◌^◌, Bool, true, false, List, [], ◌∷◌}
-use Rattle.rpp_tree.specs.declared.tree.Ident.{Ident}
-use Rattle.rpp_tree.specs.declared.tree.Var.{Var}
-use Rattle.rpp_tree.specs.Tree.{Expression, Statement, Statements, Procedure}
-use Rattle.stmt_inverter.specs.Inverse.{inverse_statement}
-use Rattle.pisa_isa.specs.Machine.{Memory}
+use Rattle.refine_frame.specs.rpp_tree.declared.tree.Ident.{Ident}
+use Rattle.refine_frame.specs.rpp_tree.declared.tree.Var.{Var}
+use Rattle.refine_frame.specs.rpp_tree.Tree.{Expression, Statement, Statements, Procedure}
+use Rattle.refine_frame.specs.stmt_inverter.Inverse.{inverse_statement}
+use Rattle.refine_frame.specs.pisa_isa.Machine.{Memory}
 use Rattle.paired_code.specs.declared.part.Symbol.{Symbol}
 use Rattle.paired_code.specs.Machine.{Image}
 use Rattle.paired_code.specs.Layout.{xor}
 use Rattle.paired_code.specs.Pieces.{Will}
 use Rattle.paired_code.specs.Does.{Rates, Told, Fine, Fault, More, Meets, Does}
-use Rattle.roopl_semantics.specs.Value.{evaluated}
-use Rattle.roopl_semantics.specs.Run.{Run, Done, Fault as FaultRun, More as MoreRun, after_cost}
-use Rattle.roopl_semantics.specs.Run.{◌>>=◌, give}
-use Rattle.roopl_semantics.specs.Store.{Value, State}
-use Rattle.roopl_semantics.specs.Execution.{Setting, exec, statement, in_direction, holds}
+use Rattle.refine_frame.specs.roopl_semantics.Value.{evaluated}
+use Rattle.refine_frame.specs.roopl_semantics.Run.{Run, Done, Fault as FaultRun, More as MoreRun, after_cost}
+use Rattle.refine_frame.specs.roopl_semantics.Run.{◌>>=◌, give}
+use Rattle.refine_frame.specs.roopl_semantics.Store.{Value, State}
+use Rattle.refine_frame.specs.roopl_semantics.Execution.{Setting, exec, statement, in_direction, holds}
 
 -- ---- what the source says
 
--- a run of the source, as pieces are told it
+-- a run of the source, as an outcome of fragments
 abbrev pub told : {A : Type 0} → Run A → Told A
 told (Done a c) = Fine a c
 told (FaultRun w c) = Fault w c
@@ -30,7 +30,7 @@ told MoreRun = More
 abbrev pub one : Setting → ℕ → Statement → State → Run State
 one setting n s st = after_cost 1 (statement setting n (exec setting n) s st)
 
--- the statement, or its inverse where the piece is run back
+-- the statement, or its inverse if the fragment is run backward
 abbrev pub turned : Bool → Statement → Statement
 turned false s = s
 turned true s = inverse_statement s
@@ -39,10 +39,10 @@ turned true s = inverse_statement s
 abbrev pub tested : Setting → Expression → State → Run Bool
 tested setting e st = evaluated setting.program e st >>= λ v. give (holds v)
 
--- ---- where pieces run
+-- ---- where fragments run
 
--- what is known of a method when its code is made: its class, and the variables that are open,
--- innermost first
+-- what holds for a method when its code is made: its class, and the variables in scope, innermost
+-- first
 pub record Scope : Type 0 where
   pub class : ℕ
   pub vars : List Var
@@ -51,7 +51,7 @@ pub record Scope : Type 0 where
 abbrev pub with_var : Scope → Var → Scope
 with_var s var = record s { vars = var ∷ s.vars }
 
--- the routines of an image that run methods; other routines may stand beside them
+-- the routines of an image that run methods; other routines may be next to them
 pub record Routines : Type 0 where
   pub count : ℕ
   -- its number among all routines of the image
@@ -73,39 +73,39 @@ pairs [] values = []
 pairs (name ∷ names) [] = []
 pairs (name ∷ names) (v ∷ values) = record { from = name; value = v } ∷ pairs names values
 
--- The program with its limits, the image, the rates of steps and counts, and how cells stand for an
--- open frame.
+-- The program with its limits, the image, the rates of steps and cost units, and how cells
+-- represent a current frame.
 pub record World : Type 1 where
   pub setting : Setting
   pub im : Image
   pub rates : Rates
   pub routines : Routines
   -- what stays while a frame is open: the frames below, its object with its class, its address,
-  -- what is put by in it
+  -- what is saved in it
   pub Under : Type 0
   pub object_of : Under → ℕ
   pub frame_of : Under → ℕ
-  -- nothing is put by in the frame yet
+  -- nothing is saved in the frame yet
   pub IsFresh : Under → Type 0
-  -- the cells are those of this open frame; in the frame above stand these values, moved there from
-  -- it
+  -- the cells are those of this current frame; these values, moved there from it, are in the frame
+  -- above
   pub opens : Scope → Under → List Moved → State → List ℕ → Type 0
-  -- the same but for counts, which may be off: expressions can be read
+  -- the same except for reference counts, which may be off: expressions can be read
   pub reads : Scope → Under → State → List ℕ → Type 0
   pub are_read : (s : Scope) (u : Under) (st : State) (cells : List ℕ) → opens s u [] st cells
       → reads s u st cells
-  -- the word that stands for a value
+  -- the word that represents a value
   pub word_of : Under → State → Value → ℕ
 
--- The 32 registers: the link of a call in register 2, the addresses of the present object and of
--- the open frame in 3 and 4, two more addresses in 5 and 6, a word in 8, a flag in 11, a routine's
--- place in 12. The rest is 0.
+-- The 32 registers: the link of a call in register 2, the addresses of the current object and of
+-- the current frame in 3 and 4, and two more addresses in 5 and 6. A word is in 8, a flag in 11, a
+-- routine's code address in 12. The rest is 0.
 abbrev pub registers : (link object frame at at' word flag place : ℕ) → List ℕ
 registers link object frame at at' word flag place =
     0 ∷ 0 ∷ link ∷ object ∷ frame ∷ at ∷ at' ∷ 0 ∷ word ∷ 0 ∷ 0 ∷ flag ∷ place ∷ 0 ∷ 0 ∷ 0
     ∷ 0 ∷ 0 ∷ 0 ∷ 0 ∷ 0 ∷ 0 ∷ 0 ∷ 0 ∷ 0 ∷ 0 ∷ 0 ∷ 0 ∷ 0 ∷ 0 ∷ 0 ∷ 0 ∷ []
 
--- between statements: the two addresses stand in their registers, all others are 0
+-- between statements: the two addresses are in their registers, all others are 0
 pub record Open (w : World) (s : Scope) (u : w.Under) (st : State) (m : Memory) : Type 0 where
   pub regs_are : m.regs ≡ registers 0 (w.object_of u) (w.frame_of u) 0 0 0 0 0
   pub open_frame : w.opens s u [] st m.cells
@@ -118,7 +118,7 @@ pub record Entered (w : World) (s : Scope) (u : w.Under) (link place : ℕ) (st 
 
 -- ---- statements, blocks, methods
 
--- the steps that a body may make beside those of its statements
+-- the steps that a body may make in addition to those of its statements
 abbrev pub body_slack : ℕ
 body_slack = 40
 
@@ -130,15 +130,15 @@ RunsBody w s method p k =
     → Does w.im p d (Entered w s u link place) (Entered w s u link place) w.rates k body_slack
     (λ st. told (exec w.setting k (in_direction d method.body) st))
 
--- what the routines of the image owe for less fuel than n
+-- what is assumed about the routines of the image for less fuel than n
 abbrev pub Owes : World → ℕ → Type 0
 Owes w n =
     (k : ℕ) → k < n → (r : ℕ) → r < w.routines.count
     → RunsBody w (w.routines.scope r) (w.routines.method r) (w.routines.body r) k
 
--- The code of a statement. Run along it does what the source says of the statement, run back what
--- the source says of its inverse: it leaves at the far end with the state's memory, stops at the
--- fault, or goes on.
+-- The code of a statement. Run forward it does what the source says of the statement, run backward
+-- what the source says of its inverse. It leaves at the far end with the state's memory, stops at
+-- the fault, or goes on.
 abbrev pub StmtLaw : World → Scope → Statement → List Symbol → Type 0
 StmtLaw w s stmt p =
     (n : ℕ) → Owes w (suc n) → (d : Bool) (u : w.Under)
@@ -162,9 +162,9 @@ AllMethods w =
     (r : ℕ) → r < w.routines.count → MethodLaw w (w.routines.scope r) (w.routines.method r)
     (w.routines.body r)
 
--- ---- tests and values
+-- ---- conditions and values
 
--- tests and values make at most 400 steps for a count, and 50 more
+-- conditions and values make at most 400 steps for a count, and 50 more
 abbrev pub test_rates : World → Rates
 test_rates w = record { counts = w.rates.counts; steps = 400 }
 
@@ -175,15 +175,15 @@ abbrev pub bit : Bool → ℕ
 bit false = 0
 bit true = 1
 
--- the memory of an open frame with a flag in register 11
+-- the memory of a current frame with a flag in register 11
 abbrev pub flagged : (w : World) → w.Under → Bool → List ℕ → Memory
 flagged w u v cells = record {
   regs = registers 0 (w.object_of u) (w.frame_of u) 0 0 0 (bit v) 0;
   cells = cells;
 }
 
--- the code of a test xors the truth of an expression into the flag, in both directions, and changes
--- nothing else
+-- the code of a condition xors the truth value of an expression into the flag, in both directions,
+-- and changes nothing else
 abbrev pub TestLaw : World → Scope → Expression → List Symbol → Type 0
 TestLaw w s e p =
     (n : ℕ) (d : Bool) (u : w.Under) (v : Bool) (st : State) (cells : List ℕ) → w.reads s u st cells
@@ -191,7 +191,7 @@ TestLaw w s e p =
     (Meets (λ t m. m ≡ flagged w u (xor v t) cells) (test_rates w) n test_slack
     (told (tested w.setting e st)))
 
--- the memory of an open frame with a word in register 12, the one of places, which is free there
+-- the memory of a current frame with a word in register 12, the one of places, which is free there
 abbrev pub holding : (w : World) → w.Under → ℕ → List ℕ → Memory
 holding w u x cells = record {
   regs = registers 0 (w.object_of u) (w.frame_of u) 0 0 0 0 x;

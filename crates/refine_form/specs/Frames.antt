@@ -1,28 +1,28 @@
--- How the cells of a memory stand for an open frame and all frames below it.
+-- How the cells of a memory represent a current frame and all frames below it.
 use Rattle.std.specs.Prelude.{◌≡◌, ℕ, ◌+◌, ◌-◌, ◌*◌, ◌^◌, ◌≤◌, nat_eq, if◌then◌else◌, List, [], ◌∷◌}
 use Rattle.std.specs.Prelude.{◌++◌, length, map, replicate, position, Option, Some, None}
 use Rattle.std.specs.Option.{unwrap_or}
 use Rattle.std.specs.Str.{bytes_eq}
-use Rattle.rpp_tree.specs.declared.tree.Ident.{Ident}
-use Rattle.class_table.specs.Classes.{class_fields}
-use Rattle.class_table.specs.Members.{field_of}
-use Rattle.buddy_book.specs.Place.{Placing, block_of, place}
-use Rattle.pisa_isa.specs.Loaded.{statics_at, heap_base, fixed_cells}
-use Rattle.code_conventions.specs.declared.memory.TheConstants.{MOST_VARIABLES, FIRST_VARIABLE}
-use Rattle.rpp_words.specs.declared.input.TheConstants.{FRAME_WORDS}
-use Rattle.roopl_semantics.specs.Store.{Value, Binding, Store, State, main_name, object_at}
-use Rattle.roopl_semantics.specs.Store.{class_of_head}
-use Rattle.roopl_semantics.specs.Value.{Cell, Slot, Part}
-use Rattle.roopl_semantics.specs.Layout.{word_of, first_address, static_words, heap_words}
-use Rattle.roopl_semantics.specs.Execution.{Setting}
+use Rattle.refine_frame.specs.rpp_tree.declared.tree.Ident.{Ident}
+use Rattle.refine_frame.specs.class_table.Classes.{class_fields}
+use Rattle.refine_frame.specs.class_table.Members.{field_of}
+use Rattle.refine_frame.specs.buddy_book.Place.{Placing, block_of, place}
+use Rattle.refine_frame.specs.pisa_isa.Loaded.{statics_at, heap_base, fixed_cells}
+use Rattle.refine_frame.specs.code_conventions.declared.memory.TheConstants.{MOST_VARIABLES, FIRST_VARIABLE}
+use Rattle.refine_frame.specs.rpp_words.declared.input.TheConstants.{FRAME_WORDS}
+use Rattle.refine_frame.specs.roopl_semantics.Store.{Value, Binding, Store, State, main_name, object_at}
+use Rattle.refine_frame.specs.roopl_semantics.Store.{class_of_head}
+use Rattle.refine_frame.specs.roopl_semantics.Value.{Cell, Slot, Part}
+use Rattle.refine_frame.specs.roopl_semantics.Layout.{word_of, first_address, static_words, heap_words}
+use Rattle.refine_frame.specs.roopl_semantics.Execution.{Setting}
 use Rattle.refine_form.specs.Form.{Scope}
 
 -- as many values may move into the frame above as a method may have parameters
 abbrev pub most_moved : ℕ
 most_moved = 32
 
--- an open call below: its frame as the source has it, with its object,
--- the object's class and address, and what is put by in it
+-- an active call below: its frame as the source has it, with its object, the object's class and
+-- address, and what is saved in it
 pub record Caller : Type 0 where
   pub scope : Scope
   pub frame : List Binding
@@ -46,7 +46,7 @@ module _ (setting : Setting) (statics : List ℕ) where
   abbrev pub stack_base : ℕ
   stack_base = base + 2 ^ setting.limits.heap
 
-  -- the main object stands before the heap, any other one at its block
+  -- the main object is before the heap, any other one at its block
   abbrev pub address_of : Placing → ℕ → ℕ
   address_of at name = if nat_eq name main_name then statics_at else base + block_of at.blocks name
 
@@ -65,7 +65,7 @@ module _ (setting : Setting) (statics : List ℕ) where
   abbrev pub filled_to : ℕ → List ℕ → List ℕ
   filled_to n words = words ++ replicate (n - length words) 0
 
-  -- the words of a frame: what is put by, the variables, and zeros
+  -- the words of a frame: what is saved, the variables, and zeros
   abbrev pub frame_words : Placing → List ℕ → List Value → List ℕ
   frame_words at put_by vs = filled_to FRAME_WORDS (put_by ++ value_words at vs)
 
@@ -96,7 +96,7 @@ module _ (setting : Setting) (statics : List ℕ) where
   memory at store stack = before_stack at store
       ++ filled_to (FRAME_WORDS * setting.limits.deep) stack
 
-  -- the objects of open calls are there, of the same class and at the same address
+  -- the objects of active calls are there, of the same class and at the same address
   abbrev pub StandsAt : Placing → Store → (self class object : ℕ) → Type 0
   StandsAt at store self class object = (class_of_head (object_at store self).head ≡ class)
       × (address_of at self ≡ object)
@@ -107,7 +107,7 @@ module _ (setting : Setting) (statics : List ℕ) where
       StandsAt at store c.self c.class c.object × (length c.put_by ≡ FIRST_VARIABLE)
       × (length c.frame ≤ MOST_VARIABLES) × CallersStand at store callers
 
-  -- where a name stands in a scope, or else the field of the object
+  -- the storage slot of a name in a scope, or else the field of the object
   abbrev pub cell_at : Under → Ident → Option ℕ → Cell
   cell_at u name (Some i) = Slot i
   cell_at u name None =
@@ -117,12 +117,12 @@ module _ (setting : Setting) (statics : List ℕ) where
   cell_in s u name = cell_at u name (position (bytes_eq name.text)
       (map (λ var. var.name.text) s.vars))
 
-  -- where values have moved up, there is a frame above
+  -- if values have moved up, there is a frame above
   abbrev pub AboveFits : List Value → ℕ → Type 0
   AboveFits [] depth = Unit {0}
   AboveFits (v ∷ vals) depth = 1 + depth ≤ setting.limits.deep
 
-  -- the memory of an open frame, and of the values that have moved from it into the frame above
+  -- the memory of a current frame, and of the values that have moved from it into the frame above
   pub record OpenFrame (s : Scope) (u : Under) (vals : List Value) (st : State)
       (cells : List ℕ) : Type 0 where
     pub at : Placing

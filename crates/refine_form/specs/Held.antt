@@ -1,16 +1,16 @@
--- What a call that is given pieces keeps of their cells and marks.
+-- What a call that is given fragments keeps of their cells and marks.
 use Rattle.std.specs.Prelude.{◌≡◌, ◌+◌, List, ◌++◌, length}
 use Rattle.paired_code.specs.declared.part.Symbol.{Symbol}
 use Rattle.paired_code.specs.Code.{Code, shift}
 
--- the piece has the cells of another one in it, with its marks on them, and no others
+-- the fragment has the cells of another one in it, with its marks on them, and no others
 pub record Holds (inner p : Code) : Type 0 where
   pub before : List Symbol
   pub after : List Symbol
   pub cells : p.cells ≡ before ++ (inner.cells ++ after)
   pub marks : p.marks ≡ shift (length before) inner.marks
 
--- the same of two pieces, of which the left one stands first
+-- the same for two fragments, of which the left one comes first
 pub record HoldsBoth (left right p : Code) : Type 0 where
   pub before : List Symbol
   pub mid : List Symbol

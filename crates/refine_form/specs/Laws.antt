@@ -1,6 +1,6 @@
 -- The laws of blocks, and the induction over fuel, in the worlds of plain data.
 use Rattle.std.specs.Prelude.{ℕ, List, [], ◌++◌}
-use Rattle.rpp_tree.specs.Tree.{Statement, Statements, End, Then}
+use Rattle.refine_frame.specs.rpp_tree.Tree.{Statement, Statements, End, Then}
 use Rattle.paired_code.specs.declared.part.Symbol.{Symbol}
 use Rattle.refine_form.specs.Form.{Scope, Owes, StmtLaw, BlockLaw, AllMethods}
 use Rattle.refine_form.specs.Worlds.{Place, world_of}
@@ -16,6 +16,7 @@ BlocksAreRows =
     → StmtLaw (world_of place) s first p → BlockLaw (world_of place) s rest q
     → BlockLaw (world_of place) s (Then first rest) (p ++ q)
 
--- where each routine's body has the law of its method, the routines owe nothing more, for any fuel
+-- if each routine's body has the law of its method, nothing more is assumed about the routines, for
+-- any fuel
 abbrev pub NothingIsOwed : Type 0
 NothingIsOwed = (place : Place) → AllMethods (world_of place) → (n : ℕ) → Owes (world_of place) n

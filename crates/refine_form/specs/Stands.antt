@@ -1,35 +1,36 @@
--- How cells stand for an open frame, with the types, the counts and the live names of all frames.
+-- How cells represent a current frame, with the types, the reference counts and the live object ids
+-- of all frames.
 use Rattle.std.specs.Prelude.{◌≡◌, ℕ, ◌+◌, ◌-◌, ◌^◌, ◌<◌, true, nat_eq, if◌then◌else◌, List, []}
 use Rattle.std.specs.Prelude.{◌∷◌, length, map, slice_index, position, Option, Some, None}
 use Rattle.std.specs.Option.{unwrap_or}
 use Rattle.std.specs.Str.{bytes_eq}
-use Rattle.rpp_tree.specs.declared.tree.Ident.{Ident}
-use Rattle.rpp_tree.specs.declared.tree.Var.{Var}
-use Rattle.rpp_tree.specs.Tree.{Source}
-use Rattle.class_table.specs.declared.kind.Kind.{Kind}
-use Rattle.class_table.specs.declared.kind.Kind.TheVariants as kind
-use Rattle.class_table.specs.Classes.{class_fields}
-use Rattle.class_table.specs.Members.{field_of}
-use Rattle.class_table.specs.Inheritance.{kind_of_var}
-use Rattle.class_table.specs.Scope.{Local, Locals}
-use Rattle.buddy_book.specs.Place.{count_taken}
-use Rattle.roopl_semantics.specs.Store.{Value, Name, Head, OfClass, OfInts, OfObjects, Object}
-use Rattle.roopl_semantics.specs.Store.{Store, State, main_name, object_named}
-use Rattle.roopl_semantics.specs.Execution.{Setting}
-use Rattle.roopl_semantics.specs.Laws.{one_if_name, holders_among}
-use Rattle.meaning_sound.specs.Sound.{named_fits, head_named, count_named, is_live, fits, AllFit}
-use Rattle.meaning_sound.specs.Sound.{local_type, cell_kinds, value_of, held, Descending}
-use Rattle.meaning_sound.specs.Sound.{IsPlaced, cell_kind}
+use Rattle.refine_frame.specs.rpp_tree.declared.tree.Ident.{Ident}
+use Rattle.refine_frame.specs.rpp_tree.declared.tree.Var.{Var}
+use Rattle.refine_frame.specs.rpp_tree.Tree.{Source}
+use Rattle.refine_frame.specs.class_table.declared.kind.Kind.{Kind}
+use Rattle.refine_frame.specs.class_table.declared.kind.Kind.TheVariants as kind
+use Rattle.refine_frame.specs.class_table.Classes.{class_fields}
+use Rattle.refine_frame.specs.class_table.Members.{field_of}
+use Rattle.refine_frame.specs.class_table.Inheritance.{kind_of_var}
+use Rattle.refine_frame.specs.class_table.Scope.{Local, Locals}
+use Rattle.refine_frame.specs.buddy_book.Place.{count_taken}
+use Rattle.refine_frame.specs.roopl_semantics.Store.{Value, Name, Head, OfClass, OfInts, OfObjects, Object}
+use Rattle.refine_frame.specs.roopl_semantics.Store.{Store, State, main_name, object_named}
+use Rattle.refine_frame.specs.roopl_semantics.Execution.{Setting}
+use Rattle.refine_frame.specs.roopl_semantics.Laws.{one_if_name, holders_among}
+use Rattle.refine_frame.specs.meaning_sound.Sound.{named_fits, head_named, count_named, is_live, fits, AllFit}
+use Rattle.refine_frame.specs.meaning_sound.Sound.{local_type, cell_kinds, value_of, held, Descending}
+use Rattle.refine_frame.specs.meaning_sound.Sound.{IsPlaced, cell_kind}
 use Rattle.refine_frame.specs.Open.{Setup, IsGrounded}
 use Rattle.refine_form.specs.Form.{Scope, Moved}
 use Rattle.refine_form.specs.Frames.{Caller, Under, cell_in, OpenFrame}
 use Rattle.refine_form.specs.declared.spot.Spot.{Spot}
 use Rattle.refine_form.specs.declared.spot.Spot.TheVariants.{Field, Frame}
-use Rattle.code_conventions.specs.declared.memory.TheConstants.{FIRST_VARIABLE}
+use Rattle.refine_frame.specs.code_conventions.declared.memory.TheConstants.{FIRST_VARIABLE}
 
--- ---- what holds a name besides the store and the open frame
+-- ---- what holds a name besides the store and the current frame
 
--- a receiver that moved into an open call: word 1 of its frame is the caller's object
+-- a receiver that moved into an active call: word 1 of its frame is the caller's object
 abbrev pub receiver_held : ℕ → ℕ → List ℕ → ℕ
 receiver_held name self put_by = if nat_eq (slice_index put_by 1) 0 then 0
     else one_if_name name (Name self)
@@ -70,7 +71,7 @@ local_of program var = record { name = var.name.text; kind = kind_of_var program
 abbrev pub shape_of : Source → Scope → Locals
 shape_of program s = map (local_of program) s.vars
 
--- where a name stands
+-- the storage slot of a name
 abbrev pub spot_at : Source → Scope → Ident → Option ℕ → Spot
 spot_at program s name (Some i) = Frame (FIRST_VARIABLE + (length s.vars - 1 - i))
 spot_at program s name None = Field (unwrap_or (field_of (class_fields program s.class) name.text)
@@ -138,7 +139,7 @@ module _ (setting : Setting) (statics : List ℕ) where
   abbrev pub moved_values : List Moved → List Value
   moved_values moved = map moved_value moved
 
-  -- the memory of the open frame, with its types and live names: expressions can be read
+  -- the memory of the current frame, with its types and live names: expressions can be read
   pub record Reads (s : Scope) (u : Under) (moved : List Moved) (st : State)
       (cells : List ℕ) : Type 0 where
     pub frame : OpenFrame setting statics s u (moved_values moved) st cells
@@ -147,7 +148,7 @@ module _ (setting : Setting) (statics : List ℕ) where
     pub words : (a : ℕ) → slice_index cells a < 2 ^ 32
 
   -- with the counts: each is the number of cells that hold the name, of receivers that moved into
-  -- open calls too
+  -- active calls too
   pub record Stands (s : Scope) (u : Under) (moved : List Moved) (st : State)
       (cells : List ℕ) : Type 0 where
     pub frame : OpenFrame setting statics s u (moved_values moved) st cells

@@ -2,15 +2,15 @@
 -- static cells, its routines.
 use Rattle.std.specs.Prelude.{◌≡◌, ℕ, ◌+◌, ◌*◌, ◌^◌, List, [], ◌∷◌, length, replicate, slice_index}
 use Rattle.std.specs.Option.{unwrap_or}
-use Rattle.buddy_book.specs.Place.{place}
+use Rattle.refine_frame.specs.buddy_book.Place.{place}
 use Rattle.paired_code.specs.Machine.{Image}
 use Rattle.paired_code.specs.Does.{Rates}
-use Rattle.roopl_semantics.specs.Execution.{Setting}
-use Rattle.roopl_semantics.specs.Layout.{no_placing}
+use Rattle.refine_frame.specs.roopl_semantics.Execution.{Setting}
+use Rattle.refine_frame.specs.roopl_semantics.Layout.{no_placing}
 use Rattle.refine_form.specs.Form.{World, Routines}
 use Rattle.refine_form.specs.Frames.{Under, stack_base, value_word}
 use Rattle.refine_form.specs.Stands.{Reads, Stands}
-use Rattle.rpp_words.specs.declared.input.TheConstants.{FRAME_WORDS}
+use Rattle.refine_frame.specs.rpp_words.declared.input.TheConstants.{FRAME_WORDS}
 
 pub record Place : Type 0 where
   pub setting : Setting
@@ -18,12 +18,12 @@ pub record Place : Type 0 where
   pub im : Image
   pub routines : Routines
 
--- nothing but a caller's object is put by in a frame: the words of the link and of the place are 0
+-- nothing but a caller's object is saved in a frame: the words of the link and of the place are 0
 pub record IsFresh (u : Under) : Type 0 where
   pub is : u.put_by ≡ 0 ∷ slice_index u.put_by 1 ∷ 0 ∷ replicate 13 0
 
--- a step stands for no more counts than a whole heap has cells, and a count comes with 1000 steps
--- at most
+-- a step is worth no more cost units than a whole heap has cells, and a cost unit comes with 1000
+-- steps at most
 abbrev pub rates_of : Setting → Rates
 rates_of setting = record { counts = 2 ^ setting.limits.heap + 64; steps = 1000 }
 

@@ -11,7 +11,8 @@ pub fn blocks_are_rows()
     ensures { BlocksAreRows }
 {}
 
-/// Where each routine's body has the law of its method, the routines owe nothing more, for any fuel.
+/// If each routine's body has the law of its method, nothing more is assumed about the routines,
+/// for any fuel.
 pub fn nothing_is_owed()
     ensures { NothingIsOwed }
 {}

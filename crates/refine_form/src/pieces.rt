@@ -1,4 +1,4 @@
-// A piece between another and its mirror.
+// A fragment between another and its inverse.
 ghost use Rattle.std.specs.Prelude.{◌≡◌, List, [], IfOk};
 ghost use Rattle.refine_form.specs.Cells.{around as around_cells};
 ghost use Rattle.refine_form.specs.Held.{Holds};
@@ -7,7 +7,8 @@ use paired_code::{Piece, mirror, seq};
 use rpp_words::NoMemory;
 use std::alloc::Global;
 
-/// The inner piece between the outer one, which has no marks, and the outer one run the other way.
+/// The inner fragment between the outer one, which has no marks, and the outer one run the other
+/// way.
 #[tactic(auto, using(crate::proofs::Holding::around_clause))]
 pub fn around(alloc: Global, outer: Piece, inner: Piece) -> Result<Piece, NoMemory>
     requires none { outer.marks ≡ [] }

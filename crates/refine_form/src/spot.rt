@@ -1,6 +1,6 @@
-// Where a variable stands.
+// The storage slot of a variable.
 
-/// A field of the present object, or a word of the open frame.
+/// A field of the current object, or a word of the current frame.
 #[derive(Clone, Copy, PartialEq, Eq, Debug)]
 pub enum Spot {
     /// The field with this number.

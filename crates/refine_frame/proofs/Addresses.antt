@@ -1,34 +1,32 @@
--- Cells of the source stand at addresses in range, each at one of its own.
-use Rattle.std.proofs.Common.{◌≡◌, ◌≢◌, ◌∙◌, sym, ap, refl, ℕ, ◌+◌, ◌<◌, ⊎_elim, Bool, true, false, List, map, length}
+-- Cells of the source have addresses in range, each one of its own.
+use Rattle.std.proofs.Common.{◌≡◌, ◌≢◌, ◌∙◌, sym, ap, refl, ℕ, ◌+◌, ◌<◌, ⊎_elim, Bool, true, false, map, length}
 use Rattle.std.proofs.Common.{Some, arith}
 use Rattle.std.proofs.lemmas.Bool.{eqb-true}
 use Rattle.std.proofs.lemmas.List.{length-map}
 use Rattle.std.specs.Prelude.{nat_eq, ◌&&◌, slice_get}
 use Rattle.std.specs.Option.{option_map}
-use Rattle.code_conventions.specs.declared.memory.TheConstants.{HEADER_WORDS}
-use Rattle.class_table.specs.declared.kind.Kind.{Kind}
-use Rattle.class_table.specs.Scope.{Locals}
-use Rattle.buddy_book.specs.Place.{Placing}
-use Rattle.roopl_semantics.specs.Store.{Object, Store, State, main_name, object_named, object_at}
-use Rattle.roopl_semantics.specs.Value.{Cell, Slot, Part}
-use Rattle.roopl_semantics.specs.Execution.{same_cell}
-use Rattle.pisa_isa.specs.Loaded.{statics_at}
-use Rattle.pisa_isa.specs.Machine.{State as Machine}
+use Rattle.meaning_sound.specs.code_conventions.declared.memory.TheConstants.{HEADER_WORDS}
+use Rattle.meaning_sound.specs.class_table.declared.kind.Kind.{Kind}
+use Rattle.meaning_sound.specs.class_table.Scope.{Locals}
+use Rattle.meaning_sound.specs.buddy_book.Place.{Placing}
+use Rattle.meaning_sound.specs.roopl_semantics.Store.{Object, Store, State, main_name, object_named, object_at}
+use Rattle.meaning_sound.specs.roopl_semantics.Value.{Cell, Slot, Part}
+use Rattle.meaning_sound.specs.roopl_semantics.Execution.{same_cell}
+use Rattle.meaning_sound.specs.pisa_isa.Loaded.{statics_at}
 use Rattle.meaning_sound.specs.Sound.{head_of, cell_kinds, value_of, local_type, cell_kind, Typed}
-use Rattle.refine_frame.specs.Open.{Setup, base_of, stack_at, address_of, cell_address, Open, IsGrounded}
+use Rattle.refine_frame.specs.Open.{Setup, base_of, stack_at, address_of, cell_address, IsGrounded}
 use Rattle.meaning_sound.proofs.Lists.{all_inside, all_length}
 use Rattle.meaning_sound.proofs.Stores.{differs}
 use Rattle.meaning_sound.proofs.Cells.{part_of}
 use Rattle.meaning_sound.proofs.Regions.{region_inside, regions_apart}
 use Rattle.refine_frame.proofs.Memory.{base_above, main_cells, address_other}
-use Rattle.refine_frame.proofs.Opens.{cells_length}
 
 module _ (u : Setup) (extra : ℕ → ℕ) (shape : Locals) (class : ℕ) (st : State)
     (s : Typed u.setting extra shape class st) (g : IsGrounded u st.store) where
   abbrev at : Placing
   at = s.placed.at
 
-  -- where a field or element stands
+  -- the address of a field or element
   pub record PartPlace (n i : ℕ) : Type 0 where
     pub object : Object
     pub named : object_named st.store n ≡ Some object
@@ -87,14 +85,15 @@ module _ (u : Setup) (extra : ℕ → ℕ) (shape : Locals) (class : ℕ) (st : 
       q : PartPlace m j
       q = part_place m j l hb
 
-      -- the main object's cells stand before the heap
+      -- the main object's cells are before the heap
       main_low : (x y : ℕ) → PartPlace x y → x ≡ main_name → address_of u at.blocks x + HEADER_WORDS + y < base_of u
       main_low x y place same =
           let cells = main_cells u extra shape class st s g in
           let sized = all_length u.setting.program st.store (cell_kinds u.setting.program place.object.head)
           place.object.cells (s.objects x place.object place.named) in
           let object_is : object_at st.store x ≡ place.object =
-          ap (λ r. Rattle.std.specs.Option.unwrap_or r Rattle.roopl_semantics.specs.Store.no_object) place.named in
+          ap (λ r. Rattle.std.specs.Option.unwrap_or r Rattle.meaning_sound.specs.roopl_semantics.Store.no_object)
+          place.named in
           let length_is : length (object_at st.store main_name).cells ≡ length place.object.cells =
           ap (λ z. length (object_at st.store z).cells) (sym same)
           ∙ ap (λ (o : Object). length o.cells) object_is in
@@ -124,12 +123,3 @@ module _ (u : Setup) (extra : ℕ → ℕ) (shape : Locals) (class : ℕ) (st : 
       by true f z = differs i j z (let c : address_of u at.blocks n
           ≡ address_of u at.blocks m = ap (address_of u at.blocks) (eqb-true n m f) in omega arith)
       by false f z = two (nat_eq n main_name) (nat_eq m main_name) refl refl (differs n m f)
-
-  -- a cell's address is one of the machine's
-  pub address_inside : (below : List ℕ) (m : Machine) → Open u at below st m → (a : Cell) (k : Kind)
-      → cell_kind u.setting.program shape st.store a ≡ Some k → cell_address u at.blocks st a < length m.cells
-  address_inside below m o (Slot i) k h = let x = slot_in i k h in let l =
-      cells_length u extra shape class st s g below m o in let a = o.few in let b = o.in_depth in let c =
-      o.open_calls in omega arith
-  address_inside below m o (Part n i) k h = let p = (part_place n i k h).below in let l =
-      cells_length u extra shape class st s g below m o in omega arith

@@ -5,22 +5,24 @@ use Rattle.std.proofs.lemmas.Bool.{eqb-true}
 use Rattle.std.proofs.lemmas.List.{length-map, map-set, length-replicate, set-append_right, get_or-append-add}
 use Rattle.std.specs.Prelude.{nat_eq, slice_get, slice_index, slice_set, replicate, if◌then◌else◌}
 use Rattle.std.specs.Option.{unwrap_or, option_map}
-use Rattle.code_conventions.specs.declared.memory.TheConstants.{HEADER_WORDS}
-use Rattle.rpp_tree.specs.Tree.{Source}
-use Rattle.buddy_book.specs.Book.{Book}
-use Rattle.buddy_book.specs.Place.{block_of}
-use Rattle.roopl_semantics.specs.Store.{Value, Nil, Object, Store, main_name, no_object, object_named, object_at}
-use Rattle.roopl_semantics.specs.Store.{changed_at}
-use Rattle.roopl_semantics.specs.Execution.{Setting}
-use Rattle.roopl_semantics.specs.Layout.{overlaid, word_of, head_word, object_words, with_links, with_book}
-use Rattle.roopl_semantics.specs.Layout.{with_objects, heap_words}
-use Rattle.buddy_book.specs.Shown.{first_address}
+use Rattle.meaning_sound.specs.code_conventions.declared.memory.TheConstants.{HEADER_WORDS}
+use Rattle.meaning_sound.specs.rpp_tree.Tree.{Source}
+use Rattle.meaning_sound.specs.buddy_book.Book.{Book}
+use Rattle.meaning_sound.specs.buddy_book.Place.{block_of}
+use Rattle.meaning_sound.specs.roopl_semantics.Store.{Value, Nil, Object, Store, main_name, no_object, object_named}
+use Rattle.meaning_sound.specs.roopl_semantics.Store.{object_at}
+use Rattle.meaning_sound.specs.roopl_semantics.Store.{changed_at}
+use Rattle.meaning_sound.specs.roopl_semantics.Execution.{Setting}
+use Rattle.meaning_sound.specs.roopl_semantics.Layout.{overlaid, word_of, head_word, object_words, with_links}
+use Rattle.meaning_sound.specs.roopl_semantics.Layout.{with_book}
+use Rattle.meaning_sound.specs.roopl_semantics.Layout.{with_objects, heap_words}
+use Rattle.meaning_sound.specs.buddy_book.Shown.{first_address}
 use Rattle.meaning_sound.specs.Sound.{head_of, head_named, is_live, cell_kinds, AllFit, IsPlaced}
 use Rattle.meaning_sound.proofs.Lists.{all_length}
 use Rattle.meaning_sound.proofs.Stores.{differs, live_object, changed_here, changed_other}
 use Rattle.meaning_sound.proofs.Overlays.{length_overlaid, index_inside, index_outside, set_inside, set_outside}
 use Rattle.meaning_sound.proofs.Regions.{regions_apart, BlocksDescend, EntriesAre, has_entry}
-use Rattle.code_conventions.specs.Header.{header}
+use Rattle.meaning_sound.specs.code_conventions.Header.{header}
 
 -- ---- lengths
 
@@ -42,7 +44,8 @@ length_objects program base store blocks ((n, b) ∷ rest) words =
     (object_words program base blocks (object_at store n)))
     ∙ length_overlaid words b (object_words program base blocks (object_at store n))
 
-pub length_heap : (program : Source) (size base : ℕ) (store : Store) (at : Rattle.buddy_book.specs.Place.Placing)
+pub length_heap : (program : Source) (size base : ℕ) (store : Store)
+    (at : Rattle.meaning_sound.specs.buddy_book.Place.Placing)
     → length (heap_words program size base store at) ≡ size
 length_heap program size base store at =
     length_objects program base store at.blocks at.blocks (with_book base at.book (replicate size 0))
@@ -136,7 +139,8 @@ module _ (program : Source) (base : ℕ) (blocks : List (ℕ × ℕ)) where
       ∙ ap (λ o. with_objects program base store blocks rest (overlaid words b (object_words program base blocks o)))
       other
 
-module _ (setting : Setting) (store : Store) (log : Rattle.buddy_book.specs.Place.Log) (p : IsPlaced setting store log)
+module _ (setting : Setting) (store : Store) (log : Rattle.meaning_sound.specs.buddy_book.Place.Log)
+    (p : IsPlaced setting store log)
     (base : ℕ) (objects : (name : ℕ) (object : Object) → object_named store name ≡ Some object
     → AllFit setting.program store (cell_kinds setting.program object.head) object.cells) where
   abbrev program : Source
@@ -202,7 +206,7 @@ module _ (setting : Setting) (store : Store) (log : Rattle.buddy_book.specs.Plac
           ∙ ap (λ k. slice_index (object_words program base blocks (object_at store k)) i) same
       by more false f g = more g
 
-  -- a word of an object is written, where that is a change of the object
+  -- a word of an object is written, if that is a change of the object
   pub write_heap : (n : ℕ) → is_live store n ≡ true → n ≢ main_name → (f : Object → Object) (j w : ℕ)
       → j < length (object_words program base blocks (object_at store n))
       → slice_set (object_words program base blocks (object_at store n)) j w

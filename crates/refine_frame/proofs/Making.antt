@@ -1,25 +1,23 @@
 -- What a new object changes in memory, and a deleted one: its words in its block, which is zero
 -- without it.
-use Rattle.std.proofs.Common.{◌≡◌, ◌≢◌, ◌∙◌, sym, ap, refl, ℕ, ◌+◌, ◌^◌, ◌<◌, ◌≤◌, true, List, ◌++◌, map, length, drop}
+use Rattle.std.proofs.Common.{◌≡◌, ◌≢◌, ◌∙◌, sym, ap, refl, ℕ, ◌+◌, ◌^◌, ◌<◌, ◌≤◌, true, List, ◌++◌, length, drop}
 use Rattle.std.proofs.Common.{arith, length-append}
 use Rattle.std.proofs.lemmas.List.{get_or-replicate}
 use Rattle.std.specs.Prelude.{slice_index, replicate}
 use Rattle.std.specs.Option.{option_map}
-use Rattle.rpp_tree.specs.Tree.{Source}
-use Rattle.class_table.specs.Scope.{Locals}
-use Rattle.buddy_book.specs.Place.{Placing, block_of, without_name, count_taken}
-use Rattle.roopl_semantics.specs.Store.{State, main_name, object_at, without}
-use Rattle.roopl_semantics.specs.Layout.{overlaid, object_words, with_book, heap_words}
-use Rattle.roopl_semantics.specs.Laws.{holders_among, holders}
-use Rattle.meaning_sound.specs.Sound.{head_of, is_live, cell_kinds, value_of, held, Typed}
-use Rattle.refine_frame.specs.Open.{Setup, base_of, memory, frame_words, IsGrounded}
+use Rattle.meaning_sound.specs.rpp_tree.Tree.{Source}
+use Rattle.meaning_sound.specs.class_table.Scope.{Locals}
+use Rattle.meaning_sound.specs.buddy_book.Place.{Placing, block_of, without_name, count_taken}
+use Rattle.meaning_sound.specs.roopl_semantics.Store.{State, main_name, object_at, without}
+use Rattle.meaning_sound.specs.roopl_semantics.Layout.{overlaid, object_words, with_book, heap_words}
+use Rattle.meaning_sound.specs.roopl_semantics.Laws.{holders}
+use Rattle.meaning_sound.specs.Sound.{head_of, is_live, cell_kinds, held, Typed}
+use Rattle.refine_frame.specs.Open.{Setup, base_of, memory, IsGrounded}
 use Rattle.meaning_sound.proofs.Lists.{all_length}
 use Rattle.meaning_sound.proofs.Stores.{live_object}
-use Rattle.buddy_book.proofs.Requests.{block_of_other}
 use Rattle.meaning_sound.proofs.Regions.{region_inside, blocks_descend, entries_are, entry_of, room_of}
 use Rattle.refine_frame.proofs.Heaps.{length_words, length_heap}
 use Rattle.refine_frame.proofs.Memory.{before_heap, fixed, statics, gap, stack_part, fourth}
-use Rattle.refine_frame.proofs.Opens.{frame_words_same}
 use Rattle.refine_frame.proofs.Removed.{removed_heap, other_words, book_none, book_zero, skip_others, overlaid_left}
 use Rattle.refine_frame.proofs.Removed.{overlaid_right}
 
@@ -126,10 +124,3 @@ module _ (u : Setup) (extra : ℕ → ℕ) (shape : Locals) (class : ℕ) (st : 
       (b + i) (book_none u.setting st.store st.log s.placed base s.objects n live no_main in_store (b + i) i refl
       (omega arith))
       ∙ get_or-replicate size (b + i) 0 0 (omega arith)
-
-  -- the variables' words do not name it
-  pub variables_same : frame_words base less.blocks st.frame ≡ frame_words base at.blocks st.frame
-  variables_same = frame_words_same base at.blocks less.blocks st.frame
-      (λ m p. block_of_other at.blocks n m (λ e. let z : holders_among n (map value_of st.frame)
-      ≡ holders_among m (map value_of st.frame) = ap (λ k. holders_among k (map value_of st.frame)) e in
-      omega arith))

@@ -1,4 +1,4 @@
--- Reads and writes of the memory of an open frame, and the layout.
+-- Reads and writes of the memory of a current frame, and the layout.
 use Rattle.std.proofs.Common.{◌≡◌, ◌≢◌, ◌∙◌, sym, ap, subst, refl, ℕ, ◌+◌, ◌-◌, ◌*◌, ◌/◌, ◌^◌, ◌<◌, ◌≤◌, Bool, true}
 use Rattle.std.proofs.Common.{false, List, [], ◌++◌, map, length, drop, Some, arith, length-append, length-drop}
 use Rattle.std.proofs.Math.Nat.{mod-add-div, mod-lt}
@@ -7,21 +7,23 @@ use Rattle.std.proofs.lemmas.List.{get_or_append_left, get_or-append_right, set-
 use Rattle.std.proofs.lemmas.List.{length-map, length-replicate}
 use Rattle.std.specs.Prelude.{nat_eq, is_some, slice_get, slice_index, slice_set, replicate, if◌then◌else◌}
 use Rattle.std.specs.Option.{unwrap_or, option_map}
-use Rattle.rpp_words.specs.declared.input.TheConstants.{FIXED_CELLS, FRAME_WORDS}
-use Rattle.code_conventions.specs.declared.memory.TheConstants.{HEADER_WORDS}
-use Rattle.rpp_tree.specs.Tree.{Source}
-use Rattle.class_table.specs.Scope.{Locals}
-use Rattle.buddy_book.specs.Place.{Log, Placing, block_of, place}
-use Rattle.buddy_book.proofs.Orders.{pow_pos}
-use Rattle.roopl_semantics.specs.Store.{Value, Nil, Name, Head, OfClass, Object, Store, Binding, State, main_name}
-use Rattle.roopl_semantics.specs.Store.{object_named, object_at, changed_at}
-use Rattle.roopl_semantics.specs.Source.{main_fields}
-use Rattle.class_table.specs.Classes.{main_of}
-use Rattle.roopl_semantics.specs.Layout.{overlaid, word_of, object_words, with_book, heap_words, static_words}
-use Rattle.roopl_semantics.specs.Layout.{placed_layout, layout, no_placing}
-use Rattle.buddy_book.specs.Shown.{first_address}
-use Rattle.pisa_isa.specs.Loaded.{statics_at, fixed_cells}
-use Rattle.class_table.specs.Inheritance.{kind_of_var}
+use Rattle.meaning_sound.specs.rpp_words.declared.input.TheConstants.{FIXED_CELLS, FRAME_WORDS}
+use Rattle.meaning_sound.specs.code_conventions.declared.memory.TheConstants.{HEADER_WORDS}
+use Rattle.meaning_sound.specs.rpp_tree.Tree.{Source}
+use Rattle.meaning_sound.specs.class_table.Scope.{Locals}
+use Rattle.meaning_sound.specs.buddy_book.Place.{Log, Placing, block_of, place}
+use Rattle.meaning_sound.proofs.buddy_book_laws.Orders.{pow_pos}
+use Rattle.meaning_sound.specs.roopl_semantics.Store.{Value, Nil, Name, Head, OfClass, Object, Store, Binding, State}
+use Rattle.meaning_sound.specs.roopl_semantics.Store.{main_name}
+use Rattle.meaning_sound.specs.roopl_semantics.Store.{object_named, object_at, changed_at}
+use Rattle.meaning_sound.specs.roopl_semantics.Source.{main_fields}
+use Rattle.meaning_sound.specs.class_table.Classes.{main_of}
+use Rattle.meaning_sound.specs.roopl_semantics.Layout.{overlaid, word_of, object_words, with_book, heap_words}
+use Rattle.meaning_sound.specs.roopl_semantics.Layout.{static_words}
+use Rattle.meaning_sound.specs.roopl_semantics.Layout.{placed_layout, layout, no_placing}
+use Rattle.meaning_sound.specs.buddy_book.Shown.{first_address}
+use Rattle.meaning_sound.specs.pisa_isa.Loaded.{statics_at, fixed_cells}
+use Rattle.meaning_sound.specs.class_table.Inheritance.{kind_of_var}
 use Rattle.meaning_sound.specs.Sound.{head_of, is_live, cell_kinds, Typed}
 use Rattle.refine_frame.specs.Open.{Setup, base_of, stack_at, address_of, memory, IsGrounded}
 use Rattle.meaning_sound.proofs.Lists.{all_length}
@@ -206,10 +208,6 @@ module _ (u : Setup) (extra : ℕ → ℕ) (shape : Locals) (class : ℕ) (st : 
       ∙ ap (λ z. fixed ++ statics ++ gap ++ heap ++ z) (set_inside (replicate (FRAME_WORDS * u.setting.limits.deep) 0) 0
       stack i i w (omega arith) h)
 
-  -- the address of a name that is live
-  address_main : address_of u at.blocks main_name ≡ statics_at
-  address_main = refl
-
   pub address_other : (n : ℕ) → n ≢ main_name → address_of u at.blocks n ≡ base + block_of at.blocks n
   address_other n h = ap (λ t. if t then statics_at else base + block_of at.blocks n) (other_number n main_name h)
 
@@ -240,11 +238,14 @@ module _ (u : Setup) (extra : ℕ → ℕ) (shape : Locals) (class : ℕ) (st : 
       fourth fixed statics gap heap (stack_part stack) (base + block_of at.blocks n + HEADER_WORDS + i)
       (block_of at.blocks n + (HEADER_WORDS + i)) (let b = before_heap in omega arith) (omega arith)
       ∙ read_heap u.setting st.store st.log s.placed base s.objects n live no_main
-      (2 + Rattle.buddy_book.specs.Place.count_taken st.log) at.blocks words
-      (blocks_descend u.setting st.store st.log (2 + Rattle.buddy_book.specs.Place.count_taken st.log) s.placed
-      s.fresh) (entries_are u.setting st.store st.log (2 + Rattle.buddy_book.specs.Place.count_taken st.log)
+      (2 + Rattle.meaning_sound.specs.buddy_book.Place.count_taken st.log) at.blocks words
+      (blocks_descend u.setting st.store st.log (2 + Rattle.meaning_sound.specs.buddy_book.Place.count_taken st.log)
+      s.placed
+      s.fresh) (entries_are u.setting st.store st.log (2 + Rattle.meaning_sound.specs.buddy_book.Place.count_taken
+      st.log)
       s.placed s.fresh)
-      (entry_of (2 + Rattle.buddy_book.specs.Place.count_taken st.log) st.store at.blocks n s.placed.names live no_main)
+      (entry_of (2 + Rattle.meaning_sound.specs.buddy_book.Place.count_taken st.log) st.store at.blocks n s.placed.names
+      live no_main)
       (block_of at.blocks n + (HEADER_WORDS + i)) (HEADER_WORDS + i) refl
       (let z = length_words program base at.blocks (object_at st.store n) in omega arith)
       (let z = length_with_book in omega arith)
@@ -279,9 +280,10 @@ module _ (u : Setup) (extra : ℕ → ℕ) (shape : Locals) (class : ℕ) (st : 
       ++ gap ++ heap ++ stack_part stack) (sym changed)
       ∙ ap (λ z. fixed ++ static_words program base at.blocks u.statics (changed_at st.store main_name f) ++ gap ++ z
       ++ stack_part stack)
-      (sym (main_elsewhere program base at.blocks st.store f (2 + Rattle.buddy_book.specs.Place.count_taken st.log)
+      (sym (main_elsewhere program base at.blocks st.store f
+      (2 + Rattle.meaning_sound.specs.buddy_book.Place.count_taken st.log)
       at.blocks words (blocks_descend u.setting st.store st.log
-      (2 + Rattle.buddy_book.specs.Place.count_taken st.log) s.placed s.fresh)))
+      (2 + Rattle.meaning_sound.specs.buddy_book.Place.count_taken st.log) s.placed s.fresh)))
 
   write_object : (stack : List ℕ) (n : ℕ) → is_live st.store n ≡ true → n ≢ main_name → (f : Object → Object) (j w : ℕ)
       → j < length (object_words program base at.blocks (object_at st.store n))
@@ -291,7 +293,7 @@ module _ (u : Setup) (extra : ℕ → ℕ) (shape : Locals) (class : ℕ) (st : 
       ≡ memory u at (changed_at st.store n f) stack
   write_object stack n live no_main f j w h whole =
       let named = live_object st.store n live in
-      let bound = 2 + Rattle.buddy_book.specs.Place.count_taken st.log in
+      let bound = 2 + Rattle.meaning_sound.specs.buddy_book.Place.count_taken st.log in
       let inside = region_inside u.setting st.store st.log s.placed n (object_at st.store n).head
       (ap (option_map head_of) named) no_main in
       let cells = all_length program st.store (cell_kinds program (object_at st.store n).head)
@@ -300,7 +302,7 @@ module _ (u : Setup) (extra : ℕ → ℕ) (shape : Locals) (class : ℕ) (st : 
       let words = with_book base at.book (replicate size 0) in
       let total = length_heap_is in
       let main_same : object_at (changed_at st.store n f) main_name ≡ object_at st.store main_name =
-      ap (λ r. unwrap_or r Rattle.roopl_semantics.specs.Store.no_object)
+      ap (λ r. unwrap_or r Rattle.meaning_sound.specs.roopl_semantics.Store.no_object)
       (changed_other st.store n main_name f no_main) in
       set_fourth fixed statics gap heap (stack_part stack) (base + block_of at.blocks n + j) (block_of at.blocks n + j)
       w (let b = before_heap in omega arith) (omega arith)
@@ -312,7 +314,7 @@ module _ (u : Setup) (extra : ℕ → ℕ) (shape : Locals) (class : ℕ) (st : 
       ∙ ap (λ (o : Object). fixed ++ (let m = object_words program base at.blocks o in m ++ drop (length m) u.statics)
       ++ gap ++ heap_words program size base (changed_at st.store n f) at ++ stack_part stack) (sym main_same)
 
-  -- a word of an object is written, where that is a change of the object
+  -- a word of an object is written, if that is a change of the object
   pub write_word : (stack : List ℕ) (n : ℕ) → is_live st.store n ≡ true → (f : Object → Object) (j w : ℕ)
       → j < length (object_words program base at.blocks (object_at st.store n))
       → slice_set (object_words program base at.blocks (object_at st.store n)) j w

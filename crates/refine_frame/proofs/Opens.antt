@@ -1,29 +1,27 @@
--- Under an open frame the cells of the source are words of the machine, and their writes are writes
--- there; variables and frames come and go.
+-- Under a current frame the cells of the source are words of the machine, and their writes are
+-- writes there; variables and frames come and go.
 use Rattle.std.proofs.Common.{◌≡◌, ◌∙◌, sym, ap, subst, refl, ℕ, zero, suc, ◌+◌, ◌-◌, ◌*◌, ◌<◌, ◌≤◌, List, [], ◌∷◌}
-use Rattle.std.proofs.Common.{◌++◌, map, length, Some, arith, append_assoc, append-nil, length-append}
+use Rattle.std.proofs.Common.{◌++◌, map, length, Some, arith, append-nil, length-append}
 use Rattle.std.proofs.lemmas.List.{get_or_append_left, get_or-append_right, set-append_left, set-append_right}
-use Rattle.std.proofs.lemmas.List.{length-replicate, length-set, length-map, set_at}
+use Rattle.std.proofs.lemmas.List.{length-replicate, length-map}
 use Rattle.std.specs.Prelude.{slice_get, slice_index, slice_set, replicate}
-use Rattle.code_conventions.specs.declared.memory.TheConstants.{HEADER_WORDS, FIRST_VARIABLE, MOST_VARIABLES}
-use Rattle.class_table.specs.declared.kind.Kind.{Kind}
-use Rattle.class_table.specs.Scope.{Locals}
-use Rattle.buddy_book.specs.Place.{Placing, block_of, place}
-use Rattle.roopl_semantics.specs.Store.{Value, Word, Nil, Name, Object, Binding, State}
-use Rattle.roopl_semantics.specs.Value.{Cell, Slot, Part, value_at, with_value, read, written}
-use Rattle.roopl_semantics.specs.Execution.{opened}
-use Rattle.roopl_semantics.specs.Layout.{word_of, layout}
-use Rattle.roopl_semantics.specs.Laws.{holders_among, one_if_name}
-use Rattle.pisa_isa.specs.Machine.{State as Machine, reg}
-use Rattle.code_conventions.specs.declared.registers.TheConstants.{FRAME, OBJECT}
-use Rattle.rpp_words.specs.declared.input.TheConstants.{FRAME_WORDS}
+use Rattle.meaning_sound.specs.code_conventions.declared.memory.TheConstants.{HEADER_WORDS, FIRST_VARIABLE}
+use Rattle.meaning_sound.specs.class_table.declared.kind.Kind.{Kind}
+use Rattle.meaning_sound.specs.class_table.Scope.{Locals}
+use Rattle.meaning_sound.specs.buddy_book.Place.{Placing, place}
+use Rattle.meaning_sound.specs.roopl_semantics.Store.{Value, Object, Binding, State}
+use Rattle.meaning_sound.specs.roopl_semantics.Value.{Cell, Slot, Part, value_at, with_value, read, written}
+use Rattle.meaning_sound.specs.roopl_semantics.Layout.{word_of, layout}
+use Rattle.meaning_sound.specs.pisa_isa.Machine.{State as Machine, reg}
+use Rattle.meaning_sound.specs.code_conventions.declared.registers.TheConstants.{FRAME, OBJECT}
+use Rattle.meaning_sound.specs.rpp_words.declared.input.TheConstants.{FRAME_WORDS}
 use Rattle.meaning_sound.specs.Sound.{cell_kinds, value_of, local_type, cell_kind, Typed}
 use Rattle.refine_frame.specs.Open.{Setup, base_of, stack_at, address_of, memory, frame_words, cell_address}
 use Rattle.refine_frame.specs.Open.{Open, IsGrounded}
 use Rattle.meaning_sound.proofs.Lists.{all_inside}
 use Rattle.meaning_sound.proofs.Stores.{live_named}
 use Rattle.meaning_sound.proofs.Cells.{part_of}
-use Rattle.refine_frame.proofs.Memory.{read_stack, write_stack, read_part, write_part, memory_length, zeros_end}
+use Rattle.refine_frame.proofs.Memory.{read_stack, write_stack, read_part, write_part, zeros_end}
 use Rattle.refine_frame.proofs.Memory.{memory_is_layout}
 
 -- the machine with another word in a cell
@@ -69,22 +67,6 @@ write_frame base blocks (b ∷ bs) (suc i) p v h e =
     set-append_left (frame_words base blocks bs) (word_of base blocks b.value ∷ []) p (word_of base blocks v)
     (omega arith) ∙ ap (λ z. z ++ word_of base blocks b.value ∷ [])
     (write_frame base blocks bs i p v (omega arith) (omega arith))
-
--- the words of values whose names keep their blocks
-pub frame_words_same : (base : ℕ) (blocks other : List (ℕ × ℕ)) (f : List Binding)
-    → ((n : ℕ) → 0 < holders_among n (map value_of f) → block_of other n ≡ block_of blocks n)
-    → frame_words base other f ≡ frame_words base blocks f
-frame_words_same base blocks other [] h = refl
-frame_words_same base blocks other (b ∷ bs) h =
-    ap (λ z. z ++ word_of base other b.value ∷ []) (frame_words_same base blocks other bs (λ n p. h n (omega arith)))
-    ∙ ap (λ w. frame_words base blocks bs ++ w ∷ []) (one b.value (λ n p. h n (omega arith)))
-  where
-    one : (v : Value) → ((n : ℕ) → 0 < one_if_name n v → block_of other n ≡ block_of blocks n)
-        → word_of base other v ≡ word_of base blocks v
-    one (Word w) k = refl
-    one Nil k = refl
-    one (Name n) k = ap (λ b. base + b) (k n (let o : one_if_name n (Name n)
-        ≡ 1 = Rattle.meaning_sound.proofs.Removal.one_name n in omega arith))
 
 module _ (u : Setup) (extra : ℕ → ℕ) (shape : Locals) (class : ℕ) (st : State)
     (s : Typed u.setting extra shape class st) (g : IsGrounded u st.store) (below : List ℕ) (m : Machine)
@@ -194,107 +176,12 @@ module _ (u : Setup) (extra : ℕ → ℕ) (shape : Locals) (class : ℕ) (st : 
         object_is = o.object_is;
         frame_is = o.frame_is;
       }
-
-  pub cells_length : length m.cells ≡ stack_at u + FRAME_WORDS * u.setting.limits.deep
-  cells_length = ap length o.cells ∙ memory_length u extra shape class st s g stack
-
   -- ---- the end of the stack
-
-  -- the place of the next variable, which is zero
-  abbrev pub next_place : ℕ
-  next_place = stack_at u + (length below + length st.frame)
-
-  pub next_is_zero : slice_index m.cells next_place ≡ 0
-  next_is_zero =
-      let l = stack_length in
-      let r = stack_room in
-      let long : length (stack ++ 0 ∷ []) ≡ length stack + 1 = omega (arith, length-append stack (0 ∷ [])) in
-      let back : length below + length st.frame - length stack ≡ 0 = omega arith in
-      ap (λ z. slice_index z next_place) (o.cells ∙ sym (zeros_end u at st.store stack 1))
-      ∙ read_stack u extra shape class st s g (stack ++ 0 ∷ []) (length below + length st.frame) (omega arith)
-      (omega arith)
-      ∙ get_or-append_right stack (0 ∷ []) (length stack) (length below + length st.frame) 0 refl (omega arith)
-      ∙ ap (slice_index (0 ∷ [])) back
-
-  -- a variable appears
-  pub variable_opened : (name : List ℕ) (v : Value) → length st.frame < MOST_VARIABLES
-      → Open u at below (opened name v st) (with_cell m next_place (word_of base at.blocks v))
-  variable_opened name v few =
-      let w = word_of base at.blocks v in
-      let l = stack_length in
-      let long : length (stack ++ 0 ∷ []) ≡ length stack + 1 = omega (arith, length-append stack (0 ∷ [])) in
-      record {
-        placed = o.placed;
-        cells =
-            ap (λ z. slice_set z next_place w) (o.cells ∙ sym (zeros_end u at st.store stack 1))
-            ∙ write_stack u extra shape class st s g (stack ++ 0 ∷ []) (length below + length st.frame) w (omega arith)
-            ∙ ap (memory u at st.store) (ap (λ i. slice_set (stack ++ 0 ∷ []) i w) (sym stack_length)
-            ∙ set_at stack 0 [] w (length stack) refl ∙ append_assoc below words (w ∷ []));
-        level = o.level;
-        open_calls = o.open_calls;
-        in_depth = o.in_depth;
-        few = omega arith;
-        registers = o.registers;
-        object_is = o.object_is;
-        frame_is = o.frame_is;
-      }
-
-  -- a word that is put by at the beginning of a frame
-  pub word_put : (i w : ℕ) → i < length below → Open u at (slice_set below i w) st (with_cell m (stack_at u + i) w)
-  word_put i w h =
-      let l = stack_length in
-      record {
-        placed = o.placed;
-        cells =
-            ap (λ z. slice_set z (stack_at u + i) w) o.cells
-            ∙ write_stack u extra shape class st s g stack i w (omega arith)
-            ∙ ap (memory u at st.store) (set-append_left below words i w h);
-        level = length-set below i w ∙ o.level;
-        open_calls = o.open_calls;
-        in_depth = o.in_depth;
-        few = o.few;
-        registers = o.registers;
-        object_is = o.object_is;
-        frame_is = o.frame_is;
-      }
-
--- the innermost variable goes, where its word is cleared
-pub variable_closed : (u : Setup) (extra : ℕ → ℕ) (shape : Locals) (class : ℕ) (st : State) (name : List ℕ) (v : Value)
-    (s : Typed u.setting extra shape class (opened name v st)) → IsGrounded u st.store → (below : List ℕ) (m : Machine)
-    → Open u s.placed.at below (opened name v st) m
-    → Open u s.placed.at below st (with_cell m (stack_at u + (length below + length st.frame)) 0)
-variable_closed u extra shape class st name v s g below m o =
-    let at = s.placed.at in
-    let base = base_of u in
-    let words = frame_words base at.blocks st.frame in
-    let w = word_of base at.blocks v in
-    let stack = below ++ words in
-    let l : length stack ≡ length below + length st.frame =
-    omega (arith, length-append below words, length_frame_words base at.blocks st.frame) in
-    let long : length (stack ++ w ∷ []) ≡ length stack + 1 = omega (arith, length-append stack (w ∷ [])) in
-    record {
-      placed = o.placed;
-      cells =
-          ap (λ z. slice_set z (stack_at u + (length below + length st.frame)) 0)
-          (o.cells ∙ ap (memory u at st.store) (sym (append_assoc below words (w ∷ []))))
-          ∙ write_stack u extra shape class (opened name v st) s g (stack ++ w ∷ []) (length below + length st.frame) 0
-          (omega arith)
-          ∙ ap (memory u at st.store) (ap (λ i. slice_set (stack ++ w ∷ []) i 0) (sym l)
-          ∙ set_at stack w [] 0 (length stack) refl)
-          ∙ zeros_end u at st.store stack 1;
-      level = o.level;
-      open_calls = o.open_calls;
-      in_depth = o.in_depth;
-      few = let a = o.few in omega arith;
-      registers = o.registers;
-      object_is = o.object_is;
-      frame_is = o.frame_is;
-    }
 
 -- ---- the whole run
 
--- the layout, with the two addresses in their registers, is an open frame without variables: so the
--- body of `main` begins
+-- the layout, with the two addresses in their registers, is a current frame without variables: so
+-- the body of `main` begins
 pub begun : (u : Setup) (at : Placing) (st : State) (m : Machine) → st.frame ≡ [] → st.depth ≡ 1
     → 1 ≤ u.setting.limits.deep → place u.setting.limits.heap st.log ≡ Some at
     → m.cells ≡ layout u.setting.program u.setting.limits u.statics st.store st.log → length m.regs ≡ 32
@@ -315,7 +202,7 @@ begun u at st m none one deep placed cells regs object frame = record {
   frame_is = frame ∙ (let q : stack_at u ≡ stack_at u + FRAME_WORDS * (st.depth - 1) = omega arith in q);
 }
 
--- and with no variables and zeros put by the cells are the layout
+-- and with no variables and zeros saved the cells are the layout
 pub ended : (u : Setup) (at : Placing) (st : State) (m : Machine) (n : ℕ) → st.frame ≡ []
     → Open u at (replicate n 0) st m → m.cells ≡ layout u.setting.program u.setting.limits u.statics st.store st.log
 ended u at st m n none o =

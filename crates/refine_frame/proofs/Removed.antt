@@ -1,33 +1,35 @@
 -- The memory of a state is that of the state without an object which nothing holds, with the
--- object's words in its block, where all is zero without it.
+-- object's words in its block, if all is zero without it.
 use Rattle.std.proofs.Common.{◌≡◌, ◌≢◌, ◌∙◌, sym, ap, refl, ℕ, zero, suc, ◌+◌, ◌-◌, ◌*◌, ◌^◌, ◌<◌, ◌≤◌, ◌⊎◌, inl, inr}
 use Rattle.std.proofs.Common.{⊎_elim, Bool, true, false, List, [], ◌∷◌, ◌++◌, map, length, Some, arith}
 use Rattle.std.proofs.lemmas.Bool.{eqb-true, ltb-true, ltb-false}
 use Rattle.std.proofs.lemmas.List.{ext_get_or}
 use Rattle.std.specs.Prelude.{nat_eq, nat_lt, slice_index, if◌then◌else◌}
 use Rattle.std.specs.Option.{unwrap_or, option_map}
-use Rattle.code_conventions.specs.declared.memory.TheConstants.{HEADER_WORDS}
-use Rattle.rpp_tree.specs.Tree.{Source}
-use Rattle.buddy_book.specs.Book.{Book}
-use Rattle.buddy_book.specs.Place.{Placing, block_of, without_name, count_taken}
-use Rattle.buddy_book.specs.Shown.{order_in, without_taken, list_weight, weight, taken_weight, cover}
-use Rattle.buddy_book.proofs.Table.{taken_weight-without}
-use Rattle.buddy_book.proofs.Kept.{cover-additive}
-use Rattle.roopl_semantics.specs.Store.{Value, Word, Nil, Name, Object, Store, main_name, no_object, object_named}
-use Rattle.roopl_semantics.specs.Store.{object_at, without}
-use Rattle.roopl_semantics.specs.Execution.{Setting, order_of_cells}
-use Rattle.roopl_semantics.specs.Layout.{overlaid, word_of, head_word, object_words, with_links, with_book}
-use Rattle.roopl_semantics.specs.Layout.{with_objects}
-use Rattle.buddy_book.specs.Shown.{first_address}
-use Rattle.roopl_semantics.specs.Laws.{one_if_name, holders_among, holders}
+use Rattle.meaning_sound.specs.code_conventions.declared.memory.TheConstants.{HEADER_WORDS}
+use Rattle.meaning_sound.specs.rpp_tree.Tree.{Source}
+use Rattle.meaning_sound.specs.buddy_book.Book.{Book}
+use Rattle.meaning_sound.specs.buddy_book.Place.{Placing, block_of, without_name, count_taken}
+use Rattle.meaning_sound.specs.buddy_book.Shown.{order_in, without_taken, list_weight, weight, taken_weight, cover}
+use Rattle.meaning_sound.proofs.buddy_book_laws.Table.{taken_weight-without}
+use Rattle.meaning_sound.proofs.buddy_book_laws.Kept.{cover-additive}
+use Rattle.meaning_sound.specs.roopl_semantics.Store.{Value, Word, Nil, Name, Object, Store, main_name, no_object}
+use Rattle.meaning_sound.specs.roopl_semantics.Store.{object_named}
+use Rattle.meaning_sound.specs.roopl_semantics.Store.{object_at, without}
+use Rattle.meaning_sound.specs.roopl_semantics.Execution.{Setting, order_of_cells}
+use Rattle.meaning_sound.specs.roopl_semantics.Layout.{overlaid, word_of, head_word, object_words, with_links}
+use Rattle.meaning_sound.specs.roopl_semantics.Layout.{with_book}
+use Rattle.meaning_sound.specs.roopl_semantics.Layout.{with_objects}
+use Rattle.meaning_sound.specs.buddy_book.Shown.{first_address}
+use Rattle.meaning_sound.specs.roopl_semantics.Laws.{one_if_name, holders_among, holders}
 use Rattle.meaning_sound.specs.Sound.{head_of, head_named, is_live, cell_kinds, AllFit, IsPlaced}
 use Rattle.meaning_sound.proofs.Lists.{all_length}
 use Rattle.meaning_sound.proofs.Stores.{same_number, differs, live_object, without_other, holders_inside}
-use Rattle.buddy_book.proofs.Requests.{block_of_other}
+use Rattle.meaning_sound.proofs.buddy_book_laws.Requests.{block_of_other}
 use Rattle.meaning_sound.proofs.Overlays.{overlaid_is, laid, length_overlaid, index_inside, index_outside}
 use Rattle.meaning_sound.proofs.Regions.{regions_apart, BlocksDescend, EntriesAre, has_entry}
 use Rattle.refine_frame.proofs.Heaps.{length_words}
-use Rattle.code_conventions.specs.Header.{header}
+use Rattle.meaning_sound.specs.code_conventions.Header.{header}
 
 -- ---- overlays that do not meet
 
@@ -113,7 +115,8 @@ words_same base blocks n (v ∷ vs) h =
         (λ e. let o : one_if_name n (Name m) ≡ 1 = ap (λ b. if b then 1 else 0)
         (ap (λ z. nat_eq z n) (sym e) ∙ same_number n) in omega arith))
 
-module _ (setting : Setting) (store : Store) (log : Rattle.buddy_book.specs.Place.Log) (p : IsPlaced setting store log)
+module _ (setting : Setting) (store : Store) (log : Rattle.meaning_sound.specs.buddy_book.Place.Log)
+    (p : IsPlaced setting store log)
     (base : ℕ) (objects : (name : ℕ) (object : Object) → object_named store name ≡ Some object
     → AllFit setting.program store (cell_kinds setting.program object.head) object.cells) (n : ℕ)
     (live : is_live store n ≡ true) (no_main : n ≢ main_name) (unheld : holders n store ≡ 0) where
@@ -201,7 +204,7 @@ module _ (setting : Setting) (store : Store) (log : Rattle.buddy_book.specs.Plac
           (overlaid words b w)) (block_of blocks n) own_words)
           (sym (other_words m e.0 (λ y. differs m n z (sym y))))
 
-  -- ---- what stands there without it
+  -- ---- what is there without it
 
   -- no free block begins in a taken one
   abbrev NoFree : ℕ → List ℕ → Type 0
@@ -245,9 +248,6 @@ module _ (setting : Setting) (store : Store) (log : Rattle.buddy_book.specs.Plac
   book_zero [] words q h = refl
   book_zero (free ∷ higher) words q h = book_zero higher (with_links base free words) q h.1
       ∙ links_zero free words q h.0
-
-  order : ℕ
-  order = order_of_cells (length (cell_kinds program (object_at store n).head))
 
   taken_is : order_in p.taken (block_of blocks n) ≡ Some
       (order_of_cells (length (cell_kinds program (object_at store n).head)))

@@ -1,7 +1,7 @@
 -- The laws in the form of their statements.
 use Rattle.refine_frame.specs.Laws.{OpenCells, OpenLayout}
 use Rattle.refine_frame.proofs.Opens.{read_cell_is, write_cell_is, begun, ended}
-use Rattle.code_conventions.specs.declared.memory.TheConstants.{FIRST_VARIABLE}
+use Rattle.meaning_sound.specs.code_conventions.declared.memory.TheConstants.{FIRST_VARIABLE}
 
 pub open_cells : OpenCells
 open_cells u extra shape class st s below m g o = record {

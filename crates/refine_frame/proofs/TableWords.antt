@@ -1,26 +1,26 @@
--- The words of the class tables in the memory of an open frame.
+-- The words of the class tables in the memory of a current frame.
 use Rattle.std.proofs.Common.{◌≡◌, ◌∙◌, sym, ap, refl, ℕ, zero, suc, ◌+◌, ◌-◌, ◌<◌, ◌≤◌, Bool, true, false, List, []}
 use Rattle.std.proofs.Common.{◌∷◌, ◌++◌, map, length, drop, arith, length-append}
 use Rattle.std.proofs.lemmas.Bool.{ltb-true, ltb-false}
 use Rattle.std.proofs.lemmas.List.{get_or_append_left, get_or-append_right, drop_at, length-map, length-replicate}
 use Rattle.std.specs.Prelude.{nat_lt, slice_get, slice_index}
 use Rattle.std.specs.Option.{unwrap_or}
-use Rattle.code_conventions.specs.declared.memory.TheConstants.{HEADER_WORDS}
-use Rattle.rpp_tree.specs.Tree.{Source}
-use Rattle.class_table.specs.Classes.{class_slots}
-use Rattle.class_table.specs.Scope.{Locals}
-use Rattle.class_table.proofs.Numbers.{each_below-get, length-each_below}
-use Rattle.roopl_semantics.specs.Store.{State, main_name, object_at}
-use Rattle.roopl_semantics.specs.Source.{main_fields}
-use Rattle.roopl_semantics.specs.Layout.{HasStatics, table_at, main_statics, tables, object_words}
-use Rattle.pisa_isa.specs.Image.{Segments}
-use Rattle.pisa_isa.specs.Loaded.{statics_at}
+use Rattle.meaning_sound.specs.code_conventions.declared.memory.TheConstants.{HEADER_WORDS}
+use Rattle.meaning_sound.specs.rpp_tree.Tree.{Source}
+use Rattle.meaning_sound.specs.class_table.Classes.{class_slots}
+use Rattle.meaning_sound.specs.class_table.Scope.{Locals}
+use Rattle.meaning_sound.proofs.class_table_laws.Numbers.{each_below-get, length-each_below}
+use Rattle.meaning_sound.specs.roopl_semantics.Store.{State, main_name, object_at}
+use Rattle.meaning_sound.specs.roopl_semantics.Source.{main_fields}
+use Rattle.meaning_sound.specs.roopl_semantics.Layout.{HasStatics, table_at, main_statics, tables, object_words}
+use Rattle.meaning_sound.specs.pisa_isa.Image.{Segments}
+use Rattle.meaning_sound.specs.pisa_isa.Loaded.{statics_at}
 use Rattle.meaning_sound.specs.Sound.{Typed}
 use Rattle.refine_frame.specs.Open.{Setup, base_of, memory, IsGrounded}
 use Rattle.refine_frame.proofs.Memory.{second, fixed, statics, gap, heap, stack_part, length_fixed, length_statics}
 use Rattle.refine_frame.proofs.Memory.{main_long}
 
--- the code places of a class
+-- the code addresses of a class
 abbrev pub places_of : List (List ℕ) → ℕ → List ℕ
 places_of places class = unwrap_or (slice_get places class) []
 
@@ -98,7 +98,7 @@ module _ (program : Source) (image : Segments) (has : HasStatics program image) 
       let r = table_place class (omega arith) in
       omega arith
 
--- the word of a class's slot is the code place
+-- the word of a class's slot is the code address
 pub read_table : (u : Setup) (extra : ℕ → ℕ) (shape : Locals) (class : ℕ) (st : State)
     (s : Typed u.setting extra shape class st) (g : IsGrounded u st.store) (image : Segments)
     (has : HasStatics u.setting.program image) → u.statics ≡ image.statics
@@ -133,7 +133,7 @@ read_table u extra shape class st s g image has same stack own slot inside h =
     ∙ ap (slice_index (tables 1 places)) back
     ∙ table_word 1 places own slot (omega arith)
 
--- and stands among the static cells
+-- and is among the static cells
 pub table_low : (program : Source) (image : Segments) (has : HasStatics program image) (own slot : ℕ)
     → own < length program.classes → slot < length (class_slots program own)
     → table_at program own + 1 + slot < statics_at + length image.statics
@@ -148,7 +148,7 @@ table_low program image has own slot inside h =
     let low = table_inside 1 places own slot (omega arith) in
     omega arith
 
--- the tables of the classes stand one behind the other
+-- the tables of the classes are one after the other
 pub tables_ascend : (program : Source) (c d : ℕ) → c < d → table_at program c < table_at program d
 tables_ascend program c zero h = absurd (omega arith)
 tables_ascend program c (suc d) h = by (λ l. tables_ascend program c d l) (nat_lt c d) refl

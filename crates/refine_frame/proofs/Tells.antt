@@ -1,27 +1,27 @@
--- What the words of an open frame tell: references from nil and from each other, heads, counts; and
--- that they are words in range.
--- That a name in a cell is live and not the main object's comes from the main object's own count alone.
+-- What the words of a current frame determine: references from nil and from each other, heads,
+-- reference counts; and that they are words in range. That an object id in a cell is live and not
+-- the main object's comes only from the main object's own reference count.
 use Rattle.std.proofs.Common.{◌≡◌, ◌≢◌, ◌∙◌, sym, ap, subst, refl, ℕ, ◌+◌, ◌-◌, ◌*◌, ◌/◌, ◌^◌, ◌<◌, ◌≤◌, Bool, true}
 use Rattle.std.proofs.Common.{false, List, [], ◌∷◌, length, drop, Some, arith}
 use Rattle.std.proofs.Math.Nat.{mod-add-div}
-use Rattle.std.proofs.lemmas.Bool.{eqb-true, ltb-true}
+use Rattle.std.proofs.lemmas.Bool.{eqb-true}
 use Rattle.std.proofs.lemmas.List.{get_or_append_left, length-replicate}
 use Rattle.std.specs.Prelude.{nat_eq, nat_lt, ◌&&◌, slice_index, replicate, if◌then◌else◌}
 use Rattle.std.specs.Option.{option_map}
-use Rattle.class_table.specs.declared.kind.Kind.{Kind}
-use Rattle.class_table.specs.Expressions.{is_int}
-use Rattle.class_table.specs.Scope.{Locals}
-use Rattle.buddy_book.specs.Place.{Placing, block_of, count_taken}
-use Rattle.buddy_book.proofs.Orders.{pow_pos}
-use Rattle.buddy_book.proofs.StoredLaws.{two_power}
-use Rattle.roopl_semantics.specs.Store.{Value, Word, Nil, Name, State, main_name, number_of, object_at}
-use Rattle.roopl_semantics.specs.Value.{Cell, read}
-use Rattle.rpp_words.specs.Limits.{IsLimits}
-use Rattle.roopl_semantics.specs.Layout.{word_of, head_word, object_words, with_book}
-use Rattle.roopl_semantics.specs.Laws.{one_if_name}
-use Rattle.pisa_isa.specs.Loaded.{statics_at}
-use Rattle.pisa_isa.specs.declared.image.TheConstants.{MOST_STATICS}
-use Rattle.rpp_words.specs.declared.input.TheConstants.{FRAME_WORDS}
+use Rattle.meaning_sound.specs.class_table.declared.kind.Kind.{Kind}
+use Rattle.meaning_sound.specs.class_table.Expressions.{is_int}
+use Rattle.meaning_sound.specs.class_table.Scope.{Locals}
+use Rattle.meaning_sound.specs.buddy_book.Place.{Placing, block_of, count_taken}
+use Rattle.meaning_sound.proofs.buddy_book_laws.Orders.{pow_pos}
+use Rattle.meaning_sound.proofs.buddy_book_laws.StoredLaws.{two_power}
+use Rattle.meaning_sound.specs.roopl_semantics.Store.{Value, Word, Nil, Name, State, main_name, number_of, object_at}
+use Rattle.meaning_sound.specs.roopl_semantics.Value.{Cell, read}
+use Rattle.meaning_sound.specs.rpp_words.Limits.{IsLimits}
+use Rattle.meaning_sound.specs.roopl_semantics.Layout.{word_of, head_word, object_words, with_book}
+use Rattle.meaning_sound.specs.roopl_semantics.Laws.{one_if_name}
+use Rattle.meaning_sound.specs.pisa_isa.Loaded.{statics_at}
+use Rattle.meaning_sound.specs.pisa_isa.declared.image.TheConstants.{MOST_STATICS}
+use Rattle.meaning_sound.specs.rpp_words.declared.input.TheConstants.{FRAME_WORDS}
 use Rattle.meaning_sound.specs.Sound.{head_of, is_live, fits, cell_kinds, cell_kind, held, Typed}
 use Rattle.refine_frame.specs.Open.{Setup, base_of, stack_at, address_of, memory, IsGrounded}
 use Rattle.meaning_sound.proofs.Lists.{all_length}
@@ -89,7 +89,7 @@ module _ (u : Setup) (extra : ℕ → ℕ) (shape : Locals) (class : ℕ) (st : 
       (ap (option_map head_of) (live_object st.store n r.live)) r.no_main in
       (omega arith, omega arith)
 
-  -- two names have one word only where they are one
+  -- two names have one word only if they are one
   pub names_tell : (n m : ℕ) → IsReference n → IsReference m
       → word_of base at.blocks (Name n) ≡ word_of base at.blocks (Name m) → n ≡ m
   names_tell n m r q e = by (nat_eq n m) refl
@@ -113,12 +113,6 @@ module _ (u : Setup) (extra : ℕ → ℕ) (shape : Locals) (class : ℕ) (st : 
               blocks) ≡ true → (Rattle.meaning_sound.proofs.Regions.has_entry n blocks ≡ true → 0 < n) → 0 < n
           by true e q rest = let z = eqb-true m n e in let a = d.1 in omega arith
           by false e q rest = rest q
-
-  -- what a value's word tells: nil and words have their numbers, references are told apart
-  abbrev pub IsTold : Value → Type 0
-  IsTold (Word w) = Unit {0}
-  IsTold Nil = Unit {0}
-  IsTold (Name n) = IsReference n
 
   abbrev pub IsRef : Value → Type 0
   IsRef (Word w) = ⊥
@@ -154,21 +148,6 @@ module _ (u : Setup) (extra : ℕ → ℕ) (shape : Locals) (class : ℕ) (st : 
       by (Word w) e f = clash (is_int k && nat_lt w (2 ^ 32)) f (ap (λ b. b && nat_lt w (2 ^ 32)) no_int)
       by Nil e f = tt
       by (Name n) e f = reference_read cell k n h e
-
-  -- every word that is read from a cell is a word of the machine
-  pub cell_word_small : stack_at u ≤ 2 ^ 32 → (cell : Cell) (k : Kind)
-      → cell_kind u.setting.program shape st.store cell ≡ Some k → word_of base at.blocks (read st cell) < 2 ^ 32
-  cell_word_small small cell k h = by (read st cell) refl (read_fits u.setting extra shape class st cell k s h)
-    where
-      second_true : (a b : Bool) → (a && b) ≡ true → b ≡ true
-      second_true true b e = e
-      second_true false b e = absurd (cc)
-
-      by : (v : Value) → read st cell ≡ v → fits u.setting.program st.store v k ≡ true
-          → word_of base at.blocks v < 2 ^ 32
-      by (Word w) e f = ltb-true w (2 ^ 32) (second_true (is_int k) _ f)
-      by Nil e f = omega arith
-      by (Name n) e f = let a = (name_word n (reference_read cell k n h e)).1 in omega arith
 
   -- ---- the words before an object's cells
 

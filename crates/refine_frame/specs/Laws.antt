@@ -1,16 +1,16 @@
--- The laws of an open frame: what its memory tells of cells, and that the frame of `main` is the
--- layout.
+-- The laws of a current frame: what its memory determines about cells, and that the frame of `main`
+-- is the layout.
 use Rattle.std.specs.Prelude.{◌≡◌, ◌≤◌, ℕ, List, [], length, replicate, Some, slice_index}
 use Rattle.std.specs.Prelude.{slice_set}
-use Rattle.class_table.specs.declared.kind.Kind.{Kind}
-use Rattle.class_table.specs.Scope.{Locals}
-use Rattle.buddy_book.specs.Place.{Placing, place}
-use Rattle.roopl_semantics.specs.Store.{Value, State}
-use Rattle.roopl_semantics.specs.Value.{Cell, read, written}
-use Rattle.roopl_semantics.specs.Layout.{word_of, layout}
-use Rattle.pisa_isa.specs.Machine.{State as Machine, reg}
-use Rattle.code_conventions.specs.declared.memory.TheConstants.{FIRST_VARIABLE}
-use Rattle.code_conventions.specs.declared.registers.TheConstants.{FRAME, OBJECT}
+use Rattle.meaning_sound.specs.class_table.declared.kind.Kind.{Kind}
+use Rattle.meaning_sound.specs.class_table.Scope.{Locals}
+use Rattle.meaning_sound.specs.buddy_book.Place.{Placing, place}
+use Rattle.meaning_sound.specs.roopl_semantics.Store.{Value, State}
+use Rattle.meaning_sound.specs.roopl_semantics.Value.{Cell, read, written}
+use Rattle.meaning_sound.specs.roopl_semantics.Layout.{word_of, layout}
+use Rattle.meaning_sound.specs.pisa_isa.Machine.{State as Machine, reg}
+use Rattle.meaning_sound.specs.code_conventions.declared.memory.TheConstants.{FIRST_VARIABLE}
+use Rattle.meaning_sound.specs.code_conventions.declared.registers.TheConstants.{FRAME, OBJECT}
 use Rattle.meaning_sound.specs.Sound.{cell_kind, Typed}
 use Rattle.refine_frame.specs.Open.{Setup, base_of, stack_at, address_of, cell_address}
 use Rattle.refine_frame.specs.Open.{IsGrounded, Open}
@@ -19,7 +19,7 @@ use Rattle.refine_frame.specs.Open.{IsGrounded, Open}
 abbrev pub with_word : Machine → ℕ → ℕ → Machine
 with_word m address word = record m { cells = slice_set m.cells address word }
 
--- under an open frame the address of a cell that has a type holds the word of what the source
+-- under a current frame the address of a cell that has a type holds the word of what the source
 -- reads, and its write is the write there
 pub record CellsAreWords (u : Setup) (shape : Locals) (at : Placing) (st : State) (below : List ℕ)
     (m : Machine) : Type 0 where
@@ -39,7 +39,7 @@ OpenCells =
     → IsGrounded u st.store → Open u s.placed.at below st m
     → CellsAreWords u shape s.placed.at st below m
 
--- at depth 1 with no variables and nothing put by, an open frame is the layout with the two
+-- at depth 1 with no variables and nothing saved, a current frame is the layout with the two
 -- addresses in their registers
 pub record OpenIsLayout (u : Setup) (at : Placing) (st : State) (m : Machine) : Type 0 where
   pub begins : 1 ≤ u.setting.limits.deep

@@ -1,20 +1,20 @@
--- A machine's memory and registers stand for an open frame of the source's execution.
+-- A machine's memory and registers represent a current frame of the source's execution.
 use Rattle.std.specs.Prelude.{◌≡◌, ◌≤◌, ℕ, ◌+◌, ◌-◌, ◌*◌, ◌^◌, nat_eq, if◌then◌else◌, List, [], ◌∷◌}
 use Rattle.std.specs.Prelude.{◌++◌, length, replicate, Some}
-use Rattle.rpp_words.specs.declared.input.TheConstants.{FRAME_WORDS}
-use Rattle.buddy_book.specs.Place.{Placing, block_of, place}
-use Rattle.roopl_semantics.specs.Store.{OfClass, Binding, Store, State, main_name}
-use Rattle.roopl_semantics.specs.Value.{Cell, Slot, Part}
-use Rattle.roopl_semantics.specs.Execution.{Setting}
-use Rattle.roopl_semantics.specs.Source.{main_fields}
-use Rattle.class_table.specs.Classes.{main_of}
-use Rattle.rpp_words.specs.Limits.{IsLimits}
-use Rattle.roopl_semantics.specs.Layout.{overlaid, word_of, laid}
-use Rattle.pisa_isa.specs.Loaded.{statics_at, heap_base}
-use Rattle.pisa_isa.specs.Machine.{State as Machine, reg}
-use Rattle.code_conventions.specs.declared.registers.TheConstants.{FRAME, OBJECT}
-use Rattle.code_conventions.specs.declared.memory.TheConstants.{HEADER_WORDS, FIRST_VARIABLE}
-use Rattle.code_conventions.specs.declared.memory.TheConstants.{MOST_VARIABLES}
+use Rattle.meaning_sound.specs.rpp_words.declared.input.TheConstants.{FRAME_WORDS}
+use Rattle.meaning_sound.specs.buddy_book.Place.{Placing, block_of, place}
+use Rattle.meaning_sound.specs.roopl_semantics.Store.{OfClass, Binding, Store, State, main_name}
+use Rattle.meaning_sound.specs.roopl_semantics.Value.{Cell, Slot, Part}
+use Rattle.meaning_sound.specs.roopl_semantics.Execution.{Setting}
+use Rattle.meaning_sound.specs.roopl_semantics.Source.{main_fields}
+use Rattle.meaning_sound.specs.class_table.Classes.{main_of}
+use Rattle.meaning_sound.specs.rpp_words.Limits.{IsLimits}
+use Rattle.meaning_sound.specs.roopl_semantics.Layout.{overlaid, word_of, laid}
+use Rattle.meaning_sound.specs.pisa_isa.Loaded.{statics_at, heap_base}
+use Rattle.meaning_sound.specs.pisa_isa.Machine.{State as Machine, reg}
+use Rattle.meaning_sound.specs.code_conventions.declared.registers.TheConstants.{FRAME, OBJECT}
+use Rattle.meaning_sound.specs.code_conventions.declared.memory.TheConstants.{HEADER_WORDS, FIRST_VARIABLE}
+use Rattle.meaning_sound.specs.code_conventions.declared.memory.TheConstants.{MOST_VARIABLES}
 use Rattle.meaning_sound.specs.Sound.{head_named}
 
 -- what stays in a run: the program with its limits, and the static cells of its image
@@ -28,7 +28,7 @@ base_of u = heap_base u.setting.limits.heap (length u.statics)
 abbrev pub stack_at : Setup → ℕ
 stack_at u = base_of u + 2 ^ u.setting.limits.heap
 
--- where an object stands: the main object among the static cells, any other one at its block
+-- the address of an object: the main object among the static cells, any other one at its block
 abbrev pub address_of : Setup → List (ℕ × ℕ) → ℕ → ℕ
 address_of u blocks name = if nat_eq name main_name then statics_at else base_of u + block_of blocks
     name
@@ -45,7 +45,7 @@ frame_words base blocks [] = []
 frame_words base blocks (b ∷ frame) = frame_words base blocks frame ++ word_of base blocks b.value
     ∷ []
 
--- the word of the frame in which a variable stands
+-- the word of the frame that holds a variable
 abbrev pub variable_word : State → ℕ → ℕ
 variable_word st index = FIRST_VARIABLE + (length st.frame - 1 - index)
 
@@ -55,14 +55,14 @@ cell_address u blocks st (Slot index) = stack_at u + FRAME_WORDS * (st.depth - 1
     index
 cell_address u blocks st (Part name index) = address_of u blocks name + HEADER_WORDS + index
 
--- the limits are in range, the static cells have room for the main object, whose class stays
+-- the limits are in range, the static cells have space for the main object, whose class stays
 pub record IsGrounded (u : Setup) (store : Store) : Type 0 where
   pub limits : IsLimits u.setting.limits
   pub room : HEADER_WORDS + length (main_fields u.setting.program) ≤ length u.statics
   pub main : head_named store main_name ≡ Some (OfClass (main_of u.setting.program).class)
 
--- Memory and the two addresses of an open frame. Below its variables the stack has any words: the
--- frames below, and what is put by.
+-- Memory and the two addresses of a current frame. Below its variables the stack has any words: the
+-- frames below, and what is saved.
 pub record Open (u : Setup) (at : Placing) (below : List ℕ) (st : State) (m : Machine) : Type 0
   where
     pub placed : place u.setting.limits.heap st.log ≡ Some at

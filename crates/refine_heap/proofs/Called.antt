@@ -1,25 +1,25 @@
--- Calls of the allocator over the memory that stands for a store.
+-- Calls of the allocator over the memory that represents a store.
 use Rattle.std.proofs.Common.{◌≡◌, ◌∙◌, ℕ, ◌+◌, ◌-◌, ◌^◌, ◌<◌, ◌≤◌, Bool, true, false, List, [], ◌∷◌, length, refl, sym}
 use Rattle.std.proofs.Common.{ap, subst, arith, get_or, replicate, Some, None}
 use Rattle.std.specs.List.{All}
 use Rattle.std.proofs.lemmas.List.{length-replicate, get_or-replicate}
-use Rattle.code_conventions.specs.declared.registers.TheConstants.{BLOCK}
-use Rattle.rpp_words.specs.Words.{IsWord}
-use Rattle.rpp_words.specs.declared.input.Limits.{Limits}
-use Rattle.rpp_tree.specs.Tree.{Source}
-use Rattle.pisa_isa.specs.Loaded.{heap_base}
-use Rattle.pisa_isa.specs.Machine.{Memory}
-use Rattle.paired_code.specs.declared.part.Symbol.{Symbol}
-use Rattle.paired_code.specs.declared.part.Symbol.TheVariants.{Enter}
-use Rattle.paired_code.specs.Machine.{Image, with_reg}
-use Rattle.paired_code.specs.Layout.{xor}
-use Rattle.paired_code.specs.Pieces.{Outcome, Done, Will}
-use Rattle.paired_code.proofs.Laws.{will_more}
-use Rattle.buddy_book.specs.Book.{Book, take, give}
-use Rattle.buddy_book.specs.Shown.{TakenBlocks, Shown, order_in, weight, cover}
-use Rattle.buddy_book.specs.Place.{Placing}
-use Rattle.buddy_book.proofs.Orders.{give_gave}
-use Rattle.buddy_book.proofs.Kept.{cover-additive, given_back}
+use Rattle.roopl_semantics.specs.code_conventions.declared.registers.TheConstants.{BLOCK}
+use Rattle.buddy_pisa.specs.rpp_words.Words.{IsWord}
+use Rattle.buddy_pisa.specs.rpp_words.declared.input.Limits.{Limits}
+use Rattle.roopl_semantics.specs.rpp_tree.Tree.{Source}
+use Rattle.buddy_pisa.specs.pisa_isa.Loaded.{heap_base}
+use Rattle.buddy_pisa.specs.pisa_isa.Machine.{Memory}
+use Rattle.buddy_pisa.specs.paired_code.declared.part.Symbol.{Symbol}
+use Rattle.buddy_pisa.specs.paired_code.declared.part.Symbol.TheVariants.{Enter}
+use Rattle.buddy_pisa.specs.paired_code.Machine.{Image, with_reg}
+use Rattle.buddy_pisa.specs.paired_code.Layout.{xor}
+use Rattle.buddy_pisa.specs.paired_code.Pieces.{Outcome, Done, Will}
+use Rattle.buddy_pisa.proofs.paired_code_laws.Laws.{will_more}
+use Rattle.buddy_pisa.specs.buddy_book.Book.{Book, take, give}
+use Rattle.buddy_pisa.specs.buddy_book.Shown.{TakenBlocks, Shown, order_in, weight, cover}
+use Rattle.buddy_pisa.specs.buddy_book.Place.{Placing}
+use Rattle.buddy_pisa.proofs.buddy_book_laws.Orders.{give_gave}
+use Rattle.buddy_pisa.proofs.buddy_book_laws.Kept.{cover-additive, given_back}
 use Rattle.roopl_semantics.specs.Store.{Store}
 use Rattle.roopl_semantics.specs.Layout.{with_book, heap_words, laid}
 use Rattle.buddy_pisa.specs.Held.{AllZero, HoldsBook, ChangesList}
@@ -31,9 +31,9 @@ use Rattle.refine_heap.specs.Calls.{LeavesIn, leaves_in, TrapsFull, traps_full, 
 use Rattle.refine_heap.proofs.Overlays.{FitLists, book_other}
 use Rattle.refine_heap.proofs.Whole.{objects_beside, counted, layout_law, laid_heap}
 use Rattle.refine_heap.proofs.Left.{taken_law, given_law}
-use Rattle.buddy_book.proofs.Table.{taken_weight-without}
+use Rattle.buddy_pisa.proofs.buddy_book_laws.Table.{taken_weight-without}
 
--- the book of a placing, and its taken blocks
+-- the free lists of a placing, and its allocated blocks
 abbrev book_of : Limits → List ℕ → Placing → TakenBlocks → Shown
 book_of limits statics placing taken = record {
   h = limits.heap;

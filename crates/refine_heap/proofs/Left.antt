@@ -1,18 +1,18 @@
--- What the allocator leaves is laid over the book that it left.
+-- The memory that the allocator leaves represents the free lists that it left.
 use Rattle.std.proofs.Common.{◌≡◌, ◌≢◌, ◌∙◌, ℕ, zero, suc, ◌+◌, ◌-◌, ◌^◌, ◌<◌, ◌≤◌, ◌⊎◌, inl, inr, Bool, true, false}
 use Rattle.std.proofs.Common.{List, [], ◌∷◌, ◌++◌, length, refl, sym, ap, subst, arith, get_or, map, replicate, nat_lt}
 use Rattle.std.proofs.Common.{nat_eq, ltb-true, ltb-false, eqb-true, false-eqb}
 use Rattle.std.proofs.lemmas.List.{get_or_append_left, length-append, length-replicate, get_or-replicate, length-map}
 use Rattle.std.proofs.Math.Seq.{get_or-append_right}
-use Rattle.rpp_words.specs.declared.input.TheConstants.{FIXED_CELLS, MOST_HEAP}
-use Rattle.rpp_words.specs.declared.input.Limits.{Limits}
-use Rattle.rpp_tree.specs.Tree.{Source}
-use Rattle.pisa_isa.specs.Loaded.{statics_at, heap_base, fixed_cells}
-use Rattle.buddy_book.specs.Book.{Book, give}
-use Rattle.buddy_book.specs.Shown.{with_taken, without_taken, weight, Shown, cover, first_address}
-use Rattle.buddy_book.specs.Place.{Placing}
-use Rattle.buddy_book.proofs.Orders.{take_took, give_gave}
-use Rattle.buddy_book.proofs.Kept.{cover-additive, take_kept, give_kept, given_back}
+use Rattle.buddy_pisa.specs.rpp_words.declared.input.TheConstants.{FIXED_CELLS, MOST_HEAP}
+use Rattle.buddy_pisa.specs.rpp_words.declared.input.Limits.{Limits}
+use Rattle.roopl_semantics.specs.rpp_tree.Tree.{Source}
+use Rattle.buddy_pisa.specs.pisa_isa.Loaded.{statics_at, heap_base, fixed_cells}
+use Rattle.buddy_pisa.specs.buddy_book.Book.{Book, give}
+use Rattle.buddy_pisa.specs.buddy_book.Shown.{with_taken, without_taken, weight, Shown, cover, first_address}
+use Rattle.buddy_pisa.specs.buddy_book.Place.{Placing}
+use Rattle.buddy_pisa.proofs.buddy_book_laws.Orders.{take_took, give_gave}
+use Rattle.buddy_pisa.proofs.buddy_book_laws.Kept.{cover-additive, take_kept, give_kept, given_back}
 use Rattle.roopl_semantics.specs.Store.{Store, object_at, main_name}
 use Rattle.roopl_semantics.specs.Layout.{overlaid, object_words, with_book, with_objects, heap_words, static_words}
 use Rattle.roopl_semantics.specs.Layout.{laid}
@@ -40,7 +40,7 @@ agree_append a b c d i n left right = by (nat_lt i (length a)) refl
         get_or-append_right a b i 0 k ∙ right k ∙ ap (λ z. get_or d (i - z) 0) n
         ∙ sym (get_or-append_right c d i 0 (omega arith))
 
--- the fixed cells but for the heads
+-- the fixed cells except for the heads
 fixed_agree : (h deep base : ℕ) (heads others : List ℕ) (y : ℕ) → length heads ≡ h → length others ≡ h
     → (y < 9) ⊎ (8 + h < y) → y < FIXED_CELLS → get_or (fixed_cells h deep base heads) y 0
     ≡ get_or (fixed_cells h deep base others) y 0
@@ -146,7 +146,7 @@ module _ (program : Source) (limits : Limits) (statics : List ℕ) (store : Stor
         (with_book base second plain) x (b1.count ∙ plain_length) (b2.count ∙ plain_length) apart1
         (b1.other x w1 ∙ sym (b2.other x w2))
 
-    -- a word that is free in the first alone
+    -- a word that is free only in the first
     free_in_first : (x : ℕ) → x < 2 ^ h → 1 ≤ weight (cover x) 2 first → weight (cover x) 2 second ≡ 0
         → get_or words2 x 0 ≡ 0
     free_in_first x k w1 w2 =
@@ -181,7 +181,7 @@ module _ (program : Source) (limits : Limits) (statics : List ℕ) (store : Stor
         let a : length (heads ++ pad) ≡ length heads + length pad = length-append heads pad in
         omega arith
 
-    -- the memories agree where no head is, and where the heaps agree
+    -- the memories agree if no head is, and if the heaps agree
     laid_agree : (y : ℕ) → (y < 9) ⊎ (8 + h < y) → (base ≤ y → y - base < 2 ^ h
         → get_or words1 (y - base) 0 ≡ get_or words2 (y - base) 0) → get_or laid1 y 0 ≡ get_or laid2 y 0
     laid_agree y out heap =
@@ -215,8 +215,8 @@ module _ (program : Source) (limits : Limits) (statics : List ℕ) (store : Stor
         one_memory base h second laid2 cells lists2 (laid_lists program limits statics store two stack lists2 top count2
         apart2 main) holds.lists (n ∙ m1 ∙ sym m2) same
 
-    -- where a word is free in the second book, it is told; else it is as in the first memory, or 0
-    -- where it was free there
+    -- if a word is free in the second free lists, they determine it; otherwise it is as in the
+    -- first memory, or 0 if it was free there
     left : (cells : List ℕ) (word k : ℕ) → 1 ≤ k → word < 2 ^ h → HoldsBook base h second cells
         → length cells ≡ length laid1 → ((y : ℕ) → y ≢ base + word → (y < 8 + k) ⊎ (8 + h < y)
         → get_or cells y 0 ≡ get_or laid1 y 0) → ((x : ℕ) → x < 2 ^ h → weight (cover x) 2 second ≡ 0
@@ -273,7 +273,7 @@ apart_less program size base store all ((name, block) ∷ rest) first second les
   apart_less program size base store all rest first second less h.2,
 )
 
--- where a word was free before and is not, it was in the block
+-- if a word was free before and is not, it was in the block
 in_block : (x block s w : ℕ) → 1 ≤ w → w ≡ cover x block s + 0 → (block ≤ x) × (x < block + s)
 in_block x block s w one e = (omega arith, omega arith)
 

@@ -4,8 +4,8 @@ use Rattle.std.proofs.Common.{refl, sym, ap, subst, arith, get_or, take, drop, n
 use Rattle.std.proofs.lemmas.List.{get_or_append_left, get_or-take, get_or-drop, length-take, length-drop}
 use Rattle.std.proofs.lemmas.List.{length-append, take_all}
 use Rattle.std.proofs.Math.Seq.{get_or-append_right}
-use Rattle.buddy_book.specs.Book.{Book}
-use Rattle.buddy_book.specs.Shown.{list_weight, weight, cover, first_address}
+use Rattle.buddy_pisa.specs.buddy_book.Book.{Book}
+use Rattle.buddy_pisa.specs.buddy_book.Shown.{list_weight, weight, cover, first_address}
 use Rattle.roopl_semantics.specs.Layout.{overlaid, with_links, with_book}
 
 module _ (words : List ℕ) (at : ℕ) (new : List ℕ) (fits : at + length new ≤ length words) where

@@ -1,12 +1,12 @@
--- The taken blocks have room for the objects.
+-- The allocated blocks have space for the objects.
 use Rattle.std.proofs.Common.{◌≡◌, ◌≢◌, ◌∙◌, ℕ, ◌+◌, ◌^◌, ◌<◌, ◌≤◌, Bool, true, false, List, [], ◌∷◌, refl, sym, ap}
 use Rattle.std.proofs.Common.{arith, nat_eq, nat_lt, Some, None, eqb-true, ne_eqb, if◌then◌else◌}
-use Rattle.rpp_tree.specs.Tree.{Source}
-use Rattle.buddy_book.specs.Book.{Book}
-use Rattle.buddy_book.specs.Shown.{TakenBlocks, Shown, order_in, with_taken, without_taken, weight, taken_weight}
-use Rattle.buddy_book.specs.Shown.{IsKept, cover}
-use Rattle.buddy_book.proofs.Kept.{cover-additive, given_back}
-use Rattle.buddy_book.proofs.Table.{taken_weight-without}
+use Rattle.roopl_semantics.specs.rpp_tree.Tree.{Source}
+use Rattle.buddy_pisa.specs.buddy_book.Book.{Book}
+use Rattle.buddy_pisa.specs.buddy_book.Shown.{TakenBlocks, Shown, order_in, with_taken, without_taken, weight, taken_weight}
+use Rattle.buddy_pisa.specs.buddy_book.Shown.{IsKept, cover}
+use Rattle.buddy_pisa.proofs.buddy_book_laws.Kept.{cover-additive, given_back}
+use Rattle.buddy_pisa.proofs.buddy_book_laws.Table.{taken_weight-without}
 use Rattle.roopl_semantics.specs.Store.{Store}
 use Rattle.refine_heap.specs.Laid.{StandApart}
 use Rattle.refine_heap.specs.Rooms.{HaveRoom, NotAmong, RoomLaw}

@@ -7,16 +7,16 @@ use Rattle.std.proofs.lemmas.List.{get_or_append_left, length-drop, length-appen
 use Rattle.std.proofs.lemmas.List.{length-map}
 use Rattle.std.proofs.Math.Seq.{get_or-append_right}
 use Rattle.std.proofs.Math.Nat.{mod-add-div'}
-use Rattle.rpp_words.specs.declared.input.Limits.{Limits}
-use Rattle.rpp_tree.specs.Tree.{Source}
-use Rattle.pisa_isa.specs.Loaded.{statics_at, heap_base, fixed_cells}
-use Rattle.buddy_book.specs.Book.{Book}
-use Rattle.rpp_words.specs.Words.{IsWord}
-use Rattle.buddy_book.specs.Shown.{TakenBlocks, is_sound_list, is_sound, weight, taken_weight, IsKept, cover}
-use Rattle.buddy_book.specs.Shown.{first_address}
-use Rattle.buddy_book.specs.Place.{Placing}
-use Rattle.buddy_book.proofs.TakeGive.{both, sound_head}
-use Rattle.buddy_book.proofs.Kept.{cover-additive}
+use Rattle.buddy_pisa.specs.rpp_words.declared.input.Limits.{Limits}
+use Rattle.roopl_semantics.specs.rpp_tree.Tree.{Source}
+use Rattle.buddy_pisa.specs.pisa_isa.Loaded.{statics_at, heap_base, fixed_cells}
+use Rattle.buddy_pisa.specs.buddy_book.Book.{Book}
+use Rattle.buddy_pisa.specs.rpp_words.Words.{IsWord}
+use Rattle.buddy_pisa.specs.buddy_book.Shown.{TakenBlocks, is_sound_list, is_sound, weight, taken_weight, IsKept, cover}
+use Rattle.buddy_pisa.specs.buddy_book.Shown.{first_address}
+use Rattle.buddy_pisa.specs.buddy_book.Place.{Placing}
+use Rattle.buddy_pisa.proofs.buddy_book_laws.TakeGive.{both, sound_head}
+use Rattle.buddy_pisa.proofs.buddy_book_laws.Kept.{cover-additive}
 use Rattle.roopl_semantics.specs.Store.{Store, object_at, main_name}
 use Rattle.roopl_semantics.specs.Layout.{overlaid, object_words, with_book, with_objects, heap_words, static_words}
 use Rattle.roopl_semantics.specs.Layout.{laid}
@@ -25,7 +25,7 @@ use Rattle.refine_heap.specs.Laid.{StandApart, LayoutLaw}
 use Rattle.refine_heap.proofs.Overlays.{overlaid_length, overlaid_before, overlaid_after, LinkedList, LinkedLists}
 use Rattle.refine_heap.proofs.Overlays.{FitList, FitLists, lists_agree, book_other, book_linked}
 use Rattle.std.proofs.lemmas.Nat.{pow_pos}
-use Rattle.rpp_words.specs.declared.input.TheConstants.{FIXED_CELLS, MOST_HEAP}
+use Rattle.buddy_pisa.specs.rpp_words.declared.input.TheConstants.{FIXED_CELLS, MOST_HEAP}
 
 -- ---- the objects
 
@@ -128,7 +128,7 @@ base_room h n p = let m = mod-add-div' (FIXED_CELLS + n + 2 ^ h - 1) (2 ^ h) in
     let r : (FIXED_CELLS + n + 2 ^ h - 1) % 2 ^ h < 2 ^ h =
     mod-lt (FIXED_CELLS + n + 2 ^ h - 1) p in omega arith
 
--- a memory in parts: cells of its own, others up to the heap's base, the heap, and what stands behind it
+-- a memory in parts: cells of its own, others up to the heap's base, the heap, and what follows it
 module _ (h deep base : ℕ) (heads statics zeros words stack : List ℕ) (small : length heads ≤ 31)
     (to_base : FIXED_CELLS + length statics + length zeros ≡ base) where
   abbrev fixed : List ℕ
@@ -178,7 +178,7 @@ module _ (h deep base : ℕ) (heads statics zeros words stack : List ℕ) (small
 cover_within : (x u w v : ℕ) → w + v ≡ cover x 0 u → 1 ≤ w → x < u
 cover_within x u w v e h = omega arith
 
--- what is known of a heap's book, without its memory
+-- what holds for a heap's free lists, without its memory
 pub record Counted (base size : ℕ) (book : Book) : Type 0 where
   pub fits : FitLists size 2 book
   pub once : (x : ℕ) → weight (cover x) 2 book ≤ 1

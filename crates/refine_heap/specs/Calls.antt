@@ -1,21 +1,21 @@
--- Calls of the allocator over the memory that stands for a store.
+-- Calls of the allocator over the memory that represents a store.
 use Rattle.std.specs.Prelude.{◌≡◌, ◌<◌, ◌≤◌, ℕ, ◌+◌, Bool, true, false, List, [], ◌∷◌, length, Some}
 use Rattle.std.specs.Prelude.{None}
 use Rattle.std.specs.List.{All}
-use Rattle.code_conventions.specs.declared.faults.TheConstants.{HEAP_FULL}
-use Rattle.rpp_words.specs.Words.{IsWord}
-use Rattle.rpp_words.specs.declared.input.Limits.{Limits}
-use Rattle.rpp_tree.specs.Tree.{Source}
-use Rattle.pisa_isa.specs.Loaded.{heap_base}
-use Rattle.pisa_isa.specs.Machine.{Memory}
-use Rattle.paired_code.specs.declared.part.Symbol.{Symbol}
-use Rattle.paired_code.specs.declared.part.Symbol.TheVariants.{Enter}
-use Rattle.paired_code.specs.Machine.{Image, with_reg}
-use Rattle.paired_code.specs.Layout.{xor}
-use Rattle.paired_code.specs.Pieces.{Outcome, Done, Trapped, Will}
-use Rattle.buddy_book.specs.Book.{Book, take, give}
-use Rattle.buddy_book.specs.Shown.{TakenBlocks, order_in}
-use Rattle.buddy_book.specs.Place.{Placing}
+use Rattle.roopl_semantics.specs.code_conventions.declared.faults.TheConstants.{HEAP_FULL}
+use Rattle.buddy_pisa.specs.rpp_words.Words.{IsWord}
+use Rattle.buddy_pisa.specs.rpp_words.declared.input.Limits.{Limits}
+use Rattle.roopl_semantics.specs.rpp_tree.Tree.{Source}
+use Rattle.buddy_pisa.specs.pisa_isa.Loaded.{heap_base}
+use Rattle.buddy_pisa.specs.pisa_isa.Machine.{Memory}
+use Rattle.buddy_pisa.specs.paired_code.declared.part.Symbol.{Symbol}
+use Rattle.buddy_pisa.specs.paired_code.declared.part.Symbol.TheVariants.{Enter}
+use Rattle.buddy_pisa.specs.paired_code.Machine.{Image, with_reg}
+use Rattle.buddy_pisa.specs.paired_code.Layout.{xor}
+use Rattle.buddy_pisa.specs.paired_code.Pieces.{Outcome, Done, Trapped, Will}
+use Rattle.buddy_pisa.specs.buddy_book.Book.{Book, take, give}
+use Rattle.buddy_pisa.specs.buddy_book.Shown.{TakenBlocks, order_in}
+use Rattle.buddy_pisa.specs.buddy_book.Place.{Placing}
 use Rattle.roopl_semantics.specs.Store.{Store}
 use Rattle.buddy_pisa.specs.declared.rows.TheConstants.{BLOCK}
 use Rattle.buddy_pisa.specs.Promise.{Enters, most_steps}
@@ -28,11 +28,11 @@ pub data LeavesIn (after : Memory) (h : ℕ) : Outcome → Type 0 where
   leaves_in : (steps : ℕ) → h < steps → steps ≤ most_steps h + 7
       → LeavesIn after h (Done after steps)
 
--- it traps for want of a block
+-- it traps because there is no block
 pub data TrapsFull (h : ℕ) : Outcome → Type 0 where
   traps_full : (steps : ℕ) → steps ≤ most_steps h + 7 → TrapsFull h (Trapped HEAP_FULL steps)
 
--- a call of a routine that is the allocator, from a memory that stands for a store
+-- a call of a routine that is the allocator, from a memory that represents a store
 pub record Calls (im : Image) (r top : ℕ) (body : List Symbol) (m : Memory)
     (program : Source) (limits : Limits) (statics : List ℕ) (store : Store)
     (placing : Placing) (taken : TakenBlocks) (stack : List ℕ) : Type 0 where
@@ -41,8 +41,8 @@ pub record Calls (im : Image) (r top : ℕ) (body : List Symbol) (m : Memory)
   pub cells : m.cells ≡ laid program limits statics store placing stack
   pub words : All IsWord m.cells
 
--- the memory then stands for the same store over the book that was left, and but for BLOCK no
--- register differs
+-- the memory then represents the same store over the free lists that were left, and no register
+-- differs except BLOCK
 pub record LaidCallLaw (im : Image) (r : ℕ) (m : Memory)
     (program : Source) (limits : Limits) (statics : List ℕ) (store : Store)
     (placing : Placing) (taken : TakenBlocks) (stack : List ℕ) : Type 0 where

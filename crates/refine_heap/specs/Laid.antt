@@ -1,14 +1,13 @@
--- The memory that stands for a store holds the book of its free blocks, before and after the
--- allocator.
+-- The memory that represents a store holds its free lists, before and after the allocator.
 use Rattle.std.specs.Prelude.{◌≡◌, ◌<◌, ◌≤◌, ℕ, ◌+◌, ◌^◌, List, [], ◌∷◌, length, Some}
 use Rattle.std.specs.List.{All}
-use Rattle.rpp_words.specs.Words.{IsWord}
-use Rattle.rpp_words.specs.declared.input.Limits.{Limits}
-use Rattle.rpp_tree.specs.Tree.{Source}
-use Rattle.pisa_isa.specs.Loaded.{heap_base}
-use Rattle.buddy_book.specs.Book.{Book, take, give}
-use Rattle.buddy_book.specs.Shown.{TakenBlocks, order_in, cover, IsKept, weight}
-use Rattle.buddy_book.specs.Place.{Placing}
+use Rattle.buddy_pisa.specs.rpp_words.Words.{IsWord}
+use Rattle.buddy_pisa.specs.rpp_words.declared.input.Limits.{Limits}
+use Rattle.roopl_semantics.specs.rpp_tree.Tree.{Source}
+use Rattle.buddy_pisa.specs.pisa_isa.Loaded.{heap_base}
+use Rattle.buddy_pisa.specs.buddy_book.Book.{Book, take, give}
+use Rattle.buddy_pisa.specs.buddy_book.Shown.{TakenBlocks, order_in, cover, IsKept, weight}
+use Rattle.buddy_pisa.specs.buddy_book.Place.{Placing}
 use Rattle.roopl_semantics.specs.Store.{Store, object_at, main_name}
 use Rattle.roopl_semantics.specs.Layout.{object_words, laid}
 use Rattle.buddy_pisa.specs.Held.{AllZero, HoldsBook, ChangesList}
@@ -18,7 +17,7 @@ abbrev pub words_of : Source → ℕ → Store → List (ℕ × ℕ) → ℕ →
 words_of program base store all name =
     length (object_words program base all (object_at store name))
 
--- the words of each object stand in no free block, and within the heap
+-- the words of each object are in no free block, and within the heap
 abbrev pub StandApart : Source → (size base : ℕ) → Store → (all blocks : List (ℕ × ℕ)) → Book
     → Type 0
 StandApart program size base store all [] book = Unit {0}
@@ -34,7 +33,7 @@ StandsBeside program limits statics store blocks book =
     let base = heap_base limits.heap (length statics) in
     StandApart program (2 ^ limits.heap) base store blocks blocks book
 
--- a placing: its book is kept, its objects stand apart from it, and main's object has room
+-- a placing: its free lists are kept, its objects are apart from them, and main's object has space
 pub record IsPlaced (program : Source) (limits : Limits) (statics : List ℕ) (store : Store)
     (placing : Placing) (taken : TakenBlocks) : Type 0 where
   pub kept : IsKept (record {
@@ -57,7 +56,7 @@ LayoutLaw = (program : Source) (limits : Limits) (statics : List ℕ) (store : S
     → HoldsBook (heap_base limits.heap (length statics)) limits.heap placing.book
     (laid program limits statics store placing stack)
 
--- what a take leaves is the memory over the book that it leaves
+-- what an allocation leaves is the memory over the free lists that it leaves
 abbrev pub TakenLaw : Type 0
 TakenLaw = (program : Source) (limits : Limits) (statics : List ℕ) (store : Store)
     (placing : Placing) (taken : TakenBlocks) (stack : List ℕ)
@@ -72,7 +71,7 @@ TakenLaw = (program : Source) (limits : Limits) (statics : List ℕ) (store : St
     → cells ≡ laid program limits statics store
     (record { book = after; blocks = placing.blocks }) stack
 
--- and so it is with a give, where no object's words stand in the block
+-- and so it is when a block is freed, if no object's words are in the block
 abbrev pub GivenLaw : Type 0
 GivenLaw = (program : Source) (limits : Limits) (statics : List ℕ) (store : Store)
     (placing : Placing) (taken : TakenBlocks) (stack : List ℕ) (k block : ℕ) (cells : List ℕ)

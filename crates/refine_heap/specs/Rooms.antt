@@ -1,12 +1,12 @@
--- The taken blocks have room for the objects.
+-- The allocated blocks have space for the objects.
 use Rattle.std.specs.Prelude.{◌≡◌, ◌≢◌, ◌≤◌, ℕ, ◌^◌, List, [], ◌∷◌, Some, None}
-use Rattle.rpp_tree.specs.Tree.{Source}
-use Rattle.buddy_book.specs.Book.{Book}
-use Rattle.buddy_book.specs.Shown.{TakenBlocks, order_in, with_taken, without_taken, IsKept}
+use Rattle.roopl_semantics.specs.rpp_tree.Tree.{Source}
+use Rattle.buddy_pisa.specs.buddy_book.Book.{Book}
+use Rattle.buddy_pisa.specs.buddy_book.Shown.{TakenBlocks, order_in, with_taken, without_taken, IsKept}
 use Rattle.roopl_semantics.specs.Store.{Store}
 use Rattle.refine_heap.specs.Laid.{words_of, StandApart}
 
--- each object's block is taken, with an order that has room for its words
+-- each object's block is allocated, with an order that has space for its words
 abbrev pub HaveRoom : Source → (base : ℕ) → Store → (all blocks : List (ℕ × ℕ)) → TakenBlocks
     → Type 0
 HaveRoom program base store all [] taken = Unit {0}
@@ -19,8 +19,8 @@ abbrev pub NotAmong : ℕ → List (ℕ × ℕ) → Type 0
 NotAmong block [] = Unit {0}
 NotAmong block ((name, b) ∷ rest) = (b ≢ block) × NotAmong block rest
 
--- then their words stand apart from the free blocks; they have room after a take too, and after a
--- give of a block that is no object's
+-- then their words are apart from the free blocks; they also have space after an allocation, and
+-- after the freeing of a block that is no object's
 pub record RoomLaw : Type 0 where
   pub apart : (program : Source) (h base : ℕ) (store : Store) (all blocks : List (ℕ × ℕ))
       (book : Book) (taken : TakenBlocks)

@@ -1,7 +1,6 @@
-//! The joint between the allocator and the layout: the memory that stands for a store holds the
-//! book of its free blocks, and a call of the allocator leads to the memory that stands for the
-//! same store over the book that is left. The layer above may use the laws of specs/; no code
-//! stands here.
+//! The joint between the allocator and the layout. The memory that represents a store holds its
+//! free lists, and a call of the allocator leads to the memory that represents the same store over
+//! the free lists that are left. The layer above may use the laws of specs/; there is no code here.
 #![tactic(auto)]
 
 mod laws;

@@ -3,34 +3,34 @@ use Rattle.std.proofs.Common.{◌≡◌, ◌≢◌, ◌∙◌, sym, ap, subst, r
 use Rattle.std.proofs.Common.{false, List, [], ◌∷◌, length, Option, Some, None, arith, append-nil}
 use Rattle.std.specs.Prelude.{is_none}
 use Rattle.std.specs.Option.{option_map}
-use Rattle.rpp_words.specs.declared.input.TheConstants.{FRAME_WORDS}
-use Rattle.rpp_tree.specs.declared.tree.Ident.{Ident}
-use Rattle.rpp_tree.specs.Tree.{Source}
-use Rattle.class_table.specs.Scope.{Locals}
-use Rattle.buddy_book.specs.Book.{Book, take, take_past, below_taken}
-use Rattle.buddy_book.specs.Place.{Placing, Taken, count_taken, place, after_request, with_block}
-use Rattle.buddy_book.specs.Shown.{Shown, TakenBlocks, order_in, with_taken, IsKept}
-use Rattle.buddy_book.proofs.Orders.{TookOrder, take_took, take_past-above}
-use Rattle.buddy_book.proofs.Kept.{none_taken, take_kept}
-use Rattle.buddy_book.proofs.Table.{order_in-with}
-use Rattle.buddy_pisa.specs.Promise.{most_steps}
-use Rattle.roopl_semantics.specs.Store.{State, main_name, object_at}
-use Rattle.roopl_semantics.specs.Execution.{order_of_cells}
-use Rattle.meaning_sound.specs.Sound.{head_of, cell_kinds, Typed}
-use Rattle.meaning_sound.proofs.Lists.{all_length}
-use Rattle.meaning_sound.proofs.Stores.{live_object}
-use Rattle.meaning_sound.proofs.Regions.{BlocksDescend, EntriesAre, room_of, blocks_descend, entries_are}
-use Rattle.refine_frame.specs.Open.{IsGrounded}
-use Rattle.refine_frame.proofs.Heaps.{length_words}
-use Rattle.refine_frame.proofs.Memory.{main_long}
-use Rattle.refine_frame.proofs.Tells.{cells_small}
-use Rattle.refine_heap.specs.Laid.{IsPlaced, words_of}
-use Rattle.refine_heap.specs.Rooms.{HaveRoom}
-use Rattle.refine_heap.proofs.Roomy.{room_law}
-use Rattle.refine_form.specs.Frames.{base, before_stack, filled_to, memory}
-use Rattle.refine_form.specs.Stands.{setup}
-use Rattle.refine_form.specs.Worlds.{Place}
-use Rattle.refine_calls.specs.Laws.{IsLinked}
+use Rattle.object_codegen.specs.rpp_words.declared.input.TheConstants.{FRAME_WORDS}
+use Rattle.object_codegen.specs.rpp_tree.declared.tree.Ident.{Ident}
+use Rattle.object_codegen.specs.rpp_tree.Tree.{Source}
+use Rattle.object_codegen.specs.class_table.Scope.{Locals}
+use Rattle.object_codegen.specs.buddy_book.Book.{Book, take, take_past, below_taken}
+use Rattle.object_codegen.specs.buddy_book.Place.{Placing, Taken, count_taken, place, after_request, with_block}
+use Rattle.object_codegen.specs.buddy_book.Shown.{Shown, TakenBlocks, order_in, with_taken, IsKept}
+use Rattle.object_codegen.proofs.buddy_book_laws.Orders.{TookOrder, take_took, take_past-above}
+use Rattle.object_codegen.proofs.buddy_book_laws.Kept.{none_taken, take_kept}
+use Rattle.object_codegen.proofs.buddy_book_laws.Table.{order_in-with}
+use Rattle.object_codegen.specs.buddy_pisa.Promise.{most_steps}
+use Rattle.object_codegen.specs.roopl_semantics.Store.{State, main_name, object_at}
+use Rattle.object_codegen.specs.roopl_semantics.Execution.{order_of_cells}
+use Rattle.object_codegen.specs.meaning_sound.Sound.{head_of, cell_kinds, Typed}
+use Rattle.object_codegen.proofs.meaning_sound_laws.Lists.{all_length}
+use Rattle.object_codegen.proofs.meaning_sound_laws.Stores.{live_object}
+use Rattle.object_codegen.proofs.meaning_sound_laws.Regions.{BlocksDescend, EntriesAre, room_of, blocks_descend, entries_are}
+use Rattle.object_codegen.specs.refine_frame.Open.{IsGrounded}
+use Rattle.object_codegen.proofs.refine_frame_laws.Heaps.{length_words}
+use Rattle.object_codegen.proofs.refine_frame_laws.Memory.{main_long}
+use Rattle.object_codegen.proofs.refine_frame_laws.Tells.{cells_small}
+use Rattle.object_codegen.specs.refine_heap.Laid.{IsPlaced, words_of}
+use Rattle.object_codegen.specs.refine_heap.Rooms.{HaveRoom}
+use Rattle.object_codegen.proofs.refine_heap_laws.Roomy.{room_law}
+use Rattle.object_codegen.specs.refine_form.Frames.{base, before_stack, filled_to, memory}
+use Rattle.object_codegen.specs.refine_form.Stands.{setup}
+use Rattle.object_codegen.specs.refine_form.Worlds.{Place}
+use Rattle.refine_expressions.specs.refine_calls.Laws.{IsLinked}
 use Rattle.object_codegen.specs.declared.shape.Shape.{Shape}
 use Rattle.object_codegen.specs.News.{Allocates, Lacks}
 use Rattle.object_codegen.proofs.OverLayout.{IsLeft, allocates, lacks}
@@ -173,7 +173,7 @@ module _ (p : Place) (routine : ℕ → Ident → ℕ) (linked : IsLinked p rout
         (filled_to p.setting p.statics (FRAME_WORDS * p.setting.limits.deep) words) low n heap_placed none
         (subst (λ z. length z ≤ low) (sym (append-nil (before_stack p.setting p.statics at st.store))) long) inside
 
-  -- where a request finds none, there is none
+  -- if a request finds none, there is none
   pub none_there : (name order : ℕ) → is_none (place h (Taken name order ∷ st.log)) ≡ true → take at.book order ≡ None
   none_there name order e = by (take at.book order) refl
     where

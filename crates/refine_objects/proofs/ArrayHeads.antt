@@ -4,22 +4,21 @@ use Rattle.std.proofs.Common.{subst, arith, eqb-true}
 use Rattle.std.proofs.lemmas.List.{length-replicate}
 use Rattle.std.specs.Prelude.{replicate, ◌&&◌}
 use Rattle.std.specs.Option.{unwrap_or}
-use Rattle.rpp_tree.specs.declared.tree.Ident.{Ident}
-use Rattle.rpp_tree.specs.Tree.{Source}
-use Rattle.class_table.specs.declared.kind.Kind.{Kind}
-use Rattle.class_table.specs.declared.kind.Kind.TheVariants as kind
-use Rattle.class_table.specs.Classes.{class_number}
-use Rattle.class_table.specs.Table.{table_of, class_of}
-use Rattle.class_table.specs.Expressions.{is_int, element_kind}
-use Rattle.class_table.specs.Statements.{is_int_array, takes_objects_of}
-use Rattle.roopl_semantics.specs.Store.{Value, Word, Nil, Head, OfClass, OfInts, OfObjects, Store, is_zero}
-use Rattle.roopl_semantics.specs.Execution.{all_zero}
-use Rattle.roopl_semantics.specs.Laws.{one_if_name, holders_among}
-use Rattle.roopl_semantics.specs.Layout.{head_word}
-use Rattle.meaning_sound.specs.Sound.{head_fits, fits, cell_kinds, AllFit}
-use Rattle.meaning_sound.proofs.Stores.{same_number}
-use Rattle.meaning_sound.proofs.Values.{IsArray, array_head}
-use Rattle.refine_form.specs.Stands.{HasElements}
+use Rattle.object_codegen.specs.rpp_tree.declared.tree.Ident.{Ident}
+use Rattle.object_codegen.specs.rpp_tree.Tree.{Source}
+use Rattle.object_codegen.specs.class_table.declared.kind.Kind.{Kind}
+use Rattle.object_codegen.specs.class_table.declared.kind.Kind.TheVariants as kind
+use Rattle.object_codegen.specs.class_table.Classes.{class_number}
+use Rattle.object_codegen.specs.class_table.Table.{table_of, class_of}
+use Rattle.object_codegen.specs.class_table.Expressions.{is_int, element_kind}
+use Rattle.object_codegen.specs.class_table.Statements.{is_int_array, takes_objects_of}
+use Rattle.object_codegen.specs.roopl_semantics.Store.{Value, Word, Nil, Head, OfClass, OfInts, OfObjects, Store, is_zero}
+use Rattle.object_codegen.specs.roopl_semantics.Execution.{all_zero}
+use Rattle.object_codegen.specs.roopl_semantics.Laws.{one_if_name, holders_among}
+use Rattle.object_codegen.specs.roopl_semantics.Layout.{head_word}
+use Rattle.object_codegen.specs.meaning_sound.Sound.{head_fits, fits, cell_kinds, AllFit}
+use Rattle.object_codegen.proofs.meaning_sound_laws.Stores.{same_number}
+use Rattle.object_codegen.specs.refine_form.Stands.{HasElements}
 
 -- arrays of a type: their heads by the length, and what their cells are at first
 pub record Arrays (P : Source) (array element : Kind) (head : ℕ → Head) (first : Value) : Type 0 where
@@ -139,10 +138,6 @@ module _ (P : Source) (array element : Kind) (head : ℕ → Head) (first : Valu
         by (kind.Class c) (kind.ClassArray d) e f = cc
         by kind.IntArray (kind.ClassArray d) e f = cc
         by (kind.ClassArray c) (kind.ClassArray d) e f = cc
-
-    -- what a place of the type refers to
-    pub found_head : (hd : Head) → head_fits P array hd ≡ true → IsArray P element hd
-    found_head hd h = array_head P array element hd a.is_array h
 
     pub found_mark : (hd : Head) → head_fits P array hd ≡ true → head_word P hd ≡ length (cell_kinds P hd)
     found_mark hd h = by array hd a.is_array h

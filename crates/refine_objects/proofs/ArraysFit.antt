@@ -1,4 +1,5 @@
--- The code of a new array has the law of a statement over open frames, and its mirror that of a delete.
+-- The code of a new array has the law of a statement over current frames, and its inverse that of a
+-- delete.
 use Rattle.std.proofs.Common.{◌≡◌, ◌≢◌, ℕ, suc, ◌+◌, ◌^◌, ◌<◌, ◌≤◌, true, false, List, [], length, Some, refl, sym, ap}
 use Rattle.std.proofs.Common.{◌∙◌, subst, arith}
 use Rattle.std.proofs.lemmas.Int.{ints}
@@ -6,51 +7,51 @@ use Rattle.std.proofs.lemmas.Bool.Decides.{nat_tests}
 use Rattle.std.proofs.lemmas.List.{length-replicate}
 use Rattle.std.specs.Prelude.{replicate, Ok}
 use Rattle.std.specs.Option.{option_map}
-use Rattle.code_conventions.specs.declared.memory.TheConstants.{HEADER_WORDS}
-use Rattle.rpp_words.specs.Words.{is_less}
-use Rattle.rpp_tree.specs.declared.tree.Ident.{Ident}
-use Rattle.rpp_tree.specs.Tree.{Expression, Lvalue, Whole, Item, Creation, Ints, Objects, New, Delete, Source}
-use Rattle.class_table.specs.declared.kind.Kind.{Kind}
-use Rattle.class_table.specs.declared.kind.Kind.TheVariants as kind
-use Rattle.class_table.specs.Refusal.{not_an_array}
-use Rattle.class_table.specs.Expressions.{is_int, element_kind, element_of, variable_type, first_token, index_is_int}
-use Rattle.class_table.specs.Expressions.{type_of, place_type, occurs}
-use Rattle.class_table.specs.Statements.{is_int_array, length_is_int}
-use Rattle.class_table.proofs.PassedRules.{handed_on, some_of, int_kind}
-use Rattle.pisa_isa.specs.Machine.{Memory}
-use Rattle.pisa_isa.specs.declared.image.TheConstants.{MOST_STATICS}
-use Rattle.paired_code.specs.declared.part.Symbol.{Symbol}
-use Rattle.paired_code.specs.Layout.{mirror_cells}
-use Rattle.buddy_pisa.specs.Promise.{most_steps}
-use Rattle.roopl_semantics.specs.Store.{Value, Word, Nil, Name, Head, OfInts, OfObjects, State, number_of, object_at}
-use Rattle.roopl_semantics.specs.Value.{Cell, cell_named, read, value}
-use Rattle.roopl_semantics.specs.Elements.{elements}
-use Rattle.roopl_semantics.specs.Execution.{exec, freed, order_of_cells, all_zero}
-use Rattle.roopl_semantics.specs.Layout.{head_word}
-use Rattle.meaning_sound.specs.Plain.{HasWords}
-use Rattle.meaning_sound.specs.Sound.{head_of, head_named, head_fits, named_fits, fits, cell_kinds, cell_kind, Typed}
-use Rattle.meaning_sound.proofs.Cells.{read_fits}
-use Rattle.meaning_sound.proofs.Classes.{KnowsClasses}
-use Rattle.meaning_sound.proofs.Stores.{live_object}
-use Rattle.meaning_sound.proofs.Values.{IsInt, int_value, value_found}
-use Rattle.meaning_inverse.proofs.Known.{Context, Good}
-use Rattle.meaning_inverse.proofs.Making.{MakeParts, make_parts, made_stays, gone_stays}
-use Rattle.meaning_inverse.proofs.Steady.{reads_stay, all_unit}
-use Rattle.refine_form.specs.Form.{Scope, StmtLaw}
-use Rattle.refine_form.specs.Frames.{Under}
-use Rattle.refine_form.specs.Stands.{shape_of, extra, Reads, Stands}
-use Rattle.refine_form.specs.Worlds.{Place, world_of, rates_of}
-use Rattle.refine_form.specs.declared.spot.Spot.{Spot}
-use Rattle.refine_calls.specs.Laws.{IsLinked}
-use Rattle.refine_calls.proofs.Bridge.{typed, reads_of}
-use Rattle.refine_calls.proofs.FactsFit.{known as known_classes}
-use Rattle.refine_calls.proofs.MovesFit.{frame_address}
-use Rattle.register_expressions.specs.Code.{words}
-use Rattle.expr_uncompute.specs.Code.{place_words}
-use Rattle.register_expressions.specs.Laws.{bases_of}
-use Rattle.expr_uncompute.specs.Means.{shown, cell_address, Means, MeansPlace, SameValues}
-use Rattle.register_expressions.specs.Number.{read_of}
-use Rattle.expr_uncompute.specs.Promises.{free_at, CanRun}
+use Rattle.object_codegen.specs.code_conventions.declared.memory.TheConstants.{HEADER_WORDS}
+use Rattle.object_codegen.specs.rpp_words.Words.{is_less}
+use Rattle.object_codegen.specs.rpp_tree.declared.tree.Ident.{Ident}
+use Rattle.object_codegen.specs.rpp_tree.Tree.{Expression, Lvalue, Whole, Item, Creation, Ints, Objects, New, Delete, Source}
+use Rattle.object_codegen.specs.class_table.declared.kind.Kind.{Kind}
+use Rattle.object_codegen.specs.class_table.declared.kind.Kind.TheVariants as kind
+use Rattle.object_codegen.specs.class_table.Refusal.{not_an_array}
+use Rattle.object_codegen.specs.class_table.Expressions.{is_int, element_kind, element_of, variable_type, first_token, index_is_int}
+use Rattle.object_codegen.specs.class_table.Expressions.{type_of, place_type, occurs}
+use Rattle.object_codegen.specs.class_table.Statements.{is_int_array, length_is_int}
+use Rattle.object_codegen.proofs.class_table_laws.PassedRules.{handed_on, some_of, int_kind}
+use Rattle.object_codegen.specs.pisa_isa.Machine.{Memory}
+use Rattle.object_codegen.specs.pisa_isa.declared.image.TheConstants.{MOST_STATICS}
+use Rattle.object_codegen.specs.paired_code.declared.part.Symbol.{Symbol}
+use Rattle.object_codegen.specs.paired_code.Layout.{mirror_cells}
+use Rattle.object_codegen.specs.buddy_pisa.Promise.{most_steps}
+use Rattle.object_codegen.specs.roopl_semantics.Store.{Value, Word, Nil, Name, Head, OfInts, OfObjects, State, number_of, object_at}
+use Rattle.object_codegen.specs.roopl_semantics.Value.{Cell, cell_named, read, value}
+use Rattle.object_codegen.specs.roopl_semantics.Elements.{elements}
+use Rattle.object_codegen.specs.roopl_semantics.Execution.{exec, freed, order_of_cells, all_zero}
+use Rattle.object_codegen.specs.roopl_semantics.Layout.{head_word}
+use Rattle.object_codegen.specs.meaning_sound.Plain.{HasWords}
+use Rattle.object_codegen.specs.meaning_sound.Sound.{head_of, head_named, head_fits, named_fits, fits, cell_kinds, cell_kind, Typed}
+use Rattle.object_codegen.proofs.meaning_sound_laws.Cells.{read_fits}
+use Rattle.object_codegen.proofs.meaning_sound_laws.Classes.{KnowsClasses}
+use Rattle.object_codegen.proofs.meaning_sound_laws.Stores.{live_object}
+use Rattle.object_codegen.proofs.meaning_sound_laws.Values.{IsInt, int_value, value_found}
+use Rattle.refine_expressions.proofs.meaning_inverse_laws.Known.{Context, Good}
+use Rattle.refine_expressions.proofs.meaning_inverse_laws.Making.{MakeParts, make_parts, made_stays, gone_stays}
+use Rattle.refine_expressions.proofs.meaning_inverse_laws.Steady.{reads_stay, all_unit}
+use Rattle.object_codegen.specs.refine_form.Form.{Scope, StmtLaw}
+use Rattle.object_codegen.specs.refine_form.Frames.{Under}
+use Rattle.object_codegen.specs.refine_form.Stands.{shape_of, extra, Reads, Stands}
+use Rattle.object_codegen.specs.refine_form.Worlds.{Place, world_of, rates_of}
+use Rattle.object_codegen.specs.refine_form.declared.spot.Spot.{Spot}
+use Rattle.refine_expressions.specs.refine_calls.Laws.{IsLinked}
+use Rattle.refine_expressions.proofs.refine_calls_laws.Bridge.{typed, reads_of}
+use Rattle.refine_expressions.proofs.refine_calls_laws.FactsFit.{known as known_classes}
+use Rattle.refine_expressions.proofs.refine_calls_laws.MovesFit.{frame_address}
+use Rattle.object_codegen.specs.register_expressions.Code.{words}
+use Rattle.object_codegen.specs.expr_uncompute.Code.{place_words}
+use Rattle.object_codegen.specs.register_expressions.Laws.{bases_of}
+use Rattle.object_codegen.specs.expr_uncompute.Means.{shown, cell_address, Means, MeansPlace, SameValues}
+use Rattle.object_codegen.specs.register_expressions.Number.{read_of}
+use Rattle.object_codegen.specs.expr_uncompute.Promises.{free_at, CanRun}
 use Rattle.refine_expressions.specs.Typing.{HasRoom, IsPassed, typing_in, spot_in, free_in}
 use Rattle.refine_expressions.proofs.ExpressionsRead.{means, sees, means_place, sees_place, value_is}
 use Rattle.refine_expressions.proofs.FramesWritten.{A, L, R, known, place_kind}

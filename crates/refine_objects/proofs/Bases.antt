@@ -1,14 +1,14 @@
 -- The heap begins below 2^21.
 use Rattle.std.proofs.Common.{◌≡◌, ℕ, ◌+◌, ◌-◌, ◌*◌, ◌/◌, ◌^◌, ◌<◌, ◌≤◌, List, length, refl, arith}
 use Rattle.std.proofs.Math.Nat.{mod-add-div}
-use Rattle.rpp_words.specs.Limits.{IsLimits}
-use Rattle.pisa_isa.specs.Loaded.{statics_at}
-use Rattle.pisa_isa.specs.declared.image.TheConstants.{MOST_STATICS}
-use Rattle.buddy_book.proofs.Orders.{pow_pos}
-use Rattle.buddy_book.proofs.StoredLaws.{two_power}
-use Rattle.roopl_semantics.specs.Execution.{Setting}
-use Rattle.refine_frame.proofs.Tells.{rounded_below}
-use Rattle.refine_form.specs.Frames.{base}
+use Rattle.object_codegen.specs.rpp_words.Limits.{IsLimits}
+use Rattle.object_codegen.specs.pisa_isa.Loaded.{statics_at}
+use Rattle.object_codegen.specs.pisa_isa.declared.image.TheConstants.{MOST_STATICS}
+use Rattle.object_codegen.proofs.buddy_book_laws.Orders.{pow_pos}
+use Rattle.object_codegen.proofs.buddy_book_laws.StoredLaws.{two_power}
+use Rattle.object_codegen.specs.roopl_semantics.Execution.{Setting}
+use Rattle.object_codegen.proofs.refine_frame_laws.Tells.{rounded_below}
+use Rattle.object_codegen.specs.refine_form.Frames.{base}
 
 pub base_small : (setting : Setting) (statics : List ℕ) → IsLimits setting.limits → length statics ≤ MOST_STATICS
     → base setting statics ≤ 2 ^ 21

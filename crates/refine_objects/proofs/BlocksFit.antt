@@ -1,5 +1,5 @@
--- An open frame whose place gets a block of the heap, or gives one back: what the code of `new` and
--- `delete` asks of the memory.
+-- A current frame whose place gets a block of the heap, or gives one back: what the code of `new`
+-- and `delete` asks of the memory.
 use Rattle.std.proofs.Common.{◌≡◌, ◌≢◌, ◌∙◌, sym, ap, subst, refl, ℕ, zero, suc, ◌+◌, ◌*◌, ◌^◌, ◌<◌, ◌≤◌, Bool, true}
 use Rattle.std.proofs.Common.{false, List, [], ◌∷◌, length, Option, Some, None, arith, length-set}
 use Rattle.std.proofs.lemmas.Bool.{ltb-true}
@@ -7,52 +7,52 @@ use Rattle.std.proofs.lemmas.List.{get_or-set_other}
 use Rattle.std.specs.Prelude.{nat_eq, nat_lt, nat_le, is_none, ◌||◌, ◌&&◌, slice_get, slice_index, slice_set}
 use Rattle.std.specs.Prelude.{if◌then◌else◌}
 use Rattle.std.specs.Option.{option_map, unwrap_or}
-use Rattle.rpp_words.specs.declared.input.TheConstants.{FRAME_WORDS, FIXED_CELLS}
-use Rattle.code_conventions.specs.declared.memory.TheConstants.{FIRST_VARIABLE, HEADER_WORDS, COUNT_WORD}
-use Rattle.pisa_isa.specs.Machine.{Memory}
-use Rattle.rpp_tree.specs.declared.tree.Ident.{Ident}
-use Rattle.rpp_tree.specs.Tree.{Source}
-use Rattle.class_table.specs.declared.kind.Kind.{Kind}
-use Rattle.class_table.specs.Expressions.{is_int}
-use Rattle.buddy_book.specs.Book.{take, order_from, order_for}
-use Rattle.buddy_book.specs.Place.{Placing, block_of, count_taken, place}
-use Rattle.buddy_pisa.specs.Promise.{most_steps}
-use Rattle.pisa_isa.specs.Loaded.{statics_at}
-use Rattle.roopl_semantics.specs.Store.{Value, Word, Nil, Name, Head, Store, State, main_name, is_zero, object_named}
-use Rattle.roopl_semantics.specs.Store.{object_at}
-use Rattle.roopl_semantics.specs.Value.{Cell, Part, read, written}
-use Rattle.roopl_semantics.specs.Layout.{no_placing, head_word}
-use Rattle.roopl_semantics.specs.Laws.{holders_among}
-use Rattle.roopl_semantics.specs.Execution.{order_of_cells, all_zero, freed}
-use Rattle.roopl_semantics.proofs.Orders.{order_from_one}
-use Rattle.meaning_sound.specs.Sound.{head_of, head_fits, is_live, cell_kinds, cell_kind, part_kind, AllFit, Typed}
-use Rattle.meaning_sound.proofs.Classes.{KnowsClasses}
-use Rattle.meaning_sound.proofs.Lists.{all_length}
-use Rattle.meaning_sound.proofs.Objects.{bigger, clash}
-use Rattle.meaning_sound.proofs.Regions.{region_inside}
-use Rattle.meaning_sound.proofs.Removal.{smaller}
-use Rattle.meaning_sound.proofs.Stores.{other_number, live_named, live_object}
-use Rattle.meaning_sound.proofs.Writes.{written_log}
-use Rattle.meaning_inverse.proofs.Calls.{live_read}
-use Rattle.meaning_inverse.proofs.Drawn.{gone_none}
-use Rattle.meaning_inverse.proofs.Ground.{IsLive}
-use Rattle.meaning_inverse.proofs.Known.{are_live, drawn_of}
-use Rattle.refine_frame.proofs.Memory.{base_above}
-use Rattle.refine_frame.proofs.Tells.{IsRef, cells_small, reference_cell, read_head}
-use Rattle.refine_frame.specs.Open.{IsGrounded}
-use Rattle.refine_form.specs.Form.{Scope}
-use Rattle.refine_form.specs.Frames.{Under, base, stack_base, before_stack, memory, stack_words, address_of}
-use Rattle.refine_form.specs.Frames.{value_word}
-use Rattle.refine_form.specs.Stands.{shape_of, extra, setup, HasElements, Reads, Stands}
-use Rattle.refine_form.specs.Worlds.{Place}
-use Rattle.refine_form.specs.declared.spot.Spot.{Spot}
-use Rattle.expr_uncompute.specs.Found.{Changes}
-use Rattle.expr_uncompute.specs.Means.{shown, cell_address}
-use Rattle.expr_uncompute.specs.Promises.{free_at}
-use Rattle.refine_calls.specs.Laws.{IsLinked}
-use Rattle.refine_calls.proofs.Bridge.{same_at, typed, reads_of, before_long, as_many_vars}
-use Rattle.refine_calls.proofs.FramePlaces.{frame_small, object_small}
-use Rattle.refine_calls.proofs.MovesFit.{frame_address, frame_long, place_of, cell_low}
+use Rattle.object_codegen.specs.rpp_words.declared.input.TheConstants.{FRAME_WORDS, FIXED_CELLS}
+use Rattle.object_codegen.specs.code_conventions.declared.memory.TheConstants.{FIRST_VARIABLE, HEADER_WORDS, COUNT_WORD}
+use Rattle.object_codegen.specs.pisa_isa.Machine.{Memory}
+use Rattle.object_codegen.specs.rpp_tree.declared.tree.Ident.{Ident}
+use Rattle.object_codegen.specs.rpp_tree.Tree.{Source}
+use Rattle.object_codegen.specs.class_table.declared.kind.Kind.{Kind}
+use Rattle.object_codegen.specs.class_table.Expressions.{is_int}
+use Rattle.object_codegen.specs.buddy_book.Book.{take, order_from, order_for}
+use Rattle.object_codegen.specs.buddy_book.Place.{Placing, block_of, count_taken, place}
+use Rattle.object_codegen.specs.buddy_pisa.Promise.{most_steps}
+use Rattle.object_codegen.specs.pisa_isa.Loaded.{statics_at}
+use Rattle.object_codegen.specs.roopl_semantics.Store.{Value, Word, Nil, Name, Head, Store, State, main_name, is_zero, object_named}
+use Rattle.object_codegen.specs.roopl_semantics.Store.{object_at}
+use Rattle.object_codegen.specs.roopl_semantics.Value.{Cell, Part, read, written}
+use Rattle.object_codegen.specs.roopl_semantics.Layout.{no_placing, head_word}
+use Rattle.object_codegen.specs.roopl_semantics.Laws.{holders_among}
+use Rattle.object_codegen.specs.roopl_semantics.Execution.{order_of_cells, all_zero, freed}
+use Rattle.object_codegen.proofs.roopl_semantics_laws.Orders.{order_from_one}
+use Rattle.object_codegen.specs.meaning_sound.Sound.{head_of, head_fits, is_live, cell_kinds, cell_kind, part_kind, AllFit, Typed}
+use Rattle.object_codegen.proofs.meaning_sound_laws.Classes.{KnowsClasses}
+use Rattle.object_codegen.proofs.meaning_sound_laws.Lists.{all_length}
+use Rattle.object_codegen.proofs.meaning_sound_laws.Objects.{bigger, clash}
+use Rattle.object_codegen.proofs.meaning_sound_laws.Regions.{region_inside}
+use Rattle.object_codegen.proofs.meaning_sound_laws.Removal.{smaller}
+use Rattle.object_codegen.proofs.meaning_sound_laws.Stores.{other_number, live_named, live_object}
+use Rattle.object_codegen.proofs.meaning_sound_laws.Writes.{written_log}
+use Rattle.refine_expressions.proofs.meaning_inverse_laws.Calls.{live_read}
+use Rattle.refine_expressions.proofs.meaning_inverse_laws.Drawn.{gone_none}
+use Rattle.refine_expressions.proofs.meaning_inverse_laws.Ground.{IsLive}
+use Rattle.refine_expressions.proofs.meaning_inverse_laws.Known.{are_live, drawn_of}
+use Rattle.object_codegen.proofs.refine_frame_laws.Memory.{base_above}
+use Rattle.object_codegen.proofs.refine_frame_laws.Tells.{IsRef, cells_small, reference_cell, read_head}
+use Rattle.object_codegen.specs.refine_frame.Open.{IsGrounded}
+use Rattle.object_codegen.specs.refine_form.Form.{Scope}
+use Rattle.object_codegen.specs.refine_form.Frames.{Under, base, stack_base, before_stack, memory, stack_words, address_of}
+use Rattle.object_codegen.specs.refine_form.Frames.{value_word}
+use Rattle.object_codegen.specs.refine_form.Stands.{shape_of, extra, setup, HasElements, Reads, Stands}
+use Rattle.object_codegen.specs.refine_form.Worlds.{Place}
+use Rattle.object_codegen.specs.refine_form.declared.spot.Spot.{Spot}
+use Rattle.object_codegen.specs.expr_uncompute.Found.{Changes}
+use Rattle.object_codegen.specs.expr_uncompute.Means.{shown, cell_address}
+use Rattle.object_codegen.specs.expr_uncompute.Promises.{free_at}
+use Rattle.refine_expressions.specs.refine_calls.Laws.{IsLinked}
+use Rattle.refine_expressions.proofs.refine_calls_laws.Bridge.{same_at, typed, reads_of, before_long, as_many_vars}
+use Rattle.refine_expressions.proofs.refine_calls_laws.FramePlaces.{frame_small, object_small}
+use Rattle.refine_expressions.proofs.refine_calls_laws.MovesFit.{frame_address, frame_long, place_of, cell_low}
 use Rattle.refine_expressions.specs.Typing.{spot_in, free_in}
 use Rattle.refine_expressions.proofs.FrameReads.{memory_is}
 use Rattle.refine_expressions.proofs.FramesWritten.{A, L, R, known, address_is, place_is, cell_holds}
@@ -82,7 +82,7 @@ element [] i h = absurd (omega arith)
 element (k ∷ ks) zero h = record { kind = k; is = refl }
 element (k ∷ ks) (suc i) h = let e = element ks i (omega arith) in record { kind = e.kind; is = e.is }
 
--- where not all values are zeros, one is none
+-- if not all values are zeros, one is none
 record NotZero (vs : List Value) : Type 0 where
   at : ℕ
   inside : at < length vs
@@ -551,8 +551,8 @@ module _ (p : Place) (routine : ℕ → Ident → ℕ) (linked : IsLinked p rout
             (gone.at_same p.setting p.statics s u st m.cells h cell k has no_int n reads single zeros small)
             ∙ sym (address_is p classes s u st m.cells rd k')
           where
-            no_object : {o : Option Rattle.roopl_semantics.specs.Store.Object}
-                {x : Rattle.roopl_semantics.specs.Store.Object} → o ≡ None → o ≡ Some x → ⊥
+            no_object : {o : Option Rattle.object_codegen.specs.roopl_semantics.Store.Object}
+                {x : Rattle.object_codegen.specs.roopl_semantics.Store.Object} → o ≡ None → o ≡ Some x → ⊥
             no_object e q = cc
 
         abbrev less : State

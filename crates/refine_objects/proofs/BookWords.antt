@@ -1,25 +1,26 @@
--- A memory whose heap has another book: the same but for the heads and the links, which are words.
+-- A memory whose heap has other free lists: the same except for the heads and the links, which are
+-- words.
 use Rattle.std.proofs.Common.{◌≡◌, ◌∙◌, sym, ap, refl, ℕ, zero, suc, ◌+◌, ◌-◌, ◌*◌, ◌^◌, ◌<◌, ◌≤◌, ◌⊎◌, inl, inr}
 use Rattle.std.proofs.Common.{⊎_elim, List, [], ◌∷◌, ◌++◌, map, length, arith, length-append}
 use Rattle.std.proofs.lemmas.Bool.{cases_lt}
 use Rattle.std.proofs.lemmas.List.{length-map, length-replicate, get_or_append_left, get_or-append_right}
 use Rattle.std.specs.Prelude.{slice_index, replicate}
-use Rattle.rpp_words.specs.declared.input.TheConstants.{FRAME_WORDS}
-use Rattle.rpp_tree.specs.Tree.{Source}
-use Rattle.buddy_book.specs.Book.{Book}
-use Rattle.buddy_book.specs.Place.{Placing}
-use Rattle.buddy_book.specs.Shown.{TakenBlocks, IsKept}
-use Rattle.pisa_isa.specs.Loaded.{statics_at, fixed_cells}
-use Rattle.roopl_semantics.specs.Store.{Store, object_at}
-use Rattle.roopl_semantics.specs.Execution.{Setting}
-use Rattle.roopl_semantics.specs.Layout.{first_address, overlaid, object_words, static_words, with_links, with_book}
-use Rattle.roopl_semantics.specs.Layout.{with_objects, heap_words}
-use Rattle.meaning_sound.proofs.Overlays.{length_overlaid, index_inside, index_outside}
-use Rattle.refine_frame.proofs.Heaps.{length_book}
-use Rattle.refine_heap.proofs.Overlays.{FitList, FitLists}
-use Rattle.refine_heap.proofs.Whole.{counted}
-use Rattle.refine_form.specs.Frames.{base, before_stack, filled_to, memory}
-use Rattle.refine_calls.proofs.MainFit.{AllWords, words_append, words_cons, no_words, zero_words}
+use Rattle.object_codegen.specs.rpp_words.declared.input.TheConstants.{FRAME_WORDS}
+use Rattle.object_codegen.specs.rpp_tree.Tree.{Source}
+use Rattle.object_codegen.specs.buddy_book.Book.{Book}
+use Rattle.object_codegen.specs.buddy_book.Place.{Placing}
+use Rattle.object_codegen.specs.buddy_book.Shown.{TakenBlocks, IsKept}
+use Rattle.object_codegen.specs.pisa_isa.Loaded.{statics_at, fixed_cells}
+use Rattle.object_codegen.specs.roopl_semantics.Store.{Store, object_at}
+use Rattle.object_codegen.specs.roopl_semantics.Execution.{Setting}
+use Rattle.object_codegen.specs.roopl_semantics.Layout.{first_address, overlaid, object_words, static_words, with_links, with_book}
+use Rattle.object_codegen.specs.roopl_semantics.Layout.{with_objects, heap_words}
+use Rattle.object_codegen.proofs.meaning_sound_laws.Overlays.{length_overlaid, index_inside, index_outside}
+use Rattle.object_codegen.proofs.refine_frame_laws.Heaps.{length_book}
+use Rattle.object_codegen.proofs.refine_heap_laws.Overlays.{FitList, FitLists}
+use Rattle.object_codegen.proofs.refine_heap_laws.Whole.{counted}
+use Rattle.object_codegen.specs.refine_form.Frames.{base, before_stack, filled_to, memory}
+use Rattle.refine_expressions.proofs.refine_calls_laws.MainFit.{AllWords, words_append, words_cons, no_words, zero_words}
 
 -- the same words, or other words below 2^32
 pub record Small (xs ys : List ℕ) : Type 0 where

@@ -5,28 +5,28 @@ use Rattle.std.proofs.Common.{[], ◌∷◌, ◌++◌, map, length, Some, arith}
 use Rattle.std.proofs.lemmas.List.{length-map}
 use Rattle.std.specs.Prelude.{nat_eq, slice_index, if◌then◌else◌}
 use Rattle.std.specs.Option.{unwrap_or, option_map}
-use Rattle.code_conventions.specs.declared.memory.TheConstants.{HEADER_WORDS, OBJECT_WORD}
-use Rattle.buddy_book.specs.Place.{Log, Placing, count_taken}
-use Rattle.buddy_book.specs.Shown.{TakenBlocks, order_in, without_taken, size_of, taken_weight}
-use Rattle.buddy_book.proofs.Requests.{order_in-without_other}
-use Rattle.buddy_book.proofs.StoredLaws.{two_power}
-use Rattle.buddy_book.proofs.Table.{taken_weight-without}
-use Rattle.roopl_semantics.specs.Store.{Value, Word, Nil, Name, Object, Store, State, main_name, object_named}
-use Rattle.roopl_semantics.specs.Store.{object_at, no_object}
-use Rattle.roopl_semantics.specs.Laws.{one_if_name, holders, holders_among}
-use Rattle.roopl_semantics.specs.Execution.{Setting, order_of_cells}
-use Rattle.meaning_sound.specs.Sound.{head_of, head_named, cell_kinds, AllFit, Descending, entry_name, value_of, held}
-use Rattle.meaning_sound.specs.Sound.{IsPlaced}
-use Rattle.meaning_sound.proofs.Lists.{all_length}
-use Rattle.meaning_sound.proofs.Regions.{BlocksDescend, EntriesAre, NotAt, block_apart, room_of, blocks_descend}
-use Rattle.meaning_sound.proofs.Regions.{entries_are}
-use Rattle.meaning_sound.proofs.Stores.{here, there, other_number, same_number, below_bound, live_named}
-use Rattle.refine_frame.proofs.Memory.{main_cells}
-use Rattle.refine_form.specs.Form.{Scope}
-use Rattle.refine_form.specs.Frames.{Caller, Under, CallersStand}
-use Rattle.refine_form.specs.Stands.{shape_of, extra, below_held, receiver_held, main_held, setup, Reads}
-use Rattle.refine_calls.proofs.Bridge.{typed}
-use Rattle.pisa_isa.specs.declared.image.TheConstants.{MOST_STATICS}
+use Rattle.object_codegen.specs.code_conventions.declared.memory.TheConstants.{HEADER_WORDS, OBJECT_WORD}
+use Rattle.object_codegen.specs.buddy_book.Place.{Log, Placing, count_taken}
+use Rattle.object_codegen.specs.buddy_book.Shown.{TakenBlocks, order_in, without_taken, size_of, taken_weight}
+use Rattle.object_codegen.proofs.buddy_book_laws.Requests.{order_in-without_other}
+use Rattle.object_codegen.proofs.buddy_book_laws.StoredLaws.{two_power}
+use Rattle.object_codegen.proofs.buddy_book_laws.Table.{taken_weight-without}
+use Rattle.object_codegen.specs.roopl_semantics.Store.{Value, Word, Nil, Name, Object, Store, State, main_name, object_named}
+use Rattle.object_codegen.specs.roopl_semantics.Store.{object_at, no_object}
+use Rattle.object_codegen.specs.roopl_semantics.Laws.{one_if_name, holders, holders_among}
+use Rattle.object_codegen.specs.roopl_semantics.Execution.{Setting, order_of_cells}
+use Rattle.object_codegen.specs.meaning_sound.Sound.{head_of, head_named, cell_kinds, AllFit, Descending, entry_name, value_of, held}
+use Rattle.object_codegen.specs.meaning_sound.Sound.{IsPlaced}
+use Rattle.object_codegen.proofs.meaning_sound_laws.Lists.{all_length}
+use Rattle.object_codegen.proofs.meaning_sound_laws.Regions.{BlocksDescend, EntriesAre, NotAt, block_apart, room_of, blocks_descend}
+use Rattle.object_codegen.proofs.meaning_sound_laws.Regions.{entries_are}
+use Rattle.object_codegen.proofs.meaning_sound_laws.Stores.{here, there, other_number, same_number, below_bound, live_named}
+use Rattle.object_codegen.proofs.refine_frame_laws.Memory.{main_cells}
+use Rattle.object_codegen.specs.refine_form.Form.{Scope}
+use Rattle.object_codegen.specs.refine_form.Frames.{Caller, Under, CallersStand}
+use Rattle.object_codegen.specs.refine_form.Stands.{shape_of, extra, below_held, receiver_held, main_held, setup, Reads}
+use Rattle.refine_expressions.proofs.refine_calls_laws.Bridge.{typed}
+use Rattle.object_codegen.specs.pisa_isa.declared.image.TheConstants.{MOST_STATICS}
 
 -- ---- how often values hold a name
 
@@ -69,7 +69,7 @@ orders_without taken other block [] h k = tt
 orders_without taken other block ((n, b) ∷ rest) h k =
     (order_in-without_other block b other h.0 ∙ k.0, orders_without taken other block rest h.1 k.1)
 
--- what a part of a store tells, the whole tells
+-- what a part of a store determines, the whole determines
 abbrev IsPartOf : Store → Store → Type 0
 IsPartOf store part = (m : ℕ) (o : Object) → object_named part m ≡ Some o → object_named store m ≡ Some o
 
@@ -160,7 +160,7 @@ module _ (setting : Setting) (statics : List ℕ) where
       let f = h.2 in
       omega (arith, a, b, d, e, f)
 
-  -- a name's holders are few
+  -- an object id has few references
   pub holders_few : (s : Scope) (u : Under) (st : State) (cells : List ℕ) → length statics ≤ MOST_STATICS
       → Reads setting statics s u [] st cells → (name : ℕ) → held name st + extra u [] name < 2000000
   holders_few s u st cells few h name =

@@ -1,41 +1,42 @@
--- The code of a copy has the law of a statement over open frames, and its mirror that of an uncopy.
+-- The code of a copy has the law of a statement over current frames, and its inverse that of an
+-- uncopy.
 use Rattle.std.proofs.Common.{◌≡◌, ◌≢◌, ℕ, suc, ◌+◌, ◌-◌, ◌^◌, ◌<◌, ◌≤◌, true, false, List, [], ◌++◌, length, Some}
 use Rattle.std.proofs.Common.{refl, sym, ap, ◌∙◌, subst, arith}
 use Rattle.std.specs.Prelude.{slice_index, slice_set, Ok}
-use Rattle.rpp_tree.specs.declared.tree.VarType.{VarType}
-use Rattle.rpp_tree.specs.Tree.{Lvalue, Copy, Uncopy, Source}
-use Rattle.class_table.specs.declared.kind.Kind.{Kind}
-use Rattle.class_table.specs.Expressions.{is_int}
-use Rattle.class_table.specs.Statements.{passed, copy_rules}
-use Rattle.buddy_book.specs.Place.{Placing}
-use Rattle.pisa_isa.specs.Machine.{Memory}
-use Rattle.pisa_isa.specs.declared.image.TheConstants.{MOST_STATICS}
-use Rattle.paired_code.specs.declared.part.Symbol.{Symbol}
-use Rattle.paired_code.specs.Layout.{mirror_cells}
-use Rattle.roopl_semantics.specs.Store.{Value, Word, Nil, Name, State, object_at}
-use Rattle.roopl_semantics.specs.Value.{Cell, read, written, cell_of}
-use Rattle.roopl_semantics.specs.Elements.{index_elements, own_element, share_array}
-use Rattle.roopl_semantics.specs.Execution.{counted, one_less, exec, same_cell}
-use Rattle.meaning_sound.specs.Plain.{PlaceHasWords}
-use Rattle.meaning_sound.specs.Sound.{cell_kind, fits, Typed}
-use Rattle.meaning_sound.proofs.AfterWrites.{same_cell_is}
-use Rattle.meaning_sound.proofs.Cells.{read_fits}
-use Rattle.meaning_sound.proofs.Classes.{KnowsClasses}
-use Rattle.refine_frame.proofs.Tells.{IsRef, cells_small, reference_cell, names_tell}
-use Rattle.refine_form.specs.Form.{Scope, StmtLaw}
-use Rattle.refine_form.specs.Frames.{Under, stack_base, address_of, value_word}
-use Rattle.refine_form.specs.Stands.{shape_of, extra, setup, Reads, Stands}
-use Rattle.refine_form.specs.Worlds.{Place, world_of, rates_of}
-use Rattle.refine_form.specs.declared.spot.Spot.{Spot}
-use Rattle.expr_uncompute.specs.Code.{place_words}
-use Rattle.register_expressions.specs.Laws.{bases_of}
-use Rattle.expr_uncompute.specs.Means.{shown, cell_address, MeansPlace, TellsShares}
-use Rattle.register_expressions.specs.Number.{read_of, index_of}
-use Rattle.expr_uncompute.specs.Promises.{free_at, CanRun}
+use Rattle.object_codegen.specs.rpp_tree.declared.tree.VarType.{VarType}
+use Rattle.object_codegen.specs.rpp_tree.Tree.{Lvalue, Copy, Uncopy, Source}
+use Rattle.object_codegen.specs.class_table.declared.kind.Kind.{Kind}
+use Rattle.object_codegen.specs.class_table.Expressions.{is_int}
+use Rattle.object_codegen.specs.class_table.Statements.{passed, copy_rules}
+use Rattle.object_codegen.specs.buddy_book.Place.{Placing}
+use Rattle.object_codegen.specs.pisa_isa.Machine.{Memory}
+use Rattle.object_codegen.specs.pisa_isa.declared.image.TheConstants.{MOST_STATICS}
+use Rattle.object_codegen.specs.paired_code.declared.part.Symbol.{Symbol}
+use Rattle.object_codegen.specs.paired_code.Layout.{mirror_cells}
+use Rattle.object_codegen.specs.roopl_semantics.Store.{Value, Word, Nil, Name, State, object_at}
+use Rattle.object_codegen.specs.roopl_semantics.Value.{Cell, read, written, cell_of}
+use Rattle.object_codegen.specs.roopl_semantics.Elements.{index_elements, own_element, share_array}
+use Rattle.object_codegen.specs.roopl_semantics.Execution.{counted, one_less, exec, same_cell}
+use Rattle.object_codegen.specs.meaning_sound.Plain.{PlaceHasWords}
+use Rattle.object_codegen.specs.meaning_sound.Sound.{cell_kind, fits, Typed}
+use Rattle.object_codegen.proofs.meaning_sound_laws.AfterWrites.{same_cell_is}
+use Rattle.object_codegen.proofs.meaning_sound_laws.Cells.{read_fits}
+use Rattle.object_codegen.proofs.meaning_sound_laws.Classes.{KnowsClasses}
+use Rattle.object_codegen.proofs.refine_frame_laws.Tells.{IsRef, cells_small, reference_cell, names_tell}
+use Rattle.object_codegen.specs.refine_form.Form.{Scope, StmtLaw}
+use Rattle.object_codegen.specs.refine_form.Frames.{Under, stack_base, address_of, value_word}
+use Rattle.object_codegen.specs.refine_form.Stands.{shape_of, extra, setup, Reads, Stands}
+use Rattle.object_codegen.specs.refine_form.Worlds.{Place, world_of, rates_of}
+use Rattle.object_codegen.specs.refine_form.declared.spot.Spot.{Spot}
+use Rattle.object_codegen.specs.expr_uncompute.Code.{place_words}
+use Rattle.object_codegen.specs.register_expressions.Laws.{bases_of}
+use Rattle.object_codegen.specs.expr_uncompute.Means.{shown, cell_address, MeansPlace, TellsShares}
+use Rattle.object_codegen.specs.register_expressions.Number.{read_of, index_of}
+use Rattle.object_codegen.specs.expr_uncompute.Promises.{free_at, CanRun}
 use Rattle.object_codegen.specs.Promises.{CopyLaw, referring, unreferring}
 use Rattle.object_codegen.proofs.CopyRows as rows
-use Rattle.refine_calls.proofs.Bridge.{same_at, typed, reads_of}
-use Rattle.refine_calls.proofs.MovesFit.{place_of}
+use Rattle.refine_expressions.proofs.refine_calls_laws.Bridge.{same_at, typed, reads_of}
+use Rattle.refine_expressions.proofs.refine_calls_laws.MovesFit.{place_of}
 use Rattle.refine_expressions.specs.Typing.{HasRoom, IsPassed, typing_in, spot_in, free_in}
 use Rattle.refine_expressions.proofs.ArraysTold.{tells_shares, index_typed}
 use Rattle.refine_expressions.proofs.ExpressionsRead.{means_place, sees_place}
@@ -48,7 +49,7 @@ use Rattle.refine_expressions.proofs.WordsRead.{shown_read}
 use Rattle.refine_objects.proofs.CountPlaces.{IsRefers, refers, at_block, above_nil, count_low, count_apart, count_word}
 use Rattle.refine_objects.proofs.CountPlaces.{cells_apart, count_small, count_some}
 use Rattle.refine_objects.proofs.CountsWritten.{copied_stands, uncopied_stands}
-use Rattle.meaning_inverse.proofs.Facts.{CopyTyped, copy_typed, PlacesCopied, places_copied}
+use Rattle.refine_expressions.proofs.meaning_inverse_laws.Facts.{CopyTyped, copy_typed, PlacesCopied, places_copied}
 
 module _ (p : Place) (few : length p.statics ≤ MOST_STATICS) (classes : KnowsClasses p.setting.program) (s : Scope)
     (u : Under) (at : ℕ) (kind : VarType) (source target : Lvalue)
@@ -134,7 +135,7 @@ module _ (p : Place) (few : length p.statics ≤ MOST_STATICS) (classes : KnowsC
     abbrev Refers : ℕ → Type 0
     Refers n = IsRefers p.setting p.statics s u st m.cells h n
 
-    -- where an object stands
+    -- the address of an object
     address : (n : ℕ) → address_of p.setting p.statics h.keeps.placed.at n ≡ Ad st n
     address n = ap (λ (a : Placing). address_of p.setting p.statics a n)
         (same_at p.setting p.statics s u [] st m.cells h) ∙ sym (address_is p classes s u st m.cells h n)

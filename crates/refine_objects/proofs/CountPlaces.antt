@@ -1,36 +1,36 @@
--- Where the count of an object stands: below the stack, in no cell of the source, and a word that
--- can grow.
+-- The address of an object's reference count: it is below the stack, in no cell of the source, and
+-- holds a word that can grow.
 use Rattle.std.proofs.Common.{◌≡◌, ◌≢◌, ℕ, ◌+◌, ◌-◌, ◌*◌, ◌^◌, ◌<◌, ◌≤◌, ⊎_elim, Bool, true, false, List, [], length}
 use Rattle.std.proofs.Common.{Some, refl, sym, ap, ◌∙◌, arith}
 use Rattle.std.proofs.lemmas.Bool.{eqb-true}
 use Rattle.std.specs.Prelude.{nat_eq, slice_index, if◌then◌else◌}
 use Rattle.std.specs.Option.{unwrap_or, option_map}
-use Rattle.rpp_words.specs.declared.input.TheConstants.{FRAME_WORDS}
-use Rattle.code_conventions.specs.declared.memory.TheConstants.{FIRST_VARIABLE, HEADER_WORDS}
-use Rattle.class_table.specs.declared.kind.Kind.{Kind}
-use Rattle.buddy_book.specs.Place.{Placing, block_of}
-use Rattle.pisa_isa.specs.Loaded.{statics_at}
-use Rattle.pisa_isa.specs.declared.image.TheConstants.{MOST_STATICS}
-use Rattle.roopl_semantics.specs.Store.{Word, Name, Object, State, main_name, object_at, no_object}
-use Rattle.roopl_semantics.specs.Value.{Cell, Slot, Part, read}
-use Rattle.roopl_semantics.specs.Laws.{one_if_name}
-use Rattle.roopl_semantics.specs.Execution.{Setting, same_cell}
-use Rattle.meaning_sound.specs.Sound.{head_of, count_of, cell_kind, held, Typed}
-use Rattle.meaning_sound.proofs.Cells.{held_written}
-use Rattle.meaning_sound.proofs.Lists.{all_length}
-use Rattle.meaning_sound.proofs.Regions.{region_inside, regions_apart}
-use Rattle.meaning_sound.proofs.Removal.{one_name}
-use Rattle.meaning_sound.proofs.Stores.{other_number, differs, live_object}
-use Rattle.refine_frame.specs.Open.{Setup}
-use Rattle.refine_frame.specs.Open as open_frame
-use Rattle.refine_frame.proofs.Addresses.{PartPlace, part_place, addresses_apart}
-use Rattle.refine_frame.proofs.Memory.{base_above, main_cells, address_other}
-use Rattle.refine_frame.proofs.Tells.{IsReference, reference_read, read_count}
-use Rattle.refine_form.specs.Form.{Scope}
-use Rattle.refine_form.specs.Frames.{Under, base, stack_base, address_of, stack_words}
-use Rattle.refine_form.specs.Stands.{shape_of, extra, setup, Reads, Stands}
-use Rattle.refine_calls.proofs.Bridge.{typed, reads_of}
-use Rattle.refine_calls.proofs.MovesFit.{place_of}
+use Rattle.object_codegen.specs.rpp_words.declared.input.TheConstants.{FRAME_WORDS}
+use Rattle.object_codegen.specs.code_conventions.declared.memory.TheConstants.{FIRST_VARIABLE, HEADER_WORDS}
+use Rattle.object_codegen.specs.class_table.declared.kind.Kind.{Kind}
+use Rattle.object_codegen.specs.buddy_book.Place.{Placing, block_of}
+use Rattle.object_codegen.specs.pisa_isa.Loaded.{statics_at}
+use Rattle.object_codegen.specs.pisa_isa.declared.image.TheConstants.{MOST_STATICS}
+use Rattle.object_codegen.specs.roopl_semantics.Store.{Word, Name, Object, State, main_name, object_at, no_object}
+use Rattle.object_codegen.specs.roopl_semantics.Value.{Cell, Slot, Part, read}
+use Rattle.object_codegen.specs.roopl_semantics.Laws.{one_if_name}
+use Rattle.object_codegen.specs.roopl_semantics.Execution.{Setting, same_cell}
+use Rattle.object_codegen.specs.meaning_sound.Sound.{head_of, count_of, cell_kind, held, Typed}
+use Rattle.object_codegen.proofs.meaning_sound_laws.Cells.{held_written}
+use Rattle.object_codegen.proofs.meaning_sound_laws.Lists.{all_length}
+use Rattle.object_codegen.proofs.meaning_sound_laws.Regions.{region_inside, regions_apart}
+use Rattle.object_codegen.proofs.meaning_sound_laws.Removal.{one_name}
+use Rattle.object_codegen.proofs.meaning_sound_laws.Stores.{other_number, differs, live_object}
+use Rattle.object_codegen.specs.refine_frame.Open.{Setup}
+use Rattle.object_codegen.specs.refine_frame.Open as open_frame
+use Rattle.object_codegen.proofs.refine_frame_laws.Addresses.{PartPlace, part_place, addresses_apart}
+use Rattle.object_codegen.proofs.refine_frame_laws.Memory.{base_above, main_cells, address_other}
+use Rattle.object_codegen.proofs.refine_frame_laws.Tells.{IsReference, reference_read, read_count}
+use Rattle.object_codegen.specs.refine_form.Form.{Scope}
+use Rattle.object_codegen.specs.refine_form.Frames.{Under, base, stack_base, address_of, stack_words}
+use Rattle.object_codegen.specs.refine_form.Stands.{shape_of, extra, setup, Reads, Stands}
+use Rattle.refine_expressions.proofs.refine_calls_laws.Bridge.{typed, reads_of}
+use Rattle.refine_expressions.proofs.refine_calls_laws.MovesFit.{place_of}
 use Rattle.refine_expressions.proofs.FrameReads.{memory_is}
 use Rattle.refine_objects.proofs.CellsFew.{holders_few}
 
@@ -122,7 +122,7 @@ module _ (setting : Setting) (statics : List ℕ) (s : Scope) (u : Under) (st : 
           two true f = main_low (eqb-true m main_name f)
           two false f = other (differs n m q) (differs m main_name f)
 
-  -- what stands there
+  -- what is there
   pub count_word : (n : ℕ) → IsRefers n → slice_index cells (address_of setting statics at n + 1)
       ≡ (object_at st.store n).count
   count_word n r =
@@ -149,7 +149,7 @@ module _ (setting : Setting) (statics : List ℕ) (s : Scope) (u : Under) (st : 
       addresses_apart x E (shape_of setting.program s) s.class st t h.keeps.grounded a b k l ha hb apart
       (sym (cell_is a) ∙ e ∙ cell_is b)
 
-  -- where something holds a name, one does
+  -- if something holds a name, one does
   pub held_some : (c : Cell) (k : Kind) (n : ℕ) → HasKind c k → read st c ≡ Name n → 1 ≤ held n st
   held_some c k n has e =
       let a = held_written setting E (shape_of setting.program s) s.class st c k (Word 0) n t has in

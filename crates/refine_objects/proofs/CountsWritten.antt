@@ -1,28 +1,28 @@
--- An open frame after a copy or its inverse: a reference is written, and a count follows.
+-- A current frame after a copy or its inverse: a reference is written, and a count follows.
 use Rattle.std.proofs.Common.{◌≡◌, ℕ, suc, ◌+◌, ◌-◌, ◌^◌, ◌<◌, true, false, List, [], Some, refl, sym, ap, ◌∙◌, subst}
 use Rattle.std.proofs.Common.{arith}
 use Rattle.std.specs.Prelude.{slice_set, is_some, not}
 use Rattle.std.specs.Option.{option_map}
-use Rattle.class_table.specs.declared.kind.Kind.{Kind}
-use Rattle.class_table.specs.declared.kind.Kind.TheVariants as kind
-use Rattle.class_table.specs.Expressions.{is_int}
-use Rattle.buddy_book.specs.Place.{Placing, place}
-use Rattle.roopl_semantics.specs.Store.{Value, Nil, Name, State, main_name, object_at}
-use Rattle.roopl_semantics.specs.Value.{Cell, Slot, Part, read, written}
-use Rattle.roopl_semantics.specs.Laws.{one_if_name}
-use Rattle.roopl_semantics.specs.Execution.{Setting, counted, one_less}
-use Rattle.meaning_sound.specs.Sound.{count_of, head_named, named_fits, is_live, fits, cell_kind, Sound}
-use Rattle.meaning_sound.proofs.Cells.{sound_of, heads_written, counts_written}
-use Rattle.meaning_sound.proofs.Removal.{other_one, counted_heads, copy_keeps, uncopy_keeps}
-use Rattle.meaning_sound.proofs.Stores.{live_object}
-use Rattle.refine_frame.specs.Open as open_frame
-use Rattle.refine_frame.proofs.Memory.{write_count}
-use Rattle.refine_form.specs.Form.{Scope}
-use Rattle.refine_form.specs.Frames.{Under, address_of, value_word, stack_words, memory, OpenFrame}
-use Rattle.refine_form.specs.Stands.{shape_of, extra, setup, Kept, Reads, Stands}
-use Rattle.refine_calls.proofs.Bridge.{same_at, same_memory, stack_fits, set_words, typed, reads_of}
-use Rattle.refine_calls.proofs.KeptMoves.{callers_stay, grounded_stays}
-use Rattle.refine_calls.proofs.MovesFit.{class_at, callers_on, place_of}
+use Rattle.object_codegen.specs.class_table.declared.kind.Kind.{Kind}
+use Rattle.object_codegen.specs.class_table.declared.kind.Kind.TheVariants as kind
+use Rattle.object_codegen.specs.class_table.Expressions.{is_int}
+use Rattle.object_codegen.specs.buddy_book.Place.{Placing, place}
+use Rattle.object_codegen.specs.roopl_semantics.Store.{Value, Nil, Name, State, main_name, object_at}
+use Rattle.object_codegen.specs.roopl_semantics.Value.{Cell, Slot, Part, read, written}
+use Rattle.object_codegen.specs.roopl_semantics.Laws.{one_if_name}
+use Rattle.object_codegen.specs.roopl_semantics.Execution.{Setting, counted, one_less}
+use Rattle.object_codegen.specs.meaning_sound.Sound.{count_of, head_named, named_fits, is_live, fits, cell_kind, Sound}
+use Rattle.object_codegen.proofs.meaning_sound_laws.Cells.{sound_of, heads_written, counts_written}
+use Rattle.object_codegen.proofs.meaning_sound_laws.Removal.{other_one, counted_heads, copy_keeps, uncopy_keeps}
+use Rattle.object_codegen.proofs.meaning_sound_laws.Stores.{live_object}
+use Rattle.object_codegen.specs.refine_frame.Open as open_frame
+use Rattle.object_codegen.proofs.refine_frame_laws.Memory.{write_count}
+use Rattle.object_codegen.specs.refine_form.Form.{Scope}
+use Rattle.object_codegen.specs.refine_form.Frames.{Under, address_of, value_word, stack_words, memory, OpenFrame}
+use Rattle.object_codegen.specs.refine_form.Stands.{shape_of, extra, setup, Kept, Reads, Stands}
+use Rattle.refine_expressions.proofs.refine_calls_laws.Bridge.{same_at, same_memory, stack_fits, set_words, typed, reads_of}
+use Rattle.refine_expressions.proofs.refine_calls_laws.KeptMoves.{callers_stay, grounded_stays}
+use Rattle.refine_expressions.proofs.refine_calls_laws.MovesFit.{class_at, callers_on, place_of}
 use Rattle.refine_expressions.proofs.CellsWritten.{reads_after}
 use Rattle.refine_objects.proofs.CountPlaces.{IsRefers}
 
@@ -79,7 +79,7 @@ module _ (setting : Setting) (statics : List ℕ) (s : Scope) (u : Under) where
       above_fits = h.frame.above_fits;
     }
 
-  -- what is kept of a sound state where heads stay
+  -- what is kept of a sound state if heads stay
   kept_sound : (st end : State) → ((m : ℕ) → head_named end.store m ≡ head_named st.store m)
       → Kept setting statics s u [] st → Sound setting E (shape_of setting.program s) s.class end
       → Kept setting statics s u [] end

@@ -1,20 +1,21 @@
--- Where no frame names an object, its going or coming changes no word of the stack, and no frame below.
+-- If no frame refers to an object, making or deleting it changes no word of the stack and no frame
+-- below.
 use Rattle.std.proofs.Common.{◌≡◌, ◌≢◌, ◌∙◌, ap, refl, ℕ, ◌+◌, ◌<◌, true, List, [], ◌∷◌, ◌++◌, map, arith}
 use Rattle.std.specs.Prelude.{nat_eq, is_some, if◌then◌else◌}
-use Rattle.rpp_words.specs.declared.input.TheConstants.{FRAME_WORDS}
-use Rattle.class_table.specs.declared.kind.Kind.TheVariants as kind
-use Rattle.buddy_book.specs.Place.{Placing, block_of}
-use Rattle.pisa_isa.specs.Loaded.{statics_at}
-use Rattle.roopl_semantics.specs.Store.{Value, Word, Nil, Name, Binding, Store, main_name}
-use Rattle.roopl_semantics.specs.Laws.{one_if_name, holders_among}
-use Rattle.roopl_semantics.specs.Execution.{Setting}
-use Rattle.meaning_sound.specs.Sound.{head_named, is_live, named_fits, local_type, value_of}
-use Rattle.meaning_sound.proofs.Lists.{all_kept}
-use Rattle.meaning_sound.proofs.Removal.{one_name}
-use Rattle.refine_form.specs.Frames.{Caller, Under, base, address_of, value_word, value_words, values_of, filled_to}
-use Rattle.refine_form.specs.Frames.{frame_words, callers_words, stack_words, CallersStand}
-use Rattle.refine_form.specs.Stands.{shape_of, CallersFit}
-use Rattle.refine_calls.proofs.MovesFit.{class_at}
+use Rattle.object_codegen.specs.rpp_words.declared.input.TheConstants.{FRAME_WORDS}
+use Rattle.object_codegen.specs.class_table.declared.kind.Kind.TheVariants as kind
+use Rattle.object_codegen.specs.buddy_book.Place.{Placing, block_of}
+use Rattle.object_codegen.specs.pisa_isa.Loaded.{statics_at}
+use Rattle.object_codegen.specs.roopl_semantics.Store.{Value, Word, Nil, Name, Binding, Store, main_name}
+use Rattle.object_codegen.specs.roopl_semantics.Laws.{one_if_name, holders_among}
+use Rattle.object_codegen.specs.roopl_semantics.Execution.{Setting}
+use Rattle.object_codegen.specs.meaning_sound.Sound.{head_named, is_live, named_fits, local_type, value_of}
+use Rattle.object_codegen.proofs.meaning_sound_laws.Lists.{all_kept}
+use Rattle.object_codegen.proofs.meaning_sound_laws.Removal.{one_name}
+use Rattle.object_codegen.specs.refine_form.Frames.{Caller, Under, base, address_of, value_word, value_words, values_of, filled_to}
+use Rattle.object_codegen.specs.refine_form.Frames.{frame_words, callers_words, stack_words, CallersStand}
+use Rattle.object_codegen.specs.refine_form.Stands.{shape_of, CallersFit}
+use Rattle.refine_expressions.proofs.refine_calls_laws.MovesFit.{class_at}
 
 -- no frame below has the name, as a value or as its object
 abbrev pub Avoids : ℕ → List Caller → Type 0

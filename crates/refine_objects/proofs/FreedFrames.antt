@@ -1,44 +1,52 @@
--- An open frame whose place's object or array is given back.
+-- A current frame whose place's object or array is given back.
 use Rattle.std.proofs.Common.{◌≡◌, ◌≢◌, ◌∙◌, sym, ap, subst, refl, ℕ, ◌+◌, ◌-◌, ◌*◌, ◌^◌, ◌<◌, ◌≤◌, ◌⊎◌, ⊎_elim, Bool}
 use Rattle.std.proofs.Common.{true, false, List, [], ◌∷◌, length, Some, None, arith}
 use Rattle.std.specs.Prelude.{nat_eq, is_some, slice_get, slice_index, slice_set, not}
 use Rattle.std.specs.Option.{option_map, unwrap_or}
 use Rattle.std.proofs.lemmas.List.{set-set, set-get_or, get_or-set_other, get_or-set_same}
-use Rattle.rpp_words.specs.declared.input.TheConstants.{FRAME_WORDS, FIXED_CELLS}
-use Rattle.code_conventions.specs.declared.memory.TheConstants.{FIRST_VARIABLE, HEADER_WORDS, COUNT_WORD}
-use Rattle.class_table.specs.declared.kind.Kind.{Kind}
-use Rattle.class_table.specs.declared.kind.Kind.TheVariants as kind
-use Rattle.class_table.specs.Expressions.{is_int}
-use Rattle.buddy_book.specs.Book.{take, give}
-use Rattle.buddy_book.specs.Place.{Placing, Given, after_request, block_of, without_name, count_taken, place}
-use Rattle.buddy_book.specs.Shown.{Shown, without_taken, IsKept}
-use Rattle.buddy_book.proofs.Orders.{GaveOrder, give_gave}
-use Rattle.buddy_book.proofs.Kept.{GivenBack, given_back, give_kept}
-use Rattle.buddy_book.proofs.Requests.{block_of_other}
-use Rattle.roopl_semantics.specs.Store.{Value, Nil, Name, Head, OfClass, Object, Store, State, main_name, no_object}
-use Rattle.roopl_semantics.specs.Store.{object_named, object_at, without}
-use Rattle.roopl_semantics.specs.Value.{Cell, Slot, Part, read, written}
-use Rattle.roopl_semantics.specs.Execution.{Setting, order_of_cells, all_zero, freed}
-use Rattle.roopl_semantics.specs.Laws.{one_if_name}
-use Rattle.roopl_semantics.specs.Layout.{head_word}
-use Rattle.roopl_semantics.proofs.Orders.{order_from_one}
-use Rattle.meaning_sound.specs.Sound.{head_of, head_named, part_kind, count_of, named_fits, fits, is_live, cell_kinds}
-use Rattle.meaning_sound.specs.Sound.{cell_kind, held, Sound, Keeps, IsPlaced, Typed}
-use Rattle.meaning_sound.proofs.Lists.{all_length}
-use Rattle.meaning_sound.proofs.Stores.{live_object, live_named, without_other}
-use Rattle.meaning_sound.proofs.Cells.{sound_of, read_fits, kind_stays}
-use Rattle.meaning_sound.proofs.Objects.{fit_live}
-use Rattle.meaning_sound.proofs.Removal.{one_name, apart_cell, object_stays, smaller, smaller_typed, freed_is}
-use Rattle.meaning_sound.proofs.Removal.{freed_keeps}
-use Rattle.refine_form.specs.Form.{Scope}
-use Rattle.refine_form.specs.Frames.{Caller, Under, base, stack_base, before_stack, memory, stack_words, address_of}
-use Rattle.refine_form.specs.Frames.{value_word, CallersStand, OpenFrame}
-use Rattle.refine_form.specs.Stands.{shape_of, extra, main_held, below_held, setup, CallersHeld, Kept, Reads, Stands}
-use Rattle.refine_calls.proofs.Bridge.{typed, typed_by, reads_of, same_at, before_long, as_many_vars}
-use Rattle.refine_calls.proofs.MovesFit.{frame_address, place_of, class_at, frame_read, cell_low, cell_inside}
-use Rattle.meaning_inverse.proofs.Cells.{length_with}
-use Rattle.meaning_sound.proofs.AfterWrites.{read_same}
-use Rattle.refine_frame.proofs.Memory.{base_above}
+use Rattle.object_codegen.specs.rpp_words.declared.input.TheConstants.{FRAME_WORDS, FIXED_CELLS}
+use Rattle.object_codegen.specs.code_conventions.declared.memory.TheConstants.{FIRST_VARIABLE, HEADER_WORDS, COUNT_WORD}
+use Rattle.object_codegen.specs.class_table.declared.kind.Kind.{Kind}
+use Rattle.object_codegen.specs.class_table.declared.kind.Kind.TheVariants as kind
+use Rattle.object_codegen.specs.class_table.Expressions.{is_int}
+use Rattle.object_codegen.specs.buddy_book.Book.{take, give}
+use Rattle.object_codegen.specs.buddy_book.Place.{Placing, Given, after_request, block_of, without_name, count_taken}
+use Rattle.object_codegen.specs.buddy_book.Place.{place}
+use Rattle.object_codegen.specs.buddy_book.Shown.{Shown, without_taken, IsKept}
+use Rattle.object_codegen.proofs.buddy_book_laws.Orders.{GaveOrder, give_gave}
+use Rattle.object_codegen.proofs.buddy_book_laws.Kept.{GivenBack, given_back, give_kept}
+use Rattle.object_codegen.proofs.buddy_book_laws.Requests.{block_of_other}
+use Rattle.object_codegen.specs.roopl_semantics.Store.{Value, Nil, Name, Head, OfClass, Object, Store, State, main_name}
+use Rattle.object_codegen.specs.roopl_semantics.Store.{no_object}
+use Rattle.object_codegen.specs.roopl_semantics.Store.{object_named, object_at, without}
+use Rattle.object_codegen.specs.roopl_semantics.Value.{Cell, Slot, Part, read, written}
+use Rattle.object_codegen.specs.roopl_semantics.Execution.{Setting, order_of_cells, all_zero, freed}
+use Rattle.object_codegen.specs.roopl_semantics.Laws.{one_if_name}
+use Rattle.object_codegen.specs.roopl_semantics.Layout.{head_word}
+use Rattle.object_codegen.proofs.roopl_semantics_laws.Orders.{order_from_one}
+use Rattle.object_codegen.specs.meaning_sound.Sound.{head_of, head_named, part_kind, count_of, named_fits, fits}
+use Rattle.object_codegen.specs.meaning_sound.Sound.{is_live, cell_kinds}
+use Rattle.object_codegen.specs.meaning_sound.Sound.{cell_kind, held, Sound, Keeps, IsPlaced, Typed}
+use Rattle.object_codegen.proofs.meaning_sound_laws.Lists.{all_length}
+use Rattle.object_codegen.proofs.meaning_sound_laws.Stores.{live_object, live_named, without_other}
+use Rattle.object_codegen.proofs.meaning_sound_laws.Cells.{sound_of, read_fits, kind_stays}
+use Rattle.object_codegen.proofs.meaning_sound_laws.Objects.{fit_live}
+use Rattle.object_codegen.proofs.meaning_sound_laws.Removal.{one_name, apart_cell, object_stays, smaller, smaller_typed}
+use Rattle.object_codegen.proofs.meaning_sound_laws.Removal.{freed_is}
+use Rattle.object_codegen.proofs.meaning_sound_laws.Removal.{freed_keeps}
+use Rattle.object_codegen.specs.refine_form.Form.{Scope}
+use Rattle.object_codegen.specs.refine_form.Frames.{Caller, Under, base, stack_base, before_stack, memory, stack_words}
+use Rattle.object_codegen.specs.refine_form.Frames.{address_of}
+use Rattle.object_codegen.specs.refine_form.Frames.{value_word, CallersStand, OpenFrame}
+use Rattle.object_codegen.specs.refine_form.Stands.{shape_of, extra, main_held, below_held, setup, CallersHeld, Kept}
+use Rattle.object_codegen.specs.refine_form.Stands.{Reads, Stands}
+use Rattle.refine_expressions.proofs.refine_calls_laws.Bridge.{typed, typed_by, reads_of, same_at, before_long}
+use Rattle.refine_expressions.proofs.refine_calls_laws.Bridge.{as_many_vars}
+use Rattle.refine_expressions.proofs.refine_calls_laws.MovesFit.{frame_address, place_of, class_at, frame_read}
+use Rattle.refine_expressions.proofs.refine_calls_laws.MovesFit.{cell_low, cell_inside}
+use Rattle.refine_expressions.proofs.meaning_inverse_laws.Cells.{length_with}
+use Rattle.object_codegen.proofs.meaning_sound_laws.AfterWrites.{read_same}
+use Rattle.object_codegen.proofs.refine_frame_laws.Memory.{base_above}
 use Rattle.refine_expressions.proofs.CellsWritten.{reads_after, held_after}
 use Rattle.object_codegen.specs.News.{Takes, filled}
 use Rattle.refine_objects.proofs.BookWords.{memory_small, memory_words, memory_above}
@@ -56,13 +64,16 @@ avoids_free n (c ∷ callers) h m b = (
   avoids_free n callers h.1 m (omega (arith, b)),
 )
   where
-    by : (self : ℕ) → n ≡ self → 0 < main_held self + (Rattle.refine_form.specs.Stands.receiver_held self c.self
+    by : (self : ℕ) → n ≡ self → 0 < main_held self + (Rattle.object_codegen.specs.refine_form.Stands.receiver_held self
+        c.self
         c.put_by + below_held self callers) → ⊥
     by self e q =
-        let z : main_held n + (Rattle.refine_form.specs.Stands.receiver_held n c.self c.put_by + below_held n
-        callers) ≡ main_held self + (Rattle.refine_form.specs.Stands.receiver_held self c.self c.put_by +
+        let z : main_held n + (Rattle.object_codegen.specs.refine_form.Stands.receiver_held n c.self c.put_by +
+        below_held n
+        callers) ≡ main_held self + (Rattle.object_codegen.specs.refine_form.Stands.receiver_held self c.self c.put_by +
         below_held self callers) =
-        ap (λ k. main_held k + (Rattle.refine_form.specs.Stands.receiver_held k c.self c.put_by + below_held k
+        ap (λ k. main_held k + (Rattle.object_codegen.specs.refine_form.Stands.receiver_held k c.self c.put_by +
+        below_held k
         callers)) e in
         omega (arith, m, b, z, q)
 
@@ -124,7 +135,8 @@ module _ (setting : Setting) (statics : List ℕ) (s : Scope) (u : Under) (st : 
   object_now = object_stays setting (extra u []) (shape_of setting.program s) s.class st cell n Nil apart ∙ named
 
   object_same : object_at cleared.store n ≡ object_at st.store n
-  object_same = ap (λ o. Rattle.std.specs.Option.unwrap_or o Rattle.roopl_semantics.specs.Store.no_object) object_now
+  object_same = ap (λ o. Rattle.std.specs.Option.unwrap_or o
+      Rattle.object_codegen.specs.roopl_semantics.Store.no_object) object_now
 
   pub live_now : is_live cleared.store n ≡ true
   live_now = live_named cleared.store n (object_at st.store n) object_now
@@ -252,9 +264,10 @@ module _ (setting : Setting) (statics : List ℕ) (s : Scope) (u : Under) (st : 
   }
     where
       arrays : (m : ℕ) (hd : Head) → head_named small.store m ≡ Some hd → (b : Bool) → nat_eq n m ≡ b
-          → Rattle.refine_form.specs.Stands.HasElements hd
+          → Rattle.object_codegen.specs.refine_form.Stands.HasElements hd
       arrays m hd q true e =
-          let none = Rattle.meaning_sound.proofs.Stores.without_here (2 + count_taken cleared.log) cleared.store n
+          let none = Rattle.object_codegen.proofs.meaning_sound_laws.Stores.without_here (2 + count_taken cleared.log)
+          cleared.store n
           nil_reads.keeps.fresh in
           let z : head_named small.store n ≡ Some hd = ap (head_named small.store)
           (Rattle.std.proofs.lemmas.Bool.eqb-true n m e) ∙ q in
@@ -262,7 +275,7 @@ module _ (setting : Setting) (statics : List ℕ) (s : Scope) (u : Under) (st : 
           absurd (cc)
       arrays m hd q false e = nil_reads.keeps.arrays m hd (sym
           (ap (option_map head_of) (without_other cleared.store n m
-          (Rattle.meaning_sound.proofs.Stores.differs n m e))) ∙ q)
+          (Rattle.object_codegen.proofs.meaning_sound_laws.Stores.differs n m e))) ∙ q)
 
   -- ---- the cells
 
@@ -351,8 +364,9 @@ module _ (setting : Setting) (statics : List ℕ) (s : Scope) (u : Under) (st : 
       by false e true g = zero_at 1 (omega arith) (Rattle.std.proofs.lemmas.Bool.eqb-true a (x + COUNT_WORD) g)
       by false e false g =
           let first = get_or-set_other (slice_set taken x mark) (x + COUNT_WORD) a 1 0
-          (Rattle.meaning_sound.proofs.Stores.differs a (x + COUNT_WORD) g) in
-          let second = get_or-set_other taken x a mark 0 (Rattle.meaning_sound.proofs.Stores.differs a x e) in
+          (Rattle.object_codegen.proofs.meaning_sound_laws.Stores.differs a (x + COUNT_WORD) g) in
+          let second = get_or-set_other taken x a mark 0 (Rattle.object_codegen.proofs.meaning_sound_laws.Stores.differs
+          a x e) in
           subst (λ z. z < 2 ^ 32) (ap (λ z. slice_index z a) nil_cells_are ∙ first ∙ second) (nil_reads.words a)
 
   module _ (low : base setting statics + 2 ^ setting.limits.heap + FRAME_WORDS * setting.limits.deep ≤ 2 ^ 23) where

@@ -1,28 +1,28 @@
--- The state of an open frame is sound, its names are drawn, and its arrays have elements.
+-- The state of a current frame is sound, its names are drawn, and its arrays have elements.
 use Rattle.std.proofs.Common.{◌≡◌, ◌≢◌, ◌∙◌, sym, ap, refl, ℕ, ◌^◌, ◌<◌, ◌≤◌, Bool, true, false, List, [], length, Some}
 use Rattle.std.proofs.Common.{arith}
 use Rattle.std.proofs.lemmas.List.{length-replicate}
 use Rattle.std.proofs.lemmas.Bool.{ltb-true}
 use Rattle.std.specs.Prelude.{nat_lt}
 use Rattle.std.specs.Option.{option_map}
-use Rattle.rpp_words.specs.Words.{is_less}
-use Rattle.class_table.specs.declared.kind.Kind.TheVariants as kind
-use Rattle.roopl_semantics.specs.Store.{Head, OfClass, OfInts, OfObjects, Object, State, main_name, object_named}
-use Rattle.roopl_semantics.specs.Execution.{Setting}
-use Rattle.meaning_sound.specs.Sound.{head_of, head_named, cell_kinds, Sound}
-use Rattle.meaning_sound.proofs.Lists.{all_length}
-use Rattle.meaning_sound.proofs.Cells.{sound_of}
-use Rattle.meaning_sound.proofs.Regions.{region_inside}
-use Rattle.refine_frame.proofs.Tells.{cells_small}
-use Rattle.meaning_inverse.specs.ArrayLengths.{is_class_head}
-use Rattle.meaning_inverse.proofs.Known.{Context, Good, drawn_of}
-use Rattle.refine_form.specs.Form.{Scope}
-use Rattle.refine_form.specs.Frames.{Under}
-use Rattle.refine_form.specs.Stands.{shape_of, extra, setup, HasElements, Stands}
-use Rattle.refine_calls.proofs.Bridge.{typed, reads_of}
-use Rattle.refine_calls.proofs.FactsMoves.{same_means}
+use Rattle.object_codegen.specs.rpp_words.Words.{is_less}
+use Rattle.object_codegen.specs.class_table.declared.kind.Kind.TheVariants as kind
+use Rattle.object_codegen.specs.roopl_semantics.Store.{Head, OfClass, OfInts, OfObjects, Object, State, main_name, object_named}
+use Rattle.object_codegen.specs.roopl_semantics.Execution.{Setting}
+use Rattle.object_codegen.specs.meaning_sound.Sound.{head_of, head_named, cell_kinds, Sound}
+use Rattle.object_codegen.proofs.meaning_sound_laws.Lists.{all_length}
+use Rattle.object_codegen.proofs.meaning_sound_laws.Cells.{sound_of}
+use Rattle.object_codegen.proofs.meaning_sound_laws.Regions.{region_inside}
+use Rattle.object_codegen.proofs.refine_frame_laws.Tells.{cells_small}
+use Rattle.refine_expressions.specs.meaning_inverse.ArrayLengths.{is_class_head}
+use Rattle.refine_expressions.proofs.meaning_inverse_laws.Known.{Context, Good, drawn_of}
+use Rattle.object_codegen.specs.refine_form.Form.{Scope}
+use Rattle.object_codegen.specs.refine_form.Frames.{Under}
+use Rattle.object_codegen.specs.refine_form.Stands.{shape_of, extra, setup, HasElements, Stands}
+use Rattle.refine_expressions.proofs.refine_calls_laws.Bridge.{typed, reads_of}
+use Rattle.refine_expressions.proofs.refine_calls_laws.FactsMoves.{same_means}
 use Rattle.object_codegen.proofs.Walking.{less_small}
-use Rattle.pisa_isa.specs.declared.image.TheConstants.{MOST_STATICS}
+use Rattle.object_codegen.specs.pisa_isa.declared.image.TheConstants.{MOST_STATICS}
 
 module _ (setting : Setting) (statics : List ℕ) (few : length statics ≤ MOST_STATICS) (s : Scope)
     (inside : s.class < length setting.program.classes) (u : Under) (st : State) (cells : List ℕ)

@@ -1,3 +1,10 @@
+pub use Rattle.object_codegen.proofs.rpp_tree_laws
+pub use Rattle.object_codegen.proofs.class_table_laws
+pub use Rattle.object_codegen.proofs.meaning_sound_laws
+pub use Rattle.object_codegen.proofs.paired_code_laws
+pub use Rattle.object_codegen.proofs.refine_form_laws
+pub use Rattle.object_codegen.proofs.code_scope_laws
+pub use Rattle.object_codegen.proofs.expr_uncompute_laws
 pub mod CellsFew
 pub mod CountPlaces
 pub mod CountsWritten

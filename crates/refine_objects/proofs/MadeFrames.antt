@@ -1,47 +1,55 @@
--- An open frame with a new object or array in its place.
+-- A current frame with a new object or array in its place.
 use Rattle.std.proofs.Common.{◌≡◌, ◌≢◌, ◌∙◌, sym, ap, subst, refl, ℕ, ◌+◌, ◌-◌, ◌*◌, ◌^◌, ◌<◌, ◌≤◌, ◌⊎◌, ⊎_elim, Bool}
 use Rattle.std.proofs.Common.{true, false, List, [], ◌∷◌, map, length, Option, Some, None, arith}
 use Rattle.std.specs.Prelude.{nat_eq, nat_lt, is_none, is_some, ◌||◌, slice_index, slice_set, not, if◌then◌else◌}
 use Rattle.std.specs.Option.{option_map}
-use Rattle.rpp_tree.specs.Tree.{Source}
-use Rattle.class_table.specs.declared.kind.Kind.{Kind}
-use Rattle.class_table.specs.declared.kind.Kind.TheVariants as kind
-use Rattle.buddy_book.specs.Place.{Placing, Taken, block_of, without_name, count_taken, place}
-use Rattle.roopl_semantics.specs.Store.{Value, Nil, Name, Head, OfClass, Object, Store, State, main_name, is_nil}
-use Rattle.roopl_semantics.specs.Store.{object_named, object_at, without}
-use Rattle.roopl_semantics.specs.Value.{Cell, Slot, Part, read, written}
-use Rattle.roopl_semantics.specs.Run.{◌>>=◌, give, fault_if}
-use Rattle.roopl_semantics.specs.Execution.{Setting, new_object, order_of_cells, all_zero, heap_full_fault}
-use Rattle.roopl_semantics.specs.Laws.{holders_among}
-use Rattle.roopl_semantics.specs.Layout.{head_word}
-use Rattle.roopl_semantics.proofs.Orders.{order_from_one}
-use Rattle.meaning_sound.specs.Sound.{head_of, head_named, head_fits, named_fits, fits, is_live, cell_kinds}
-use Rattle.meaning_sound.specs.Sound.{cell_kind, AllFit, value_of, held, Sound, Keeps, IsPlaced, Typed}
-use Rattle.meaning_sound.proofs.Stores.{here, there, same_number, other_number, live_named}
-use Rattle.meaning_sound.proofs.Cells.{sound_of}
-use Rattle.meaning_sound.proofs.Placing.{TookBlock, took_block, place_taken}
-use Rattle.meaning_sound.proofs.Objects.{all_live, clash, unheld, dead_above, bigger, bigger_typed, older_head}
-use Rattle.meaning_sound.proofs.Objects.{cell_bigger, read_bigger, allocated_keeps}
-use Rattle.meaning_sound.proofs.Runs.{Ends}
-use Rattle.refine_form.specs.Form.{Scope}
-use Rattle.refine_form.specs.Frames.{Caller, Under, base, stack_base, before_stack, memory, stack_words, address_of}
-use Rattle.refine_form.specs.Frames.{value_word, StandsAt, OpenFrame}
-use Rattle.refine_form.specs.Stands.{shape_of, extra, setup, HasElements, CallersFit, Kept, Reads, Stands}
-use Rattle.refine_calls.proofs.Bridge.{typed, reads_of, same_at, set_words, before_long, as_many_vars}
-use Rattle.refine_calls.proofs.MovesFit.{frame_address, place_of, class_at, frame_read, cell_low}
+use Rattle.object_codegen.specs.rpp_tree.Tree.{Source}
+use Rattle.object_codegen.specs.class_table.declared.kind.Kind.{Kind}
+use Rattle.object_codegen.specs.class_table.declared.kind.Kind.TheVariants as kind
+use Rattle.object_codegen.specs.buddy_book.Place.{Placing, Taken, block_of, without_name, count_taken, place}
+use Rattle.object_codegen.specs.roopl_semantics.Store.{Value, Nil, Name, Head, OfClass, Object, Store, State, main_name}
+use Rattle.object_codegen.specs.roopl_semantics.Store.{is_nil}
+use Rattle.object_codegen.specs.roopl_semantics.Store.{object_named, object_at, without}
+use Rattle.object_codegen.specs.roopl_semantics.Value.{Cell, Slot, Part, read, written}
+use Rattle.object_codegen.specs.roopl_semantics.Run.{◌>>=◌, give, fault_if}
+use Rattle.object_codegen.specs.roopl_semantics.Execution.{Setting, new_object, order_of_cells, all_zero}
+use Rattle.object_codegen.specs.roopl_semantics.Execution.{heap_full_fault}
+use Rattle.object_codegen.specs.roopl_semantics.Laws.{holders_among}
+use Rattle.object_codegen.specs.roopl_semantics.Layout.{head_word}
+use Rattle.object_codegen.proofs.roopl_semantics_laws.Orders.{order_from_one}
+use Rattle.object_codegen.specs.meaning_sound.Sound.{head_of, head_named, head_fits, named_fits, fits, is_live}
+use Rattle.object_codegen.specs.meaning_sound.Sound.{cell_kinds}
+use Rattle.object_codegen.specs.meaning_sound.Sound.{cell_kind, AllFit, value_of, held, Sound, Keeps, IsPlaced, Typed}
+use Rattle.object_codegen.proofs.meaning_sound_laws.Stores.{here, there, same_number, other_number, live_named}
+use Rattle.object_codegen.proofs.meaning_sound_laws.Cells.{sound_of}
+use Rattle.object_codegen.proofs.meaning_sound_laws.Placing.{TookBlock, took_block, place_taken}
+use Rattle.object_codegen.proofs.meaning_sound_laws.Objects.{all_live, clash, unheld, dead_above, bigger, bigger_typed}
+use Rattle.object_codegen.proofs.meaning_sound_laws.Objects.{older_head}
+use Rattle.object_codegen.proofs.meaning_sound_laws.Objects.{cell_bigger, read_bigger, allocated_keeps}
+use Rattle.object_codegen.proofs.meaning_sound_laws.Runs.{Ends}
+use Rattle.object_codegen.specs.refine_form.Form.{Scope}
+use Rattle.object_codegen.specs.refine_form.Frames.{Caller, Under, base, stack_base, before_stack, memory, stack_words}
+use Rattle.object_codegen.specs.refine_form.Frames.{address_of}
+use Rattle.object_codegen.specs.refine_form.Frames.{value_word, StandsAt, OpenFrame}
+use Rattle.object_codegen.specs.refine_form.Stands.{shape_of, extra, setup, HasElements, CallersFit, Kept, Reads}
+use Rattle.object_codegen.specs.refine_form.Stands.{Stands}
+use Rattle.refine_expressions.proofs.refine_calls_laws.Bridge.{typed, reads_of, same_at, set_words, before_long}
+use Rattle.refine_expressions.proofs.refine_calls_laws.Bridge.{as_many_vars}
+use Rattle.refine_expressions.proofs.refine_calls_laws.MovesFit.{frame_address, place_of, class_at, frame_read}
+use Rattle.refine_expressions.proofs.refine_calls_laws.MovesFit.{cell_low}
 use Rattle.std.proofs.lemmas.List.{get_or-set_other}
-use Rattle.rpp_words.specs.declared.input.TheConstants.{FRAME_WORDS, FIXED_CELLS}
-use Rattle.code_conventions.specs.declared.memory.TheConstants.{FIRST_VARIABLE, HEADER_WORDS, COUNT_WORD}
-use Rattle.refine_frame.proofs.Memory.{base_above}
+use Rattle.object_codegen.specs.rpp_words.declared.input.TheConstants.{FRAME_WORDS, FIXED_CELLS}
+use Rattle.object_codegen.specs.code_conventions.declared.memory.TheConstants.{FIRST_VARIABLE, HEADER_WORDS, COUNT_WORD}
+use Rattle.object_codegen.proofs.refine_frame_laws.Memory.{base_above}
 use Rattle.refine_expressions.proofs.CellsWritten.{reads_after}
 use Rattle.refine_objects.proofs.BookWords.{memory_small, memory_words, memory_above}
 use Rattle.refine_objects.proofs.Placings.{placed_as}
 use Rattle.refine_objects.proofs.Elsewhere.{Avoids, address_same, callers_fit_on, callers_stand_on}
 use Rattle.refine_objects.proofs.MadeMemory.{bare, bare_zero, written_over, cell_outside, block_inside}
 use Rattle.object_codegen.specs.News.{Takes, filled}
-use Rattle.buddy_book.specs.Shown.{with_taken, IsKept}
-use Rattle.buddy_book.proofs.Orders.{take_took}
-use Rattle.buddy_book.proofs.Kept.{take_kept}
+use Rattle.object_codegen.specs.buddy_book.Shown.{with_taken, IsKept}
+use Rattle.object_codegen.proofs.buddy_book_laws.Orders.{take_took}
+use Rattle.object_codegen.proofs.buddy_book_laws.Kept.{take_kept}
 
 -- a name that is not live is in no frame
 avoids_dead : (setting : Setting) (statics : List ℕ) (store : Store) (n : ℕ) → is_live store n ≡ false
@@ -50,7 +58,8 @@ avoids_dead setting statics store n dead [] h = tt
 avoids_dead setting statics store n dead (c ∷ callers) h = (
   Rattle.refine_objects.proofs.Counting.no_holder (holders_among n (map value_of c.frame))
       (λ q. clash (is_live store n) (all_live setting.program store
-      (map Rattle.meaning_sound.specs.Sound.local_type (shape_of setting.program c.scope)) (map value_of c.frame)
+      (map Rattle.object_codegen.specs.meaning_sound.Sound.local_type (shape_of setting.program c.scope))
+      (map value_of c.frame)
       n h.0 q) dead),
   (λ e. clash (is_live store n) (ap (is_live store) e ∙ ap is_some h.2) dead),
   avoids_dead setting statics store n dead callers h.3,
@@ -69,9 +78,6 @@ module _ (setting : Setting) (statics : List ℕ) (s : Scope) (u : Under) (st : 
     (low : base setting statics + 2 ^ setting.limits.heap + FRAME_WORDS * setting.limits.deep ≤ 2 ^ 23) where
   abbrev P : Source
   P = setting.program
-
-  abbrev E : ℕ → ℕ
-  E = extra u []
 
   abbrev r : Reads setting statics s u [] st cells
   r = reads_of h
@@ -148,7 +154,8 @@ module _ (setting : Setting) (statics : List ℕ) (s : Scope) (u : Under) (st : 
     );
     callers_stand = callers_stand_on setting statics h.keeps.placed.at at' n blocks st.store big.store
         (λ m e l. older m l) u.callers h.keeps.callers_fit avoids
-        (subst (λ (a : Placing). Rattle.refine_form.specs.Frames.CallersStand setting statics a st.store u.callers)
+        (subst (λ (a : Placing). Rattle.object_codegen.specs.refine_form.Frames.CallersStand setting statics a st.store
+        u.callers)
         (sym same) h.frame.callers_stand);
     depth_is = h.frame.depth_is;
     in_depth = h.frame.in_depth;
@@ -215,7 +222,7 @@ module _ (setting : Setting) (statics : List ℕ) (s : Scope) (u : Under) (st : 
   object_is : object_at big.store n ≡ new_object head values
   object_is = ap (λ b. Rattle.std.specs.Option.unwrap_or
       (if b then Some (new_object head values) else object_named st.store n)
-      Rattle.roopl_semantics.specs.Store.no_object) (same_number n)
+      Rattle.object_codegen.specs.roopl_semantics.Store.no_object) (same_number n)
 
   abbrev by_test : Bool → List ℕ
   by_test b = memory setting statics (record {
@@ -325,7 +332,8 @@ module _ (setting : Setting) (statics : List ℕ) (s : Scope) (u : Under) (st : 
   pub place_same : place_of setting statics at' u big cell ≡ place_at
   place_same = by cell has
     where
-      live : (o : Option Head) (i : ℕ) → Rattle.meaning_sound.specs.Sound.part_kind setting.program o i ≡ Some k
+      live : (o : Option Head) (i : ℕ) → Rattle.object_codegen.specs.meaning_sound.Sound.part_kind setting.program o i
+          ≡ Some k
           → is_some o ≡ true
       live None i q = absurd (cc)
       live (Some hd) i q = refl
@@ -373,7 +381,7 @@ module _ (setting : Setting) (statics : List ℕ) (s : Scope) (u : Under) (st : 
         counts = keeps_all.sound.counts;
       })
 
-  -- the place stands outside the block
+  -- the lvalue is outside the block
   pub made_outside : (place_at < x) ⊎ (x + (HEADER_WORDS + length values) ≤ place_at)
   made_outside =
       let c = cell_outside setting statics s u big big_cells big_keeps big_frame n live_new no_main unheld_new cell k
@@ -392,7 +400,8 @@ module _ (setting : Setting) (statics : List ℕ) (s : Scope) (u : Under) (st : 
           → n ≡ m → is_live st.store n ≡ true
       live_part m i q e = ap (is_live st.store) e ∙ live (head_named st.store m) q
         where
-          live : (o : Option Head) → Rattle.meaning_sound.specs.Sound.part_kind setting.program o i ≡ Some k
+          live : (o : Option Head) → Rattle.object_codegen.specs.meaning_sound.Sound.part_kind setting.program o i
+              ≡ Some k
               → is_some o ≡ true
           live None z = absurd (cc)
           live (Some hd) z = refl

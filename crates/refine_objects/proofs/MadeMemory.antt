@@ -6,35 +6,35 @@ use Rattle.std.proofs.Common.{length-append}
 use Rattle.std.proofs.lemmas.Bool.{eqb-true}
 use Rattle.std.proofs.lemmas.List.{length-map, length-replicate}
 use Rattle.std.specs.Prelude.{nat_eq, slice_index, slice_set, replicate, if◌then◌else◌}
-use Rattle.pisa_isa.specs.Loaded.{statics_at}
-use Rattle.code_conventions.specs.Header.{header}
+use Rattle.object_codegen.specs.pisa_isa.Loaded.{statics_at}
+use Rattle.object_codegen.specs.code_conventions.Header.{header}
 use Rattle.std.specs.Option.{option_map}
-use Rattle.rpp_words.specs.declared.input.TheConstants.{FRAME_WORDS, FIXED_CELLS}
-use Rattle.code_conventions.specs.declared.memory.TheConstants.{HEADER_WORDS, COUNT_WORD}
-use Rattle.class_table.specs.declared.kind.Kind.{Kind}
-use Rattle.rpp_tree.specs.Tree.{Source}
-use Rattle.buddy_book.specs.Place.{Placing, block_of, without_name}
-use Rattle.buddy_book.proofs.Requests.{block_of_other}
-use Rattle.roopl_semantics.specs.Store.{Object, Binding, State, main_name, object_at, without}
-use Rattle.roopl_semantics.specs.Value.{Cell, Slot, Part}
-use Rattle.roopl_semantics.specs.Execution.{Setting, all_zero}
-use Rattle.roopl_semantics.specs.Layout.{word_of, head_word, object_words}
-use Rattle.meaning_sound.specs.Sound.{head_of, is_live, cell_kinds, cell_kind, held, head_named, Typed}
-use Rattle.meaning_sound.proofs.Lists.{all_length}
-use Rattle.meaning_sound.proofs.Stores.{live_object, differs}
-use Rattle.meaning_sound.proofs.Cells.{IsPart, part_of}
-use Rattle.meaning_sound.proofs.Regions.{region_inside, regions_apart}
-use Rattle.refine_frame.specs.Open.{Setup}
-use Rattle.refine_frame.proofs.Heaps.{length_words}
-use Rattle.refine_frame.proofs.Memory.{base_above, main_cells}
-use Rattle.refine_frame.proofs.Making.{made_memory, block_is_zero}
-use Rattle.refine_form.specs.Form.{Scope}
-use Rattle.refine_form.specs.Frames.{Under, base, stack_base, memory, before_stack, filled_to, values_of}
-use Rattle.refine_form.specs.Frames.{frame_words, callers_words, stack_words, address_of, CallersStand, OpenFrame}
-use Rattle.refine_form.specs.Stands.{shape_of, extra, setup, Kept}
-use Rattle.refine_calls.proofs.FramesFit.{length_callers, length_frame}
-use Rattle.refine_calls.proofs.Bridge.{typed_by, long_by, same_memory}
-use Rattle.refine_calls.proofs.MovesFit.{place_of}
+use Rattle.object_codegen.specs.rpp_words.declared.input.TheConstants.{FRAME_WORDS, FIXED_CELLS}
+use Rattle.object_codegen.specs.code_conventions.declared.memory.TheConstants.{HEADER_WORDS, COUNT_WORD}
+use Rattle.object_codegen.specs.class_table.declared.kind.Kind.{Kind}
+use Rattle.object_codegen.specs.rpp_tree.Tree.{Source}
+use Rattle.object_codegen.specs.buddy_book.Place.{Placing, block_of, without_name}
+use Rattle.object_codegen.proofs.buddy_book_laws.Requests.{block_of_other}
+use Rattle.object_codegen.specs.roopl_semantics.Store.{Object, Binding, State, main_name, object_at, without}
+use Rattle.object_codegen.specs.roopl_semantics.Value.{Cell, Slot, Part}
+use Rattle.object_codegen.specs.roopl_semantics.Execution.{Setting, all_zero}
+use Rattle.object_codegen.specs.roopl_semantics.Layout.{word_of, head_word, object_words}
+use Rattle.object_codegen.specs.meaning_sound.Sound.{head_of, is_live, cell_kinds, cell_kind, held, head_named, Typed}
+use Rattle.object_codegen.proofs.meaning_sound_laws.Lists.{all_length}
+use Rattle.object_codegen.proofs.meaning_sound_laws.Stores.{live_object, differs}
+use Rattle.object_codegen.proofs.meaning_sound_laws.Cells.{IsPart, part_of}
+use Rattle.object_codegen.proofs.meaning_sound_laws.Regions.{region_inside, regions_apart}
+use Rattle.object_codegen.specs.refine_frame.Open.{Setup}
+use Rattle.object_codegen.proofs.refine_frame_laws.Heaps.{length_words}
+use Rattle.object_codegen.proofs.refine_frame_laws.Memory.{base_above, main_cells}
+use Rattle.object_codegen.proofs.refine_frame_laws.Making.{made_memory, block_is_zero}
+use Rattle.object_codegen.specs.refine_form.Form.{Scope}
+use Rattle.object_codegen.specs.refine_form.Frames.{Under, base, stack_base, memory, before_stack, filled_to, values_of}
+use Rattle.object_codegen.specs.refine_form.Frames.{frame_words, callers_words, stack_words, address_of, CallersStand, OpenFrame}
+use Rattle.object_codegen.specs.refine_form.Stands.{shape_of, extra, setup, Kept}
+use Rattle.refine_expressions.proofs.refine_calls_laws.FramesFit.{length_callers, length_frame}
+use Rattle.refine_expressions.proofs.refine_calls_laws.Bridge.{typed_by, long_by, same_memory}
+use Rattle.refine_expressions.proofs.refine_calls_laws.MovesFit.{place_of}
 use Rattle.refine_objects.proofs.Elsewhere.{Avoids, stack_same}
 use Rattle.refine_objects.proofs.Overlaid.{zeros_words, filled_over}
 
@@ -141,17 +141,17 @@ module _ (setting : Setting) (statics : List ℕ) (s : Scope) (u : Under) (st : 
     bare_is : bare ≡ memory setting statics less (without st.store n) stack
     bare_is = ap (memory setting statics less (without st.store n)) stacks
 
-    over : cells ≡ Rattle.roopl_semantics.specs.Layout.overlaid bare block
+    over : cells ≡ Rattle.object_codegen.specs.roopl_semantics.Layout.overlaid bare block
         (object_words setting.program (base setting statics) at.blocks (object_at st.store n))
     over =
         let w = object_words setting.program (base setting statics) at.blocks (object_at st.store n) in
         cells_are ∙ sym (same_memory setting statics at st.store stack fits)
         ∙ made_memory X (extra u []) (shape_of setting.program s) s.class st t k.grounded n live no_main unheld stack
-        ∙ ap (λ z. Rattle.roopl_semantics.specs.Layout.overlaid z block w)
+        ∙ ap (λ z. Rattle.object_codegen.specs.roopl_semantics.Layout.overlaid z block w)
         (same_memory setting statics less (without st.store n) stack fits ∙ sym bare_is)
 
     bare_long : length bare ≡ length cells
-    bare_long = sym (ap length over ∙ Rattle.meaning_sound.proofs.Overlays.length_overlaid bare block
+    bare_long = sym (ap length over ∙ Rattle.object_codegen.proofs.meaning_sound_laws.Overlays.length_overlaid bare block
         (object_words setting.program (base setting statics) at.blocks (object_at st.store n)))
 
     -- all is zero in its block
@@ -172,12 +172,12 @@ module _ (setting : Setting) (statics : List ℕ) (s : Scope) (u : Under) (st : 
         let l = cells_long in
         let i = block_inside in
         over
-        ∙ ap (λ c. Rattle.roopl_semantics.specs.Layout.overlaid bare block (header mark c ++ ws)) single
+        ∙ ap (λ c. Rattle.object_codegen.specs.roopl_semantics.Layout.overlaid bare block (header mark c ++ ws)) single
         ∙ filled_over bare ws block mark (omega (arith, l, i, few, bare_long))
         (zeros_words (base setting statics) at.blocks (object_at st.store n).cells empty)
         (λ j q. bare_zero j (omega (arith, q, few)))
 
-  -- a cell of another object, or of the frame, stands outside the block
+  -- a cell of another object, or of the frame, is outside the block
   pub cell_outside : (c : Cell) (kd : Kind) → cell_kind setting.program (shape_of setting.program s) st.store c
       ≡ Some kd → ((m i : ℕ) → c ≡ Part m i → n ≢ m) → (place_of setting statics at u st c < block)
       ⊎ (block + (HEADER_WORDS + fields) ≤ place_of setting statics at u st c)

@@ -1,59 +1,63 @@
--- The code of `new` and `delete` of objects has the law of a statement over open frames.
+-- The code of `new` and `delete` of objects has the law of a statement over current frames.
 use Rattle.std.proofs.Common.{◌≡◌, ◌≢◌, ◌∙◌, sym, ap, subst, refl, ℕ, suc, ◌+◌, ◌^◌, ◌<◌, ◌≤◌, Bool, true, false, List}
 use Rattle.std.proofs.Common.{[], ◌∷◌, length, Some, None, Option, arith}
 use Rattle.std.proofs.lemmas.Bool.{eqb-true}
 use Rattle.std.proofs.lemmas.List.{length-map}
 use Rattle.std.specs.Prelude.{◌&&◌, Ok}
 use Rattle.std.specs.Option.{option_map, unwrap_or}
-use Rattle.rpp_tree.specs.declared.limits.TheConstants.{MOST_FIELDS}
-use Rattle.code_conventions.specs.declared.memory.TheConstants.{HEADER_WORDS}
-use Rattle.rpp_tree.specs.declared.tree.Ident.{Ident}
-use Rattle.rpp_tree.specs.declared.tree.Var.{Var}
-use Rattle.rpp_tree.specs.declared.tree.VarType.{VarType}
-use Rattle.rpp_tree.specs.declared.tree.VarType.TheVariants as type
-use Rattle.rpp_tree.specs.Tree.{Null, Lvalue, Object as AnObject, New, Delete, Source}
-use Rattle.class_table.specs.declared.kind.Kind.{Kind}
-use Rattle.class_table.specs.declared.kind.Kind.TheVariants as kind
-use Rattle.class_table.specs.Classes.{class_number, class_fields}
-use Rattle.class_table.specs.Expressions.{is_int}
-use Rattle.class_table.specs.Inheritance.{kind_of_var}
-use Rattle.class_table.specs.Statements.{passed, make_rules}
-use Rattle.class_table.specs.Table.{table_of}
-use Rattle.buddy_book.specs.Book.{order_for}
-use Rattle.buddy_pisa.specs.Promise.{most_steps}
-use Rattle.pisa_isa.specs.Machine.{Memory}
-use Rattle.pisa_isa.specs.declared.image.TheConstants.{MOST_STATICS}
-use Rattle.paired_code.specs.declared.part.Symbol.{Symbol}
-use Rattle.paired_code.specs.Layout.{mirror_cells}
-use Rattle.roopl_semantics.specs.Layout.{table_at, head_word}
-use Rattle.roopl_semantics.specs.Store.{Value, Nil, Name, Head, OfClass, OfInts, OfObjects, State, object_at, is_zero}
-use Rattle.roopl_semantics.specs.Store.{zero_value, zero_values}
-use Rattle.roopl_semantics.specs.Value.{Cell, read, cell_of}
-use Rattle.roopl_semantics.specs.Elements.{index_elements, own_element, share_array}
-use Rattle.roopl_semantics.specs.Execution.{exec, order_of_cells, is_of_class, all_zero, freed}
-use Rattle.meaning_sound.specs.Plain.{PlaceHasWords}
-use Rattle.meaning_sound.specs.Sound.{head_of, head_named, head_fits, named_fits, fits, cell_kinds, cell_kind}
-use Rattle.meaning_sound.proofs.Cells.{read_fits}
-use Rattle.meaning_sound.proofs.Classes.{KnowsClasses}
-use Rattle.meaning_sound.proofs.Makes.{NewClass, new_class, no_int_takes, class_is_inside, zeros_fit, zeros_hold_none}
-use Rattle.meaning_sound.proofs.Stores.{live_object, differs}
-use Rattle.meaning_inverse.proofs.Heap.{zeros_are_zero}
-use Rattle.meaning_inverse.proofs.Making.{MakeParts, make_parts, made_place, made_apart, gone_place, gone_apart}
-use Rattle.meaning_inverse.proofs.Steady.{avoids_of}
-use Rattle.refine_form.specs.Form.{Scope, StmtLaw}
-use Rattle.refine_form.specs.Frames.{Under}
-use Rattle.refine_form.specs.Stands.{shape_of, extra, Reads, Stands}
-use Rattle.refine_form.specs.Worlds.{Place, world_of, rates_of}
-use Rattle.refine_form.specs.declared.spot.Spot.{Spot}
-use Rattle.expr_uncompute.specs.Code.{place_words}
-use Rattle.register_expressions.specs.Laws.{bases_of}
-use Rattle.expr_uncompute.specs.Means.{cell_address, MeansPlace, TellsShares, SameCells}
-use Rattle.register_expressions.specs.Number.{read_of, index_of}
-use Rattle.expr_uncompute.specs.Promises.{free_at, CanRun}
-use Rattle.refine_calls.specs.Laws.{IsLinked}
-use Rattle.refine_calls.proofs.Bridge.{typed, reads_of}
-use Rattle.refine_calls.proofs.FactsFit.{known as classes_known}
-use Rattle.refine_calls.proofs.MovesFit.{frame_address}
+use Rattle.object_codegen.specs.rpp_tree.declared.limits.TheConstants.{MOST_FIELDS}
+use Rattle.object_codegen.specs.code_conventions.declared.memory.TheConstants.{HEADER_WORDS}
+use Rattle.object_codegen.specs.rpp_tree.declared.tree.Ident.{Ident}
+use Rattle.object_codegen.specs.rpp_tree.declared.tree.Var.{Var}
+use Rattle.object_codegen.specs.rpp_tree.declared.tree.VarType.{VarType}
+use Rattle.object_codegen.specs.rpp_tree.declared.tree.VarType.TheVariants as type
+use Rattle.object_codegen.specs.rpp_tree.Tree.{Null, Lvalue, Object as AnObject, New, Delete, Source}
+use Rattle.object_codegen.specs.class_table.declared.kind.Kind.{Kind}
+use Rattle.object_codegen.specs.class_table.declared.kind.Kind.TheVariants as kind
+use Rattle.object_codegen.specs.class_table.Classes.{class_number, class_fields}
+use Rattle.object_codegen.specs.class_table.Expressions.{is_int}
+use Rattle.object_codegen.specs.class_table.Inheritance.{kind_of_var}
+use Rattle.object_codegen.specs.class_table.Statements.{passed, make_rules}
+use Rattle.object_codegen.specs.class_table.Table.{table_of}
+use Rattle.object_codegen.specs.buddy_book.Book.{order_for}
+use Rattle.object_codegen.specs.buddy_pisa.Promise.{most_steps}
+use Rattle.object_codegen.specs.pisa_isa.Machine.{Memory}
+use Rattle.object_codegen.specs.pisa_isa.declared.image.TheConstants.{MOST_STATICS}
+use Rattle.object_codegen.specs.paired_code.declared.part.Symbol.{Symbol}
+use Rattle.object_codegen.specs.paired_code.Layout.{mirror_cells}
+use Rattle.object_codegen.specs.roopl_semantics.Layout.{table_at, head_word}
+use Rattle.object_codegen.specs.roopl_semantics.Store.{Nil, Name, Head, OfClass, OfInts, OfObjects, State, object_at}
+use Rattle.object_codegen.specs.roopl_semantics.Store.{is_zero}
+use Rattle.object_codegen.specs.roopl_semantics.Store.{zero_value, zero_values}
+use Rattle.object_codegen.specs.roopl_semantics.Value.{Cell, read, cell_of}
+use Rattle.object_codegen.specs.roopl_semantics.Elements.{index_elements, own_element, share_array}
+use Rattle.object_codegen.specs.roopl_semantics.Execution.{exec, order_of_cells, is_of_class, all_zero, freed}
+use Rattle.object_codegen.specs.meaning_sound.Plain.{PlaceHasWords}
+use Rattle.object_codegen.specs.meaning_sound.Sound.{head_of, head_named, head_fits, named_fits, fits, cell_kinds}
+use Rattle.object_codegen.specs.meaning_sound.Sound.{cell_kind}
+use Rattle.object_codegen.proofs.meaning_sound_laws.Cells.{read_fits}
+use Rattle.object_codegen.proofs.meaning_sound_laws.Classes.{KnowsClasses}
+use Rattle.object_codegen.proofs.meaning_sound_laws.Makes.{NewClass, new_class, no_int_takes, class_is_inside}
+use Rattle.object_codegen.proofs.meaning_sound_laws.Makes.{zeros_fit, zeros_hold_none}
+use Rattle.object_codegen.proofs.meaning_sound_laws.Stores.{live_object, differs}
+use Rattle.refine_expressions.proofs.meaning_inverse_laws.Heap.{zeros_are_zero}
+use Rattle.refine_expressions.proofs.meaning_inverse_laws.Making.{MakeParts, make_parts, made_place, made_apart}
+use Rattle.refine_expressions.proofs.meaning_inverse_laws.Making.{gone_place, gone_apart}
+use Rattle.refine_expressions.proofs.meaning_inverse_laws.Steady.{avoids_of}
+use Rattle.object_codegen.specs.refine_form.Form.{Scope, StmtLaw}
+use Rattle.object_codegen.specs.refine_form.Frames.{Under}
+use Rattle.object_codegen.specs.refine_form.Stands.{shape_of, extra, Reads, Stands}
+use Rattle.object_codegen.specs.refine_form.Worlds.{Place, world_of, rates_of}
+use Rattle.object_codegen.specs.refine_form.declared.spot.Spot.{Spot}
+use Rattle.object_codegen.specs.expr_uncompute.Code.{place_words}
+use Rattle.object_codegen.specs.register_expressions.Laws.{bases_of}
+use Rattle.object_codegen.specs.expr_uncompute.Means.{cell_address, MeansPlace, TellsShares, SameCells}
+use Rattle.object_codegen.specs.register_expressions.Number.{read_of, index_of}
+use Rattle.object_codegen.specs.expr_uncompute.Promises.{free_at, CanRun}
+use Rattle.refine_expressions.specs.refine_calls.Laws.{IsLinked}
+use Rattle.refine_expressions.proofs.refine_calls_laws.Bridge.{typed, reads_of}
+use Rattle.refine_expressions.proofs.refine_calls_laws.FactsFit.{known as classes_known}
+use Rattle.refine_expressions.proofs.refine_calls_laws.MovesFit.{frame_address}
 use Rattle.refine_expressions.specs.Typing.{HasRoom, IsPassed, typing_in, spot_in, free_in}
 use Rattle.refine_expressions.proofs.ArraysTold.{tells_shares, index_typed}
 use Rattle.refine_expressions.proofs.ExpressionsRead.{means_place, sees_place}
@@ -67,7 +71,7 @@ use Rattle.object_codegen.proofs.MakeFacts.{made, fresh_cells, same_class, is_fu
 use Rattle.object_codegen.proofs.MakeFacts.{ObjectFacts, TakesBlock, GivesBlock}
 use Rattle.object_codegen.proofs.ObjectRows as rows
 use Rattle.refine_objects.proofs.CountPlaces.{refers}
-use Rattle.static_layout.proofs.Counted.{fields_few}
+use Rattle.object_codegen.proofs.static_layout_laws.Counted.{fields_few}
 use Rattle.refine_objects.proofs.Tables.{tables_apart, table_small}
 use Rattle.refine_objects.proofs.GoodFrames.{good, context}
 use Rattle.refine_objects.proofs.BlocksFit as blocks
@@ -102,9 +106,6 @@ module _ (p : Place) (routine : ℕ → Ident → ℕ) (linked : IsLinked p rout
 
     parts : MakeParts (typing_in P s) (shape_of P s) (AnObject class) target
     parts = make_parts (typing_in P s) (shape_of P s) here (AnObject class) target rules
-
-    abbrev k : Kind
-    k = parts.type
 
     own : NewClass P class parts.type
     own = new_class P class parts.type parts.takes_it
@@ -147,9 +148,6 @@ module _ (p : Place) (routine : ℕ → Ident → ℕ) (linked : IsLinked p rout
     order_small : order_for (HEADER_WORDS + fields_of P class) < 2 ^ 32
     order_small = blocks.order_word (HEADER_WORDS + fields_of P class)
 
-    abbrev fresh : List Value
-    fresh = fresh_cells p.setting class
-
     fresh_long : length (fresh_cells p.setting class) ≡ fields_of P class
     fresh_long = length-map (class_fields P (class_of P class)) (λ (var : Var). zero_value var.kind)
 
@@ -176,13 +174,16 @@ module _ (p : Place) (routine : ℕ → Ident → ℕ) (linked : IsLinked p rout
         by (OfObjects c l) q = absurd (cc)
 
     -- and one of another class has another table
-    of_other : (kd : Kind) (head : Head) → Rattle.class_table.specs.Statements.takes (table_of P) (AnObject class) kd
+    of_other : (kd : Kind) (head : Head) → Rattle.object_codegen.specs.class_table.Statements.takes (table_of P)
+        (AnObject class) kd
         ≡ true → head_fits P kd head ≡ true → is_of_class head (class_number P class.text) ≡ false
         → head_word P head ≢ table_at P (class_of P class)
-    of_other kd head takes_it fit e = by (Rattle.class_table.specs.Table.class_of (table_of P) class.text) kd head
+    of_other kd head takes_it fit e = by (Rattle.object_codegen.specs.class_table.Table.class_of (table_of P)
+        class.text) kd head
         takes_it fit (sym (ap (is_of_class head) named_number) ∙ e)
       where
-        by : (o : Option ℕ) (kd : Kind) (head : Head) → Rattle.class_table.specs.Statements.takes_object_of (table_of P)
+        by : (o : Option ℕ) (kd : Kind) (head : Head) →
+            Rattle.object_codegen.specs.class_table.Statements.takes_object_of (table_of P)
             o
             kd ≡ true → head_fits P kd head ≡ true → is_of_class head (Some (class_of P class)) ≡ false
             → head_word P head ≢ table_at P (class_of P class)

@@ -5,13 +5,13 @@ use Rattle.std.proofs.lemmas.Bool.{cases_lt, eqb-true, eqb-false}
 use Rattle.std.proofs.lemmas.List.{ext_get_or, get_or-set_same, get_or-set_other, get_or_append_left}
 use Rattle.std.proofs.lemmas.List.{get_or-append_right, get_or-replicate}
 use Rattle.std.specs.Prelude.{nat_eq, ◌&&◌, slice_index, slice_set}
-use Rattle.code_conventions.specs.declared.memory.TheConstants.{HEADER_WORDS, COUNT_WORD}
-use Rattle.roopl_semantics.specs.Store.{Value, Word, Nil, Name, is_zero}
-use Rattle.roopl_semantics.specs.Execution.{all_zero}
-use Rattle.roopl_semantics.specs.Layout.{overlaid, word_of}
-use Rattle.meaning_sound.proofs.Overlays.{length_overlaid, index_inside, index_outside}
-use Rattle.code_conventions.specs.Header.{header}
-use Rattle.refine_calls.proofs.StaticsWords.{header_is}
+use Rattle.object_codegen.specs.code_conventions.declared.memory.TheConstants.{HEADER_WORDS, COUNT_WORD}
+use Rattle.object_codegen.specs.roopl_semantics.Store.{Value, Word, Nil, Name, is_zero}
+use Rattle.object_codegen.specs.roopl_semantics.Execution.{all_zero}
+use Rattle.object_codegen.specs.roopl_semantics.Layout.{overlaid, word_of}
+use Rattle.object_codegen.proofs.meaning_sound_laws.Overlays.{length_overlaid, index_inside, index_outside}
+use Rattle.object_codegen.specs.code_conventions.Header.{header}
+use Rattle.refine_expressions.proofs.refine_calls_laws.StaticsWords.{header_is}
 
 -- zeros have words of 0
 pub zeros_words : (base : ℕ) (blocks : List (ℕ × ℕ)) (vs : List Value) → all_zero vs ≡ true → (i : ℕ)

@@ -1,15 +1,15 @@
--- Where blocks stand is told by the requests alone.
+-- Only the requests determine where blocks are.
 use Rattle.std.proofs.Common.{◌≡◌, ◌≢◌, ◌∙◌, sym, ap, subst, ℕ, true, List, [], ◌∷◌, ◌++◌, map, length, Some}
-use Rattle.buddy_book.specs.Place.{Log, Placing, block_of, place}
-use Rattle.buddy_book.specs.Shown.{order_in, IsKept}
-use Rattle.roopl_semantics.specs.Store.{Value, Head, Store, State, main_name}
-use Rattle.roopl_semantics.specs.Value.{Cell, written}
-use Rattle.meaning_sound.proofs.Writes.{written_log}
-use Rattle.refine_form.specs.Form.{Scope}
-use Rattle.refine_form.specs.Frames.{Under}
-use Rattle.refine_form.specs.Stands.{Reads}
-use Rattle.roopl_semantics.specs.Execution.{Setting, order_of_cells}
-use Rattle.meaning_sound.specs.Sound.{head_named, is_live, cell_kinds, entry_name, IsPlaced}
+use Rattle.object_codegen.specs.buddy_book.Place.{Log, Placing, block_of, place}
+use Rattle.object_codegen.specs.buddy_book.Shown.{order_in, IsKept}
+use Rattle.object_codegen.specs.roopl_semantics.Store.{Value, Head, Store, State, main_name}
+use Rattle.object_codegen.specs.roopl_semantics.Value.{Cell, written}
+use Rattle.object_codegen.proofs.meaning_sound_laws.Writes.{written_log}
+use Rattle.object_codegen.specs.refine_form.Form.{Scope}
+use Rattle.object_codegen.specs.refine_form.Frames.{Under}
+use Rattle.object_codegen.specs.refine_form.Stands.{Reads}
+use Rattle.object_codegen.specs.roopl_semantics.Execution.{Setting, order_of_cells}
+use Rattle.object_codegen.specs.meaning_sound.Sound.{head_named, is_live, cell_kinds, entry_name, IsPlaced}
 
 module _ (setting : Setting) (store : Store) (log : Log) (p : IsPlaced setting store log) (at : Placing)
     (placed : place setting.limits.heap log ≡ Some at) where

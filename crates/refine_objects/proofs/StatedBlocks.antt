@@ -1,6 +1,6 @@
 -- The laws in the form of their statements.
-use Rattle.refine_frame.proofs.Tells.{cells_small}
-use Rattle.refine_form.specs.Stands.{setup}
+use Rattle.object_codegen.proofs.refine_frame_laws.Tells.{cells_small}
+use Rattle.object_codegen.specs.refine_form.Stands.{setup}
 use Rattle.refine_objects.specs.OpenLaws.{NewsAreOpen, DeletesAreOpen}
 use Rattle.refine_objects.proofs.MadeFrames as made
 use Rattle.refine_objects.proofs.FreedFrames as gone

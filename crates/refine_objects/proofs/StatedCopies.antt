@@ -1,5 +1,5 @@
 -- The laws in the form of their statements.
-use Rattle.refine_calls.proofs.FactsFit.{known}
+use Rattle.refine_expressions.proofs.refine_calls_laws.FactsFit.{known}
 use Rattle.refine_objects.specs.CopyLaws.{CopiesAreTold, UncopiesAreTold}
 use Rattle.refine_objects.proofs.CopiesFit.{copy_fits, uncopy_fits}
 

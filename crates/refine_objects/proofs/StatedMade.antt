@@ -1,13 +1,13 @@
 -- The laws in the form of their statements, by what is made.
 use Rattle.std.specs.Prelude.{ℕ, List}
-use Rattle.rpp_tree.specs.declared.tree.Ident.{Ident}
-use Rattle.rpp_tree.specs.Tree.{Lvalue, Creation, Object as AnObject, Ints, Objects, New, Delete}
-use Rattle.paired_code.specs.declared.part.Symbol.{Symbol}
-use Rattle.paired_code.specs.Layout.{mirror_cells}
+use Rattle.object_codegen.specs.rpp_tree.declared.tree.Ident.{Ident}
+use Rattle.object_codegen.specs.rpp_tree.Tree.{Lvalue, Creation, Object as AnObject, Ints, Objects, New, Delete}
+use Rattle.object_codegen.specs.paired_code.declared.part.Symbol.{Symbol}
+use Rattle.object_codegen.specs.paired_code.Layout.{mirror_cells}
 use Rattle.object_codegen.specs.Creations.{NewLaw, creation_words}
-use Rattle.refine_form.specs.Form.{Scope, StmtLaw}
-use Rattle.refine_form.specs.Worlds.{Place, world_of}
-use Rattle.refine_calls.specs.Laws.{IsLinked}
+use Rattle.object_codegen.specs.refine_form.Form.{Scope, StmtLaw}
+use Rattle.object_codegen.specs.refine_form.Worlds.{Place, world_of}
+use Rattle.refine_expressions.specs.refine_calls.Laws.{IsLinked}
 use Rattle.refine_expressions.specs.Typing.{IsPassed, spot_in, free_in}
 use Rattle.refine_objects.specs.MadeLaws.{NewsAreTold, DeletesAreTold}
 use Rattle.refine_objects.proofs.ArraysFit.{new_ints_fits, delete_ints_fits, new_objects_fits, delete_objects_fits}

@@ -4,14 +4,14 @@ use Rattle.std.proofs.Common.{◌∷◌, length, Option, Some, None, refl, slice
 use Rattle.std.proofs.Common.{⊎_elim}
 use Rattle.std.proofs.lemmas.Bool.{cases_lt}
 use Rattle.std.proofs.lemmas.List.{length-replicate}
-use Rattle.code_conventions.specs.declared.memory.TheConstants.{HEADER_WORDS}
-use Rattle.rpp_tree.specs.Tree.{Source}
-use Rattle.roopl_semantics.specs.Source.{main_fields}
-use Rattle.roopl_semantics.specs.Layout.{HasStatics, table_at, main_statics, tables}
-use Rattle.pisa_isa.specs.Image.{Segments}
-use Rattle.pisa_isa.specs.declared.image.TheConstants.{MOST_STATICS}
-use Rattle.refine_frame.proofs.TableWords.{table_offset, table_place, tables_ascend}
-use Rattle.refine_calls.proofs.StaticsWords.{offset_low}
+use Rattle.object_codegen.specs.code_conventions.declared.memory.TheConstants.{HEADER_WORDS}
+use Rattle.object_codegen.specs.rpp_tree.Tree.{Source}
+use Rattle.object_codegen.specs.roopl_semantics.Source.{main_fields}
+use Rattle.object_codegen.specs.roopl_semantics.Layout.{HasStatics, table_at, main_statics, tables}
+use Rattle.object_codegen.specs.pisa_isa.Image.{Segments}
+use Rattle.object_codegen.specs.pisa_isa.declared.image.TheConstants.{MOST_STATICS}
+use Rattle.object_codegen.proofs.refine_frame_laws.TableWords.{table_offset, table_place, tables_ascend}
+use Rattle.refine_expressions.proofs.refine_calls_laws.StaticsWords.{offset_low}
 
 -- two classes have two tables
 pub tables_apart : (program : Source) (c d : ℕ) → c ≢ d → table_at program c ≢ table_at program d

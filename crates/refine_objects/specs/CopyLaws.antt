@@ -1,13 +1,13 @@
--- The code of copies, by what it does with words, has its laws over open frames.
+-- The code of copies, by what it does with words, has its laws over current frames.
 use Rattle.std.specs.Prelude.{ℕ, ◌+◌, List}
-use Rattle.rpp_tree.specs.declared.tree.VarType.{VarType}
-use Rattle.rpp_tree.specs.Tree.{Lvalue, Copy, Uncopy}
-use Rattle.paired_code.specs.declared.part.Symbol.{Symbol}
-use Rattle.paired_code.specs.Layout.{mirror_cells}
-use Rattle.expr_uncompute.specs.Code.{place_words}
+use Rattle.object_codegen.specs.rpp_tree.declared.tree.VarType.{VarType}
+use Rattle.object_codegen.specs.rpp_tree.Tree.{Lvalue, Copy, Uncopy}
+use Rattle.object_codegen.specs.paired_code.declared.part.Symbol.{Symbol}
+use Rattle.object_codegen.specs.paired_code.Layout.{mirror_cells}
+use Rattle.object_codegen.specs.expr_uncompute.Code.{place_words}
 use Rattle.object_codegen.specs.Promises.{CopyLaw}
-use Rattle.refine_form.specs.Form.{Scope, StmtLaw}
-use Rattle.refine_form.specs.Worlds.{Place, world_of}
+use Rattle.object_codegen.specs.refine_form.Form.{Scope, StmtLaw}
+use Rattle.object_codegen.specs.refine_form.Worlds.{Place, world_of}
 use Rattle.refine_expressions.specs.Typing.{IsPassed, spot_in, free_in}
 use Rattle.refine_expressions.specs.Laws.{IsLaidOut}
 
@@ -22,7 +22,7 @@ CopiesAreTold =
     → CopyLaw (spot_in place.setting.program s) (free_in place.setting.program s) source target p
     → StmtLaw (world_of place) s (Copy at kind source target) p
 
--- and its mirror that of an uncopy, back what the source says of its inverse
+-- and its inverse that of an uncopy, back what the source says of its inverse
 abbrev pub UncopiesAreTold : Type 0
 UncopiesAreTold =
     (place : Place) → IsLaidOut place → (s : Scope) (at : ℕ) (kind : VarType)

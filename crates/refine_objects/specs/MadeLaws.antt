@@ -1,13 +1,13 @@
--- The code of new objects and arrays, by what it does with words, has its laws over open frames.
+-- The code of new objects and arrays, by what it does with words, has its laws over current frames.
 use Rattle.std.specs.Prelude.{ℕ, List}
-use Rattle.rpp_tree.specs.declared.tree.Ident.{Ident}
-use Rattle.rpp_tree.specs.Tree.{Lvalue, Creation, New, Delete}
-use Rattle.paired_code.specs.declared.part.Symbol.{Symbol}
-use Rattle.paired_code.specs.Layout.{mirror_cells}
+use Rattle.object_codegen.specs.rpp_tree.declared.tree.Ident.{Ident}
+use Rattle.object_codegen.specs.rpp_tree.Tree.{Lvalue, Creation, New, Delete}
+use Rattle.object_codegen.specs.paired_code.declared.part.Symbol.{Symbol}
+use Rattle.object_codegen.specs.paired_code.Layout.{mirror_cells}
 use Rattle.object_codegen.specs.Creations.{NewLaw, creation_words}
-use Rattle.refine_form.specs.Form.{Scope, StmtLaw}
-use Rattle.refine_form.specs.Worlds.{Place, world_of}
-use Rattle.refine_calls.specs.Laws.{IsLinked}
+use Rattle.object_codegen.specs.refine_form.Form.{Scope, StmtLaw}
+use Rattle.object_codegen.specs.refine_form.Worlds.{Place, world_of}
+use Rattle.refine_expressions.specs.refine_calls.Laws.{IsLinked}
 use Rattle.refine_expressions.specs.Typing.{IsPassed, spot_in, free_in}
 
 -- code of a `new` does what the source says of the statement, back what it says of its inverse
@@ -21,7 +21,7 @@ NewsAreTold =
     (free_in place.setting.program s) made target p
     → StmtLaw (world_of place) s (New at made target) p
 
--- and its mirror that of a `delete`, back what the source says of its inverse
+-- and its inverse that of a `delete`, back what the source says of its inverse
 abbrev pub DeletesAreTold : Type 0
 DeletesAreTold =
     (place : Place) (routine : ℕ → Ident → ℕ) → IsLinked place routine

@@ -1,25 +1,25 @@
--- An open frame before and after an object or array is made, or given back: the cells, and the
+-- A current frame before and after an object or array is made, or given back: the cells, and the
 -- relation.
 use Rattle.std.specs.Prelude.{◌≡◌, ℕ, ◌+◌, ◌*◌, ◌^◌, ◌<◌, ◌≤◌, true, false, ◌||◌, nat_lt, is_none}
 use Rattle.std.specs.Prelude.{List, [], ◌∷◌, length, Some}
-use Rattle.class_table.specs.declared.kind.Kind.{Kind}
-use Rattle.class_table.specs.Expressions.{is_int}
-use Rattle.buddy_book.specs.Place.{Taken, Log, count_taken, place}
-use Rattle.roopl_semantics.specs.Store.{Value, Nil, Name, Head, Store, State, object_at}
-use Rattle.roopl_semantics.specs.Value.{Cell, read, written}
-use Rattle.roopl_semantics.specs.Execution.{Setting, new_object, order_of_cells, all_zero, freed}
-use Rattle.roopl_semantics.specs.Laws.{holders_among}
-use Rattle.roopl_semantics.specs.Layout.{head_word}
-use Rattle.meaning_sound.specs.Sound.{head_fits, cell_kinds, cell_kind, AllFit}
-use Rattle.refine_form.specs.Form.{Scope}
-use Rattle.refine_form.specs.Frames.{Under, stack_base}
-use Rattle.refine_form.specs.Stands.{shape_of, HasElements, Stands}
+use Rattle.object_codegen.specs.class_table.declared.kind.Kind.{Kind}
+use Rattle.object_codegen.specs.class_table.Expressions.{is_int}
+use Rattle.object_codegen.specs.buddy_book.Place.{Taken, Log, count_taken, place}
+use Rattle.object_codegen.specs.roopl_semantics.Store.{Value, Nil, Name, Head, Store, State, object_at}
+use Rattle.object_codegen.specs.roopl_semantics.Value.{Cell, read, written}
+use Rattle.object_codegen.specs.roopl_semantics.Execution.{Setting, new_object, order_of_cells, all_zero, freed}
+use Rattle.object_codegen.specs.roopl_semantics.Laws.{holders_among}
+use Rattle.object_codegen.specs.roopl_semantics.Layout.{head_word}
+use Rattle.object_codegen.specs.meaning_sound.Sound.{head_fits, cell_kinds, cell_kind, AllFit}
+use Rattle.object_codegen.specs.refine_form.Form.{Scope}
+use Rattle.object_codegen.specs.refine_form.Frames.{Under, stack_base}
+use Rattle.object_codegen.specs.refine_form.Stands.{shape_of, HasElements, Stands}
 use Rattle.object_codegen.specs.News.{Takes, filled}
-use Rattle.rpp_words.specs.declared.input.TheConstants.{FRAME_WORDS}
-use Rattle.code_conventions.specs.declared.memory.TheConstants.{FIRST_VARIABLE}
-use Rattle.pisa_isa.specs.declared.image.TheConstants.{MOST_STATICS}
+use Rattle.object_codegen.specs.rpp_words.declared.input.TheConstants.{FRAME_WORDS}
+use Rattle.object_codegen.specs.code_conventions.declared.memory.TheConstants.{FIRST_VARIABLE}
+use Rattle.object_codegen.specs.pisa_isa.declared.image.TheConstants.{MOST_STATICS}
 
--- the first word behind the variables of the open frame
+-- the first word after the variables of the current frame
 abbrev pub behind : Setting → List ℕ → Under → Scope → ℕ
 behind setting statics u s =
     stack_base setting statics + FRAME_WORDS * length u.callers + (FIRST_VARIABLE + length s.vars)
@@ -49,7 +49,7 @@ pub record IsMade (setting : Setting) (statics : List ℕ) (s : Scope) (u : Unde
   pub after : Stands setting statics s u [] (with_new setting head values cell st)
       (filled at block (head_word setting.program head) taken)
 
--- so it is with each that has the type of a nil cell, where the heap has a block
+-- so it is with each that has the type of a nil cell, if the heap has a block
 abbrev pub NewsAreOpen : Type 0
 NewsAreOpen =
     (setting : Setting) (statics : List ℕ) → length statics ≤ MOST_STATICS

@@ -1,12 +1,13 @@
-// What code of copies does over open frames, each law the contract of a function.
+// What code of copies does over current frames, each law the contract of a function.
 ghost use Rattle.refine_objects.specs.CopyLaws.{CopiesAreTold, UncopiesAreTold};
 
-/// The code of a copy does what the source says of it, along and back, of objects and of arrays.
+/// The code of a copy does what the source says of it, in both directions, of objects and of
+/// arrays.
 pub fn copies_are_told()
     ensures { CopiesAreTold }
 {}
 
-/// The mirror of the code of a copy does what the source says of an uncopy, along and back.
+/// The inverse of the code of a copy does what the source says of an uncopy, in both directions.
 pub fn uncopies_are_told()
     ensures { UncopiesAreTold }
 {}

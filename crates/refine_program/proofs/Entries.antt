@@ -1,16 +1,16 @@
--- Where a method stands among all of a program, and how the code of all is made one by one.
+-- The number of a method among all of a program, and how the code of all is made one by one.
 use Rattle.std.proofs.Common.{◌≡◌, ℕ, zero, suc, ◌+◌, ◌<◌, List, [], ◌∷◌, ◌++◌, length, Some, refl, sym, ap, ◌∙◌, subst}
 use Rattle.std.proofs.Common.{arith, length-append, append-nil, append_assoc}
 use Rattle.std.proofs.lemmas.Option.{slice_get_within}
 use Rattle.std.specs.Prelude.{slice_get}
 use Rattle.std.specs.Option.{unwrap_or}
-use Rattle.rpp_tree.specs.declared.tree.Ident.{Ident}
-use Rattle.rpp_tree.specs.Tree.{Procedure, ClassText, Source}
-use Rattle.class_table.specs.Members.{no_class}
-use Rattle.class_table.specs.Classes.{method_named}
-use Rattle.class_table.specs.Inheritance.{is_or_inherits}
-use Rattle.class_table.proofs.FoundMethods.{Dispatched, dispatched_method, own_range}
-use Rattle.paired_code.specs.declared.part.Symbol.{Symbol}
+use Rattle.refine_calls.specs.rpp_tree.declared.tree.Ident.{Ident}
+use Rattle.refine_calls.specs.rpp_tree.Tree.{Procedure, ClassText, Source}
+use Rattle.refine_calls.specs.class_table.Members.{no_class}
+use Rattle.refine_calls.specs.class_table.Classes.{method_named}
+use Rattle.refine_calls.specs.class_table.Inheritance.{is_or_inherits}
+use Rattle.refine_calls.proofs.class_table_laws.FoundMethods.{Dispatched, dispatched_method, own_range}
+use Rattle.refine_calls.specs.paired_code.declared.part.Symbol.{Symbol}
 use Rattle.refine_program.specs.Methods.{Entry, entries_of, entries_from, entries, entry_at, methods_before, routine_of}
 use Rattle.refine_program.specs.Methods.{routine_in}
 use Rattle.refine_program.specs.Laws.{MethodsHaveRoutines, FindsRoutine, CallsFindRoutines, IsRoutineCode}

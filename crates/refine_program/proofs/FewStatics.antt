@@ -2,15 +2,15 @@
 use Rattle.std.proofs.Common.{◌≡◌, ℕ, zero, suc, ◌+◌, ◌*◌, ◌<◌, ◌≤◌, Bool, true, false, List, [], ◌∷◌, ◌++◌, length}
 use Rattle.std.proofs.Common.{Option, Some, None, refl, sym, ap, ◌∙◌, arith, length-append, nat_lt, slice_get}
 use Rattle.std.proofs.lemmas.List.{length-map, length-replicate}
-use Rattle.code_conventions.specs.declared.memory.TheConstants.{HEADER_WORDS, TABLE_HEADER}
-use Rattle.rpp_tree.specs.Tree.{Source}
-use Rattle.rpp_tree.specs.declared.limits.TheConstants.{MOST_FIELDS, MOST_METHODS}
-use Rattle.class_table.specs.First.{each_below}
-use Rattle.class_table.specs.Classes.{class_slots, main_of}
-use Rattle.class_table.specs.Program.{IsAccepted}
-use Rattle.roopl_semantics.specs.Source.{main_fields}
-use Rattle.roopl_semantics.specs.Layout.{main_statics, tables}
-use Rattle.roopl_semantics.proofs.MainPlace.{class_inside}
+use Rattle.refine_calls.specs.code_conventions.declared.memory.TheConstants.{HEADER_WORDS, TABLE_HEADER}
+use Rattle.refine_calls.specs.rpp_tree.Tree.{Source}
+use Rattle.refine_calls.specs.rpp_tree.declared.limits.TheConstants.{MOST_FIELDS, MOST_METHODS}
+use Rattle.refine_calls.specs.class_table.First.{each_below}
+use Rattle.refine_calls.specs.class_table.Classes.{class_slots, main_of}
+use Rattle.refine_calls.specs.class_table.Program.{IsAccepted}
+use Rattle.static_layout.specs.roopl_semantics.Source.{main_fields}
+use Rattle.static_layout.specs.roopl_semantics.Layout.{main_statics, tables}
+use Rattle.static_layout.proofs.roopl_semantics_laws.MainPlace.{class_inside}
 use Rattle.static_layout.proofs.Counted.{fields_few, slots_few}
 use Rattle.refine_program.specs.Methods.{slot_places, table_places}
 use Rattle.refine_program.specs.Laws.{StaticsAreFew}

@@ -1,33 +1,33 @@
--- The place of a linked image is that of its program, its routines owe nothing, and so it follows
--- the program.
+-- The code address of a linked image is that of its program, there are no assumptions about its
+-- routines, and so it follows the program.
 use Rattle.std.proofs.Common.{◌≡◌, ℕ, suc, ◌+◌, ◌<◌, ◌≤◌, ◌^◌, true, List, [], ◌∷◌, length, Some, refl, sym, ap, ◌∙◌}
 use Rattle.std.proofs.Common.{subst, arith}
 use Rattle.std.specs.Prelude.{slice_get, slice_index}
 use Rattle.std.specs.Option.{unwrap_or}
-use Rattle.rpp_words.specs.Limits.{IsLimits}
-use Rattle.rpp_words.specs.declared.input.FieldWord.{FieldWord}
-use Rattle.rpp_words.specs.declared.input.Limits.{Limits}
-use Rattle.rpp_tree.specs.declared.tree.Ident.{Ident}
-use Rattle.rpp_tree.specs.Tree.{Source}
-use Rattle.class_table.specs.Members.{no_procedure}
-use Rattle.class_table.specs.Classes.{class_slots, main_of}
-use Rattle.class_table.specs.Table.{table_of, slot_in}
-use Rattle.class_table.specs.Inheritance.{is_or_inherits}
-use Rattle.class_table.proofs.FoundMethods.{dispatched_method, own_range}
-use Rattle.class_table.proofs.Numbers.{each_below-get}
-use Rattle.meaning_sound.proofs.Starting.{main_there}
-use Rattle.pisa_isa.specs.Image.{Segments}
-use Rattle.pisa_isa.specs.declared.image.TheConstants.{MOST_STATICS}
-use Rattle.paired_code.specs.declared.part.Symbol.{Symbol}
-use Rattle.paired_code.specs.Machine.{Image}
-use Rattle.paired_code.specs.Layout.{Routine as RoutineAt}
-use Rattle.paired_code.specs.Link.{places, first_top, AllPlaced}
-use Rattle.roopl_semantics.specs.Layout.{HasStatics}
-use Rattle.roopl_semantics.specs.Source.{IsValid}
-use Rattle.roopl_semantics.specs.StandsFor.{StandsFor, Follows}
-use Rattle.refine_form.specs.Form.{Routines, AllMethods}
-use Rattle.refine_form.specs.Worlds.{Place, world_of}
-use Rattle.refine_form.proofs.Stated.{nothing_is_owed}
+use Rattle.refine_calls.specs.rpp_words.Limits.{IsLimits}
+use Rattle.refine_calls.specs.rpp_words.declared.input.FieldWord.{FieldWord}
+use Rattle.refine_calls.specs.rpp_words.declared.input.Limits.{Limits}
+use Rattle.refine_calls.specs.rpp_tree.declared.tree.Ident.{Ident}
+use Rattle.refine_calls.specs.rpp_tree.Tree.{Source}
+use Rattle.refine_calls.specs.class_table.Members.{no_procedure}
+use Rattle.refine_calls.specs.class_table.Classes.{class_slots, main_of}
+use Rattle.refine_calls.specs.class_table.Table.{table_of, slot_in}
+use Rattle.refine_calls.specs.class_table.Inheritance.{is_or_inherits}
+use Rattle.refine_calls.proofs.class_table_laws.FoundMethods.{dispatched_method, own_range}
+use Rattle.refine_calls.proofs.class_table_laws.Numbers.{each_below-get}
+use Rattle.refine_calls.proofs.meaning_sound_laws.Starting.{main_there}
+use Rattle.refine_calls.specs.pisa_isa.Image.{Segments}
+use Rattle.refine_calls.specs.pisa_isa.declared.image.TheConstants.{MOST_STATICS}
+use Rattle.refine_calls.specs.paired_code.declared.part.Symbol.{Symbol}
+use Rattle.refine_calls.specs.paired_code.Machine.{Image}
+use Rattle.refine_calls.specs.paired_code.Layout.{Routine as RoutineAt}
+use Rattle.refine_calls.specs.paired_code.Link.{places, first_top, AllPlaced}
+use Rattle.static_layout.specs.roopl_semantics.Layout.{HasStatics}
+use Rattle.static_layout.specs.roopl_semantics.Source.{IsValid}
+use Rattle.static_layout.specs.roopl_semantics.StandsFor.{StandsFor, Follows}
+use Rattle.refine_calls.specs.refine_form.Form.{Routines, AllMethods}
+use Rattle.refine_calls.specs.refine_form.Worlds.{Place, world_of}
+use Rattle.refine_calls.proofs.refine_form_laws.Stated.{nothing_is_owed}
 use Rattle.refine_calls.specs.Laws.{Route, IsLinked, OpensMain}
 use Rattle.refine_calls.proofs.Stated.{frames_are_open, main_is_open}
 use Rattle.refine_program.specs.Methods.{Entry, entries, routine_of, routine_in, main_routine, method_place}
@@ -48,7 +48,7 @@ module _ (program : Source) (main allocator : List Symbol) (bodies : List (List 
   abbrev all : List (List Symbol)
   all = allocator ∷ bodies
 
-  -- the allocator stands before the methods
+  -- the allocator comes before the methods
   abbrev before : ℕ
   before = 1
 
@@ -67,7 +67,7 @@ module _ (program : Source) (main allocator : List Symbol) (bodies : List (List 
   many : length all ≡ before + length (entries program)
   many = let m = as_many program (entries program) bodies is.codes in omega (arith, m)
 
-  -- each routine stands in the image
+  -- each routine is in the image
   placed : (r : ℕ) → r < length (entries program) → RoutineAt im (before + r) (top_of (first_top main) all (before + r))
       (unwrap_or (slice_get bodies r) [])
   placed r h =

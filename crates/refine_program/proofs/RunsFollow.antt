@@ -1,36 +1,36 @@
--- An image whose main piece does what the program says follows it.
+-- An image whose main fragment does what the program says follows it.
 use Rattle.std.proofs.Common.{◌≡◌, ◌≢◌, ℕ, zero, suc, ◌+◌, ◌-◌, ◌*◌, ◌<◌, ◌≤◌, List, length, Option, Some, None, refl}
 use Rattle.std.proofs.Common.{sym, ap, ◌∙◌, subst, arith}
 use Rattle.std.specs.Prelude.{pos, ◌^◌, false}
-use Rattle.rpp_words.specs.declared.input.FieldWord.{FieldWord}
-use Rattle.rpp_words.specs.declared.input.Limits.{Limits}
-use Rattle.rpp_tree.specs.Tree.{Source}
-use Rattle.pisa_isa.specs.declared.cell.Cell.{Cell}
-use Rattle.pisa_isa.specs.declared.machine.Stop.{Stop}
-use Rattle.pisa_isa.specs.declared.machine.Stop.TheVariants.{Finished, Returned, Trap, BadAddress, OffCode, Bound}
-use Rattle.pisa_isa.specs.Machine.{State as MachineState, fetch, stop, stop_at, next, Memory}
-use Rattle.pisa_isa.specs.Image.{Segments}
-use Rattle.pisa_isa.specs.Loaded.{loaded, loaded_state}
-use Rattle.pisa_isa.specs.Runs.{End, run, steps, unless_stop, after_step, at_bound}
-use Rattle.pisa_isa.specs.Ends.{MeetsEndsOnce}
-use Rattle.pisa_isa.proofs.Longer.{run-longer, clean_of_ends}
-use Rattle.paired_code.specs.declared.part.Symbol.{Symbol}
-use Rattle.paired_code.specs.Machine.{Image, state}
-use Rattle.paired_code.specs.Pieces.{Outcome, Done, Trapped, Bad, Still, Will}
-use Rattle.paired_code.specs.Link.{IsToldBy, Whole, Linked}
-use Rattle.paired_code.specs.Does.{Rates, Told, Fine, Fault, More, Meets, fine, faults, more}
-use Rattle.paired_code.proofs.Whole.{whole_will}
-use Rattle.roopl_semantics.specs.Run.{Run, Done as DoneRun, Fault as FaultRun, More as MoreRun}
-use Rattle.roopl_semantics.specs.Store.{State}
-use Rattle.roopl_semantics.specs.Execution.{Setting, exec}
-use Rattle.roopl_semantics.specs.Source.{main_body, starting, within, GivesDone, GivesFault}
-use Rattle.roopl_semantics.specs.Layout.{layout}
-use Rattle.roopl_semantics.specs.StandsFor.{Follows, run_of, IsFinalState, EndsAt, IsEnough, cost_of}
-use Rattle.roopl_semantics.proofs.MoreFuel.{within_done, within_fault, done_within, fault_within}
-use Rattle.roopl_semantics.proofs.CostBound.{exec_done_within, exec_fault_within}
-use Rattle.refine_form.specs.Form.{told}
-use Rattle.refine_form.specs.Worlds.{rates_of}
-use Rattle.method_calls.specs.Laws.{quiet}
+use Rattle.refine_calls.specs.rpp_words.declared.input.FieldWord.{FieldWord}
+use Rattle.refine_calls.specs.rpp_words.declared.input.Limits.{Limits}
+use Rattle.refine_calls.specs.rpp_tree.Tree.{Source}
+use Rattle.refine_calls.specs.pisa_isa.declared.cell.Cell.{Cell}
+use Rattle.refine_calls.specs.pisa_isa.declared.machine.Stop.{Stop}
+use Rattle.refine_calls.specs.pisa_isa.declared.machine.Stop.TheVariants.{Finished, Returned, Trap, BadAddress, OffCode, Bound}
+use Rattle.refine_calls.specs.pisa_isa.Machine.{State as MachineState, fetch, stop, stop_at, next, Memory}
+use Rattle.refine_calls.specs.pisa_isa.Image.{Segments}
+use Rattle.refine_calls.specs.pisa_isa.Loaded.{loaded, loaded_state}
+use Rattle.refine_calls.specs.pisa_isa.Runs.{End, run, steps, unless_stop, after_step, at_bound}
+use Rattle.refine_calls.specs.pisa_isa.Ends.{MeetsEndsOnce}
+use Rattle.refine_calls.proofs.pisa_isa_laws.Longer.{run-longer, clean_of_ends}
+use Rattle.refine_calls.specs.paired_code.declared.part.Symbol.{Symbol}
+use Rattle.refine_calls.specs.paired_code.Machine.{Image, state}
+use Rattle.refine_calls.specs.paired_code.Pieces.{Outcome, Done, Trapped, Bad, Still, Will}
+use Rattle.refine_calls.specs.paired_code.Link.{IsToldBy, Whole, Linked}
+use Rattle.refine_calls.specs.paired_code.Does.{Rates, Told, Fine, Fault, More, Meets, fine, faults, more}
+use Rattle.refine_calls.proofs.paired_code_laws.Whole.{whole_will}
+use Rattle.static_layout.specs.roopl_semantics.Run.{Run, Done as DoneRun, Fault as FaultRun, More as MoreRun}
+use Rattle.static_layout.specs.roopl_semantics.Store.{State}
+use Rattle.static_layout.specs.roopl_semantics.Execution.{Setting, exec}
+use Rattle.static_layout.specs.roopl_semantics.Source.{main_body, starting, within, GivesDone, GivesFault}
+use Rattle.static_layout.specs.roopl_semantics.Layout.{layout}
+use Rattle.static_layout.specs.roopl_semantics.StandsFor.{Follows, run_of, IsFinalState, EndsAt, IsEnough, cost_of}
+use Rattle.static_layout.proofs.roopl_semantics_laws.MoreFuel.{within_done, within_fault, done_within, fault_within}
+use Rattle.static_layout.proofs.roopl_semantics_laws.CostBound.{exec_done_within, exec_fault_within}
+use Rattle.refine_calls.specs.refine_form.Form.{told}
+use Rattle.refine_calls.specs.refine_form.Worlds.{rates_of}
+use Rattle.refine_calls.specs.method_calls.Laws.{quiet}
 
 -- ---- runs
 
@@ -114,7 +114,7 @@ module _ (program : Source) (image : Segments) (places : List ℕ) (main : List 
   abbrev first : Memory
   first = quiet (loaded image.statics limits input)
 
-  -- what main's piece leaves
+  -- what main's fragment leaves
   abbrev pub Final : State → Memory → Type 0
   Final end m = m ≡ quiet (layout program limits image.statics end.store end.log)
 

@@ -8,22 +8,22 @@ use Rattle.std.proofs.lemmas.Bool.{ltb-true, ltb-false}
 use Rattle.std.specs.Prelude.{slice_get, slice_index, Bool, true, false, nat_lt}
 use Rattle.std.specs.List.{All}
 use Rattle.std.specs.Option.{unwrap_or}
-use Rattle.rpp_tree.specs.Tree.{Source}
-use Rattle.class_table.specs.declared.method.MethodId.{MethodId}
-use Rattle.class_table.specs.First.{each_below}
-use Rattle.class_table.specs.Members.{Slots}
-use Rattle.class_table.specs.Overrides.{run_at}
-use Rattle.class_table.specs.Classes.{class_slots}
-use Rattle.pisa_isa.specs.declared.cell.Cell.{Cell}
-use Rattle.pisa_isa.specs.Machine.{fetch}
-use Rattle.pisa_isa.specs.Image.{Segments}
-use Rattle.paired_code.specs.Cells.{swapbr}
-use Rattle.paired_code.specs.declared.part.Symbol.{Symbol}
-use Rattle.paired_code.specs.Machine.{Image}
-use Rattle.paired_code.specs.Layout.{Routine}
-use Rattle.paired_code.specs.Link.{places, first_top, AllPlaced, Linked}
-use Rattle.paired_code.proofs.Call.{on_line}
-use Rattle.roopl_semantics.specs.Layout.{HasStatics}
+use Rattle.refine_calls.specs.rpp_tree.Tree.{Source}
+use Rattle.refine_calls.specs.class_table.declared.method.MethodId.{MethodId}
+use Rattle.refine_calls.specs.class_table.First.{each_below}
+use Rattle.refine_calls.specs.class_table.Members.{Slots}
+use Rattle.refine_calls.specs.class_table.Overrides.{run_at}
+use Rattle.refine_calls.specs.class_table.Classes.{class_slots}
+use Rattle.refine_calls.specs.pisa_isa.declared.cell.Cell.{Cell}
+use Rattle.refine_calls.specs.pisa_isa.Machine.{fetch}
+use Rattle.refine_calls.specs.pisa_isa.Image.{Segments}
+use Rattle.refine_calls.specs.paired_code.Cells.{swapbr}
+use Rattle.refine_calls.specs.paired_code.declared.part.Symbol.{Symbol}
+use Rattle.refine_calls.specs.paired_code.Machine.{Image}
+use Rattle.refine_calls.specs.paired_code.Layout.{Routine}
+use Rattle.refine_calls.specs.paired_code.Link.{places, first_top, AllPlaced, Linked}
+use Rattle.refine_calls.proofs.paired_code_laws.Call.{on_line}
+use Rattle.static_layout.specs.roopl_semantics.Layout.{HasStatics}
 use Rattle.refine_program.specs.Methods.{method_place, table_places, statics_of}
 
 -- ---- the routines of a linked image
@@ -54,7 +54,7 @@ stands_at im main routines linked r h =
     subst (λ k. Routine im k (top_of (first_top main) routines r) (body_at routines r)) e
     (placed_at im 0 (first_top main) routines linked.routines_there r h)
 
--- a routine behind others
+-- a routine after others
 pub body_behind : (others bodies : List (List Symbol)) (r : ℕ)
     → body_at (others ++ bodies) (length others + r) ≡ body_at bodies r
 body_behind [] bodies r = let e : 0 + r ≡ r = omega arith in ap (body_at bodies) e

@@ -1,28 +1,27 @@
--- An image that is linked of the code of `main` and a routine for each method stands for its
--- program,
--- and is one for which the laws of pieces hold, with routines that owe nothing.
+-- An image that is linked of the code of `main` and a routine for each method implements its
+-- program. The laws of fragments hold for it, without assumptions about its routines.
 use Rattle.std.specs.Prelude.{◌≡◌, ℕ, ◌+◌, ◌<◌, ◌≤◌, true, List, [], ◌∷◌, ◌++◌, length, slice_get}
 use Rattle.std.specs.Prelude.{Some, ◌*◌}
 use Rattle.std.specs.Option.{unwrap_or}
-use Rattle.rpp_words.specs.declared.input.Limits.{Limits}
-use Rattle.rpp_tree.specs.declared.tree.Ident.{Ident}
-use Rattle.rpp_tree.specs.Tree.{Procedure, Source}
-use Rattle.rpp_tree.specs.declared.limits.TheConstants.{MOST_CLASSES, MOST_FIELDS, MOST_METHODS}
-use Rattle.class_table.specs.declared.method.MethodId.{MethodId}
-use Rattle.class_table.specs.Members.{class_at}
-use Rattle.class_table.specs.Classes.{method_named}
-use Rattle.class_table.specs.Table.{table_of, slot_in}
-use Rattle.class_table.specs.Inheritance.{is_or_inherits}
-use Rattle.class_table.specs.Program.{IsAccepted}
-use Rattle.pisa_isa.specs.Image.{Segments}
-use Rattle.code_conventions.specs.declared.memory.TheConstants.{HEADER_WORDS, TABLE_HEADER}
-use Rattle.paired_code.specs.declared.part.Symbol.{Symbol}
-use Rattle.paired_code.specs.Link.{places, first_top, Linked}
-use Rattle.roopl_semantics.specs.StandsFor.{StandsFor}
-use Rattle.buddy_pisa.specs.Promise.{AllocatorLaw}
-use Rattle.refine_form.specs.Form.{Routines, MethodLaw, Owes}
-use Rattle.refine_form.specs.Worlds.{Place, world_of}
-use Rattle.method_calls.specs.Laws.{MainCode}
+use Rattle.refine_calls.specs.rpp_words.declared.input.Limits.{Limits}
+use Rattle.refine_calls.specs.rpp_tree.declared.tree.Ident.{Ident}
+use Rattle.refine_calls.specs.rpp_tree.Tree.{Procedure, Source}
+use Rattle.refine_calls.specs.rpp_tree.declared.limits.TheConstants.{MOST_CLASSES, MOST_FIELDS, MOST_METHODS}
+use Rattle.refine_calls.specs.class_table.declared.method.MethodId.{MethodId}
+use Rattle.refine_calls.specs.class_table.Members.{class_at}
+use Rattle.refine_calls.specs.class_table.Classes.{method_named}
+use Rattle.refine_calls.specs.class_table.Table.{table_of, slot_in}
+use Rattle.refine_calls.specs.class_table.Inheritance.{is_or_inherits}
+use Rattle.refine_calls.specs.class_table.Program.{IsAccepted}
+use Rattle.refine_calls.specs.pisa_isa.Image.{Segments}
+use Rattle.refine_calls.specs.code_conventions.declared.memory.TheConstants.{HEADER_WORDS, TABLE_HEADER}
+use Rattle.refine_calls.specs.paired_code.declared.part.Symbol.{Symbol}
+use Rattle.refine_calls.specs.paired_code.Link.{places, first_top, Linked}
+use Rattle.static_layout.specs.roopl_semantics.StandsFor.{StandsFor}
+use Rattle.refine_calls.specs.buddy_pisa.Promise.{AllocatorLaw}
+use Rattle.refine_calls.specs.refine_form.Form.{Routines, MethodLaw, Owes}
+use Rattle.refine_calls.specs.refine_form.Worlds.{Place, world_of}
+use Rattle.refine_calls.specs.method_calls.Laws.{MainCode}
 use Rattle.refine_calls.specs.Laws.{IsLinked}
 use Rattle.refine_program.specs.Methods.{Entry, entries, entry_at, scope_at, routine_of, routine_in}
 use Rattle.refine_program.specs.Methods.{main_routine, statics_of}
@@ -72,7 +71,7 @@ AreRoutineCodes program (entry ∷ methods) [] = ⊥
 AreRoutineCodes program (entry ∷ methods) (body ∷ bodies) =
     IsRoutineCode program entry body × AreRoutineCodes program methods bodies
 
--- the codes of the first methods of a program, where these are left
+-- the codes of the first methods of a program, if these are left
 pub record AreFirstCodes (program : Source) (bodies : List (List Symbol))
     (left : List Entry) : Type 0 where
   pub done : List Entry
@@ -109,7 +108,7 @@ pub record IsProgramImage
       (record { code = image.code; routines = places (first_top main) (allocator ∷ bodies) })
   pub statics : image.statics ≡ statics_of program 1 (places (first_top main) (allocator ∷ bodies))
 
--- it stands for the program
+-- it implements the program
 abbrev pub LinkedProgramsStand : Type 0
 LinkedProgramsStand =
     (program : Source) (main allocator : List Symbol) (bodies : List (List Symbol))
@@ -118,8 +117,8 @@ LinkedProgramsStand =
 
 -- ---- its place
 
--- the routines of the methods in the order of the text, with these bodies, whose tops stand there:
--- before them stands the routine of the allocator
+-- the routines of the methods in the order of the source, with these bodies, whose tops are there:
+-- the routine of the allocator comes before them
 abbrev pub method_routines : Source → (bodies : List (List Symbol)) → (tops : ℕ → ℕ) → Routines
 method_routines program bodies tops = record {
   count = length (entries program);
@@ -140,11 +139,10 @@ place_of program image starts bodies tops limits = record {
   routines = method_routines program bodies tops;
 }
 
--- The routines of the program stand in the image at these places: that of the allocator, and one
--- for
--- each method, to which the class tables lead. Each does with any limits and fuel, along and back,
--- what the text of its method says, so that the laws of pieces hold in the image and nothing is
--- owed.
+-- The routines of the program are in the image at these code addresses: that of the allocator, and
+-- one for each method, to which the class tables lead. Each does with any limits and fuel, in both
+-- directions, what the source of its method says. So the laws of fragments hold in the image
+-- without assumptions.
 pub record HasRoutines (program : Source) (image : Segments) (starts : List ℕ) : Type 0 where
   pub no_more : length starts ≡ 1 + length (entries program)
   pub bodies : List (List Symbol)

@@ -3,14 +3,14 @@
 use Rattle.std.specs.Prelude.{ℕ, zero, suc, ◌+◌, List, [], ◌∷◌, ◌++◌, length, map, slice_get}
 use Rattle.std.specs.Prelude.{slice_index}
 use Rattle.std.specs.Option.{unwrap_or}
-use Rattle.rpp_tree.specs.declared.tree.Ident.{Ident}
-use Rattle.rpp_tree.specs.Tree.{Procedure, ClassText, Source}
-use Rattle.class_table.specs.declared.method.MethodId.{MethodId}
-use Rattle.class_table.specs.First.{each_below}
-use Rattle.class_table.specs.Members.{no_procedure}
-use Rattle.class_table.specs.Classes.{class_slots, method_slot, dispatch, main_of}
-use Rattle.roopl_semantics.specs.Layout.{main_statics, tables}
-use Rattle.refine_form.specs.Form.{Scope}
+use Rattle.refine_calls.specs.rpp_tree.declared.tree.Ident.{Ident}
+use Rattle.refine_calls.specs.rpp_tree.Tree.{Procedure, ClassText, Source}
+use Rattle.refine_calls.specs.class_table.declared.method.MethodId.{MethodId}
+use Rattle.refine_calls.specs.class_table.First.{each_below}
+use Rattle.refine_calls.specs.class_table.Members.{no_procedure}
+use Rattle.refine_calls.specs.class_table.Classes.{class_slots, method_slot, dispatch, main_of}
+use Rattle.static_layout.specs.roopl_semantics.Layout.{main_statics, tables}
+use Rattle.refine_calls.specs.refine_form.Form.{Scope}
 
 -- ---- the methods
 
@@ -44,9 +44,9 @@ entry_at methods number = unwrap_or (slice_get methods number)
 abbrev pub scope_at : Entry → Scope
 scope_at entry = record { class = entry.class; vars = entry.method.params }
 
--- ---- the numbers of their routines, which stand in the same order
+-- ---- the numbers of their routines, which are in the same order
 
--- how many methods stand before a class
+-- how many methods come before a class
 abbrev pub methods_before : List ClassText → ℕ → ℕ
 methods_before [] class = 0
 methods_before (first ∷ classes) zero = 0
@@ -65,8 +65,8 @@ routine_in program class name =
 abbrev pub main_routine : Source → ℕ
 main_routine program = routine_of program (main_of program)
 
--- ---- the class tables, where all routines have these places, and so many stand before those of
--- the methods
+-- ---- the class tables, if all routines have these code addresses, and so many come before those
+-- of the methods
 
 -- the place of a method
 abbrev pub method_place : Source → ℕ → List ℕ → MethodId → ℕ

@@ -1,16 +1,16 @@
 -- The wrapped run of a program, with two bounds: one for the image's run, and one for its own.
 use Rattle.std.proofs.Common.{◌≡◌, ◌≤◌, ℕ, List, ◌++◌, length}
-use Rattle.rpp_words.specs.declared.input.FieldWord.{FieldWord}
-use Rattle.rpp_words.specs.declared.input.Limits.{Limits}
-use Rattle.rpp_tree.specs.Tree.{Source}
-use Rattle.pisa_isa.specs.declared.cell.Cell.{Cell}
-use Rattle.pisa_isa.specs.declared.machine.Stop.TheVariants.{Finished, Trap, Bound}
-use Rattle.pisa_isa.specs.Image.{Segments}
-use Rattle.pisa_isa.specs.Loaded.{loaded}
-use Rattle.roopl_semantics.specs.Store.{State}
-use Rattle.roopl_semantics.specs.Source.{GivesDone, GivesFault}
-use Rattle.roopl_semantics.specs.Layout.{layout}
-use Rattle.roopl_semantics.specs.StandsFor.{run_of}
+use Rattle.bennett_wrap.specs.rpp_words.declared.input.FieldWord.{FieldWord}
+use Rattle.bennett_wrap.specs.rpp_words.declared.input.Limits.{Limits}
+use Rattle.meaning_sound.specs.rpp_tree.Tree.{Source}
+use Rattle.bennett_wrap.specs.pisa_isa.declared.cell.Cell.{Cell}
+use Rattle.bennett_wrap.specs.pisa_isa.declared.machine.Stop.TheVariants.{Finished, Trap, Bound}
+use Rattle.bennett_wrap.specs.pisa_isa.Image.{Segments}
+use Rattle.bennett_wrap.specs.pisa_isa.Loaded.{loaded}
+use Rattle.meaning_sound.specs.roopl_semantics.Store.{State}
+use Rattle.meaning_sound.specs.roopl_semantics.Source.{GivesDone, GivesFault}
+use Rattle.meaning_sound.specs.roopl_semantics.Layout.{layout}
+use Rattle.meaning_sound.specs.roopl_semantics.StandsFor.{run_of}
 use Rattle.bennett_wrap.specs.Wrapped.{FinishesWith, TrapsWith, values_at, steps_wrapped}
 use Rattle.refine_wrap.specs.Programs.{wrapped_run}
 

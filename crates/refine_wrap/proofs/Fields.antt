@@ -1,19 +1,19 @@
--- Where the layout of a store has the main object's fields.
+-- If the layout of a store has the main object's fields.
 use Rattle.std.proofs.Common.{◌≡◌, ◌∙◌, sym, ap, ℕ, ◌+◌, ◌-◌, ◌*◌, ◌^◌, ◌<◌, ◌≤◌, arith, List, ◌++◌, length}
 use Rattle.std.proofs.Common.{length-append, get_or, drop, map, replicate, Some}
 use Rattle.std.specs.Prelude.{slice_index}
 use Rattle.std.specs.Option.{unwrap_or}
 use Rattle.std.proofs.lemmas.List.{get_or_append_left, get_or-append-add, get_or-map, length-map}
-use Rattle.rpp_words.specs.declared.input.Limits.{Limits}
-use Rattle.rpp_words.specs.declared.input.TheConstants.{FIXED_CELLS, FRAME_WORDS}
-use Rattle.rpp_tree.specs.Tree.{Source}
-use Rattle.pisa_isa.specs.Loaded.{statics_at, heap_base, fixed_cells}
-use Rattle.pisa_isa.proofs.Loaded.{length-fixed_cells}
-use Rattle.code_conventions.specs.Header.{header}
-use Rattle.buddy_book.specs.Place.{Log, Placing, place}
-use Rattle.code_conventions.specs.declared.memory.TheConstants.{HEADER_WORDS}
-use Rattle.roopl_semantics.specs.Store.{Word, Store, Object, main_name, object_at}
-use Rattle.roopl_semantics.specs.Layout.{layout, no_placing, word_of, object_words, first_address, heap_words}
+use Rattle.bennett_wrap.specs.rpp_words.declared.input.Limits.{Limits}
+use Rattle.bennett_wrap.specs.rpp_words.declared.input.TheConstants.{FIXED_CELLS, FRAME_WORDS}
+use Rattle.meaning_sound.specs.rpp_tree.Tree.{Source}
+use Rattle.bennett_wrap.specs.pisa_isa.Loaded.{statics_at, heap_base, fixed_cells}
+use Rattle.bennett_wrap.proofs.pisa_isa_laws.Loaded.{length-fixed_cells}
+use Rattle.bennett_wrap.specs.code_conventions.Header.{header}
+use Rattle.meaning_sound.specs.buddy_book.Place.{Log, Placing, place}
+use Rattle.bennett_wrap.specs.code_conventions.declared.memory.TheConstants.{HEADER_WORDS}
+use Rattle.meaning_sound.specs.roopl_semantics.Store.{Word, Store, Object, main_name, object_at}
+use Rattle.meaning_sound.specs.roopl_semantics.Layout.{layout, no_placing, word_of, object_words, first_address, heap_words}
 use Rattle.refine_wrap.specs.Programs.{field_cell}
 
 behind_header : (a b : ℕ) (xs : List ℕ) (k : ℕ) → get_or (header a b ++ xs) (HEADER_WORDS + k) 0 ≡ get_or xs k 0

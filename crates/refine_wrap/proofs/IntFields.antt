@@ -1,27 +1,27 @@
--- At the end of a run an int field of the main object holds a word, which stands in its static cell.
+-- At the end of a run an int field of the main object holds a word, which is in its static cell.
 use Rattle.std.proofs.Common.{◌≡◌, ◌∙◌, sym, ap, subst, refl, ℕ, zero, suc, ◌<◌, ◌≤◌, true, false, arith, List, [], ◌∷◌}
 use Rattle.std.proofs.Common.{length, map, get_or, slice_get, Option, Some, None}
 use Rattle.std.specs.Prelude.{IsTrue, slice_index}
 use Rattle.std.specs.Option.{option_map, unwrap_or}
 use Rattle.std.proofs.lemmas.Option.{get_or_from_slice_get, slice_get_within}
-use Rattle.rpp_words.specs.Limits.{IsLimits}
-use Rattle.rpp_words.specs.declared.input.FieldWord.{FieldWord}
-use Rattle.rpp_words.specs.declared.input.Limits.{Limits}
-use Rattle.rpp_tree.specs.declared.tree.Var.{Var}
-use Rattle.rpp_tree.specs.declared.tree.VarType.{VarType}
-use Rattle.rpp_tree.specs.declared.tree.VarType.TheVariants as type
-use Rattle.rpp_tree.specs.Tree.{Source}
-use Rattle.class_table.specs.declared.kind.Kind.{Kind}
-use Rattle.class_table.specs.declared.kind.Kind.TheVariants as kind
-use Rattle.class_table.specs.Classes.{main_of}
-use Rattle.class_table.specs.Inheritance.{kind_of_var}
-use Rattle.class_table.specs.Program.{IsAccepted}
-use Rattle.class_table.specs.Scope.{kind_of}
-use Rattle.class_table.specs.Table.{Table, table_of}
-use Rattle.roopl_semantics.specs.Store.{Value, Word, Nil, Name, Head, OfClass, Object, Store, State, main_name}
-use Rattle.roopl_semantics.specs.Store.{object_named, object_at}
-use Rattle.roopl_semantics.specs.Source.{GivesDone, IsValid, main_fields, is_int_type, is_int_field, starting}
-use Rattle.roopl_semantics.specs.Layout.{layout}
+use Rattle.bennett_wrap.specs.rpp_words.Limits.{IsLimits}
+use Rattle.bennett_wrap.specs.rpp_words.declared.input.FieldWord.{FieldWord}
+use Rattle.bennett_wrap.specs.rpp_words.declared.input.Limits.{Limits}
+use Rattle.meaning_sound.specs.rpp_tree.declared.tree.Var.{Var}
+use Rattle.meaning_sound.specs.rpp_tree.declared.tree.VarType.{VarType}
+use Rattle.meaning_sound.specs.rpp_tree.declared.tree.VarType.TheVariants as type
+use Rattle.meaning_sound.specs.rpp_tree.Tree.{Source}
+use Rattle.meaning_sound.specs.class_table.declared.kind.Kind.{Kind}
+use Rattle.meaning_sound.specs.class_table.declared.kind.Kind.TheVariants as kind
+use Rattle.meaning_sound.specs.class_table.Classes.{main_of}
+use Rattle.meaning_sound.specs.class_table.Inheritance.{kind_of_var}
+use Rattle.meaning_sound.specs.class_table.Program.{IsAccepted}
+use Rattle.meaning_sound.specs.class_table.Scope.{kind_of}
+use Rattle.meaning_sound.specs.class_table.Table.{Table, table_of}
+use Rattle.meaning_sound.specs.roopl_semantics.Store.{Value, Word, Nil, Name, Head, OfClass, Object, Store, State, main_name}
+use Rattle.meaning_sound.specs.roopl_semantics.Store.{object_named, object_at}
+use Rattle.meaning_sound.specs.roopl_semantics.Source.{GivesDone, IsValid, main_fields, is_int_type, is_int_field, starting}
+use Rattle.meaning_sound.specs.roopl_semantics.Layout.{layout}
 use Rattle.meaning_sound.specs.Sound.{head_of, head_named, named_fits, fits, cell_kinds, AllFit, Keeps, main_alone}
 use Rattle.meaning_sound.proofs.Lists.{all_get, all_inside}
 use Rattle.meaning_sound.proofs.Plainness.{program_plain}

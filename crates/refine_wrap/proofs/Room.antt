@@ -1,32 +1,32 @@
--- The loaded memory has room, and the layout of a store keeps the number of its cells.
+-- The loaded memory has space, and the layout of a store keeps the number of its cells.
 use Rattle.std.proofs.Common.{◌≡◌, ◌∙◌, sym, ap, subst, refl, ℕ, ◌+◌, ◌-◌, ◌*◌, ◌/◌, ◌^◌, ◌<◌, ◌≤◌, arith, List, ◌++◌}
 use Rattle.std.proofs.Common.{length, drop, suc, get_or, Some}
 use Rattle.std.specs.Prelude.{slice_get}
 use Rattle.std.specs.List.{All}
 use Rattle.std.proofs.Math.Nat.{mul_comm, div-add-mod, pow-le-pow_right}
 use Rattle.std.proofs.lemmas.Option.{slice_get_read}
-use Rattle.rpp_words.specs.Words.{IsWord}
-use Rattle.rpp_words.specs.declared.input.FieldWord.{FieldWord}
-use Rattle.rpp_words.specs.declared.input.Limits.{Limits}
-use Rattle.rpp_words.specs.declared.input.TheConstants.{FIXED_CELLS, FRAME_WORDS, MOST_DEEP, MOST_HEAP}
-use Rattle.rpp_tree.specs.Tree.{Source}
-use Rattle.pisa_isa.specs.declared.cell.Cell.{Cell}
-use Rattle.pisa_isa.specs.declared.image.TheConstants.{MOST_STATICS}
-use Rattle.pisa_isa.specs.Image.{Segments, IsImage}
-use Rattle.pisa_isa.specs.Loaded.{loaded, heap_base}
-use Rattle.pisa_isa.proofs.Loaded.{heap_base-ge, length-loaded}
-use Rattle.pisa_isa.specs.declared.fixed.TheConstants.{END_CELL}
-use Rattle.buddy_book.specs.Place.{Log}
-use Rattle.roopl_semantics.specs.Store.{Store}
-use Rattle.rpp_words.specs.Limits.{IsLimits}
-use Rattle.roopl_semantics.specs.Source.{IsValid}
-use Rattle.roopl_semantics.specs.Layout.{layout}
-use Rattle.roopl_semantics.specs.StandsFor.{StandsFor, Follows, run_of}
+use Rattle.bennett_wrap.specs.rpp_words.Words.{IsWord}
+use Rattle.bennett_wrap.specs.rpp_words.declared.input.FieldWord.{FieldWord}
+use Rattle.bennett_wrap.specs.rpp_words.declared.input.Limits.{Limits}
+use Rattle.bennett_wrap.specs.rpp_words.declared.input.TheConstants.{FIXED_CELLS, FRAME_WORDS, MOST_DEEP, MOST_HEAP}
+use Rattle.meaning_sound.specs.rpp_tree.Tree.{Source}
+use Rattle.bennett_wrap.specs.pisa_isa.declared.cell.Cell.{Cell}
+use Rattle.bennett_wrap.specs.pisa_isa.declared.image.TheConstants.{MOST_STATICS}
+use Rattle.bennett_wrap.specs.pisa_isa.Image.{Segments, IsImage}
+use Rattle.bennett_wrap.specs.pisa_isa.Loaded.{loaded, heap_base}
+use Rattle.bennett_wrap.proofs.pisa_isa_laws.Loaded.{heap_base-ge, length-loaded}
+use Rattle.bennett_wrap.specs.pisa_isa.declared.fixed.TheConstants.{END_CELL}
+use Rattle.meaning_sound.specs.buddy_book.Place.{Log}
+use Rattle.meaning_sound.specs.roopl_semantics.Store.{Store}
+use Rattle.bennett_wrap.specs.rpp_words.Limits.{IsLimits}
+use Rattle.meaning_sound.specs.roopl_semantics.Source.{IsValid}
+use Rattle.meaning_sound.specs.roopl_semantics.Layout.{layout}
+use Rattle.meaning_sound.specs.roopl_semantics.StandsFor.{StandsFor, Follows, run_of}
 use Rattle.bennett_wrap.specs.Wrapped.{HasRoom, Wrapped, FinishesWith, values_at, steps_wrapped}
 use Rattle.refine_wrap.specs.Programs.{IsStatic, wrapped_run}
 use Rattle.refine_wrap.proofs.Bounds.{WrapsProgram}
 
--- the cell behind four others, END_CELL, of a list that has five
+-- the cell after four others, END_CELL, of a list that has five
 fifth : (xs : List ℕ) (e : ℕ) → length xs ≡ suc (suc (suc (suc (suc (length (drop 5 xs)))))) → e ≡ get_or xs END_CELL e
     → slice_get xs END_CELL ≡ Some e
 fifth xs e five is = slice_get_read xs (length xs) END_CELL e refl (omega arith) is

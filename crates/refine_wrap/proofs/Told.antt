@@ -1,17 +1,17 @@
 -- The wrapped run, with every bound, ends as the source does.
 use Rattle.std.proofs.Common.{◌≡◌, ◌≢◌, ◌∙◌, sym, subst, refl, ℕ, ◌≤◌, arith, List, length, ⊎_elim}
 use Rattle.std.proofs.lemmas.Bool.{cases_lt}
-use Rattle.rpp_words.specs.declared.input.FieldWord.{FieldWord}
-use Rattle.rpp_words.specs.declared.input.Limits.{Limits}
-use Rattle.rpp_tree.specs.Tree.{Source}
-use Rattle.pisa_isa.specs.declared.cell.Cell.{Cell}
-use Rattle.pisa_isa.specs.declared.machine.Stop.{Stop}
-use Rattle.pisa_isa.specs.declared.machine.Stop.TheVariants.{Finished, Returned, Trap, BadAddress, OffCode, Bound}
-use Rattle.pisa_isa.specs.Image.{Segments}
-use Rattle.pisa_isa.specs.Runs.{End}
-use Rattle.pisa_isa.proofs.Reached.{spent-le}
-use Rattle.roopl_semantics.specs.Source.{GivesFault}
-use Rattle.roopl_semantics.specs.StandsFor.{Follows, run_of, enough_steps}
+use Rattle.bennett_wrap.specs.rpp_words.declared.input.FieldWord.{FieldWord}
+use Rattle.bennett_wrap.specs.rpp_words.declared.input.Limits.{Limits}
+use Rattle.meaning_sound.specs.rpp_tree.Tree.{Source}
+use Rattle.bennett_wrap.specs.pisa_isa.declared.cell.Cell.{Cell}
+use Rattle.bennett_wrap.specs.pisa_isa.declared.machine.Stop.{Stop}
+use Rattle.bennett_wrap.specs.pisa_isa.declared.machine.Stop.TheVariants.{Finished, Returned, Trap, BadAddress, OffCode, Bound}
+use Rattle.bennett_wrap.specs.pisa_isa.Image.{Segments}
+use Rattle.bennett_wrap.specs.pisa_isa.Runs.{End}
+use Rattle.bennett_wrap.proofs.pisa_isa_laws.Reached.{spent-le}
+use Rattle.meaning_sound.specs.roopl_semantics.Source.{GivesFault}
+use Rattle.meaning_sound.specs.roopl_semantics.StandsFor.{Follows, run_of, enough_steps}
 use Rattle.bennett_wrap.specs.Wrapped.{steps_wrapped}
 use Rattle.bennett_wrap.proofs.Earlier.{earlier}
 use Rattle.refine_wrap.specs.Programs.{wrapped_run, EndsDone, EndsAsSource, FollowsWrapped}
@@ -61,7 +61,7 @@ module _ (program : Source) (image : Segments) (cells : List ℕ) (wrapped : Lis
   abbrev all : ℕ → End
   all bound = wrapped_run image cells wrapped limits input bound
 
-  -- where the run finishes within the bound: with steps enough the wrapped run finishes, and with
+  -- if the run finishes within the bound: with steps enough the wrapped run finishes, and with
   -- fewer it is not over
   finishes_by : (m bound : ℕ) → (run_of image limits input m).why ≡ Finished
       → EndsAsSource program image cells limits input (all bound)

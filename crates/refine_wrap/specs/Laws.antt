@@ -1,22 +1,22 @@
 -- The laws of wrapped programs.
 use Rattle.std.specs.Prelude.{◌≡◌, ◌≤◌, ℕ, List, All, length, slice_get, slice_index, Some, IsTrue}
-use Rattle.rpp_words.specs.Words.{IsWord}
-use Rattle.rpp_words.specs.Limits.{IsLimits}
-use Rattle.rpp_words.specs.declared.input.FieldWord.{FieldWord}
-use Rattle.rpp_words.specs.declared.input.Limits.{Limits}
-use Rattle.rpp_tree.specs.Tree.{Source}
-use Rattle.class_table.specs.Program.{IsAccepted}
-use Rattle.pisa_isa.specs.declared.cell.Cell.{Cell}
-use Rattle.pisa_isa.specs.Image.{Segments, IsImage}
-use Rattle.pisa_isa.specs.Loaded.{loaded}
-use Rattle.roopl_semantics.specs.Store.{Word, State, main_name, object_at}
-use Rattle.roopl_semantics.specs.Source.{GivesDone, IsValid, main_fields, is_int_field}
-use Rattle.roopl_semantics.specs.Layout.{layout}
-use Rattle.roopl_semantics.specs.StandsFor.{StandsFor}
+use Rattle.bennett_wrap.specs.rpp_words.Words.{IsWord}
+use Rattle.bennett_wrap.specs.rpp_words.Limits.{IsLimits}
+use Rattle.bennett_wrap.specs.rpp_words.declared.input.FieldWord.{FieldWord}
+use Rattle.bennett_wrap.specs.rpp_words.declared.input.Limits.{Limits}
+use Rattle.meaning_sound.specs.rpp_tree.Tree.{Source}
+use Rattle.meaning_sound.specs.class_table.Program.{IsAccepted}
+use Rattle.bennett_wrap.specs.pisa_isa.declared.cell.Cell.{Cell}
+use Rattle.bennett_wrap.specs.pisa_isa.Image.{Segments, IsImage}
+use Rattle.bennett_wrap.specs.pisa_isa.Loaded.{loaded}
+use Rattle.meaning_sound.specs.roopl_semantics.Store.{Word, State, main_name, object_at}
+use Rattle.meaning_sound.specs.roopl_semantics.Source.{GivesDone, IsValid, main_fields, is_int_field}
+use Rattle.meaning_sound.specs.roopl_semantics.Layout.{layout}
+use Rattle.meaning_sound.specs.roopl_semantics.StandsFor.{StandsFor}
 use Rattle.bennett_wrap.specs.Wrapped.{Wrapped}
 use Rattle.refine_wrap.specs.Programs.{IsStatic, FollowsWrapped, field_cell}
 
--- the wrapped code of an image that stands for a program, for at most 64 static cells, does what
+-- the wrapped code of an image that implements a program, for at most 64 static cells, does what
 -- the program does
 abbrev pub WrappedProgramsFollow : Type 0
 WrappedProgramsFollow =

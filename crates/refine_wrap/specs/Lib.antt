@@ -1,2 +1,3 @@
+pub use Rattle.bennett_wrap.specs as bennett_wrap
 pub mod Programs
 pub mod Laws

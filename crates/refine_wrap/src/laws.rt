@@ -1,8 +1,8 @@
 // What the wrapped image of a program does, each law the contract of a function.
 ghost use Rattle.refine_wrap.specs.Laws.{IntFieldsStandInStaticCells, WrappedProgramsFollow};
 
-/// The wrapped run of an image that stands for a program ends as the source does, adds the results
-/// alone, and is over after 2000 steps for each unit of the source's cost, and 5000 more.
+/// The wrapped run of an image that implements a program ends as the source does, and adds only the
+/// results. It is over after 2000 steps for each cost unit of the source, and 5000 more.
 pub fn wrapped_programs_follow()
     ensures { WrappedProgramsFollow }
 {}

@@ -1,5 +1,5 @@
-//! What wrapping an image that stands for a program gives: its run ends as the source does, and
-//! after a finish the results alone are added to the memory. A layer above may use the two laws.
+//! The wrapping of an image that implements a program. Its run ends as the source does, and a
+//! finish adds only the results to the memory. A layer above may use the two laws.
 #![tactic(auto)]
 
 mod laws;

@@ -3,14 +3,14 @@ use Rattle.std.proofs.Common.{◌≡◌, ◌≢◌, ℕ, ◌+◌, ◌^◌, ◌<�
 use Rattle.std.proofs.Common.{refl, sym, ap, ◌∙◌, arith}
 use Rattle.std.specs.Prelude.{slice_index, slice_set, nat_lt, not}
 use Rattle.std.proofs.lemmas.Bool.Decides.{nat_tests}
-use Rattle.code_conventions.specs.declared.faults.TheConstants.{NIL, INDEX}
-use Rattle.code_conventions.specs.declared.memory.TheConstants.{HEADER_WORDS}
-use Rattle.pisa_isa.specs.Machine.{Memory}
-use Rattle.pisa_isa.specs.Table.{word_of}
-use Rattle.code_conventions.specs.declared.registers.TheConstants.{CONTENT, LEFT, NOUGHT, OUTCOME, RIGHT}
-use Rattle.paired_code.specs.Layout.{Equal, Positive}
-use Rattle.rpp_words.specs.Words.{is_less, sum_of}
-use Rattle.roopl_semantics.specs.Operators.{truth_word}
+use Rattle.code_scope.specs.code_conventions.declared.faults.TheConstants.{NIL, INDEX}
+use Rattle.code_scope.specs.code_conventions.declared.memory.TheConstants.{HEADER_WORDS}
+use Rattle.code_scope.specs.pisa_isa.Machine.{Memory}
+use Rattle.code_scope.specs.pisa_isa.Table.{word_of}
+use Rattle.code_scope.specs.code_conventions.declared.registers.TheConstants.{CONTENT, LEFT, NOUGHT, OUTCOME, RIGHT}
+use Rattle.code_scope.specs.paired_code.Layout.{Equal, Positive}
+use Rattle.code_scope.specs.rpp_words.Words.{is_less, sum_of}
+use Rattle.code_scope.specs.roopl_semantics.Operators.{truth_word}
 use Rattle.register_expressions.specs.Code.{exch, sltx, xori, nil_check, index_check, point_cells}
 use Rattle.register_expressions.specs.Number.{Bases}
 use Rattle.register_expressions.proofs.Comparing.{above, not_above, past_end}

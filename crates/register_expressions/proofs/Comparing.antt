@@ -5,9 +5,9 @@ use Rattle.std.specs.Prelude.{not, ◌&&◌, ◌||◌, nat_eq, nat_lt, bit_xor, 
 use Rattle.std.proofs.lemmas.Bool.Decides.{nat_tests}
 use Rattle.std.proofs.lemmas.Bool.{cases_lt, cases_eq}
 use Rattle.std.proofs.lemmas.Int.{ints}
-use Rattle.pisa_isa.specs.Table.{word_of}
-use Rattle.rpp_words.specs.Words.{is_less}
-use Rattle.roopl_semantics.specs.Operators.{is_true, truth_word}
+use Rattle.code_scope.specs.pisa_isa.Table.{word_of}
+use Rattle.code_scope.specs.rpp_words.Words.{is_less}
+use Rattle.code_scope.specs.roopl_semantics.Operators.{is_true, truth_word}
 
 pub word_is_truth : (b : Bool) → word_of b ≡ truth_word b
 word_is_truth true = refl
@@ -48,7 +48,7 @@ differ a b h k = ⊎_elim (λ e. same e) (λ n. other n) (cases_eq a b)
 turned : (x : ℕ) → not (nat_eq 0 x) ≡ is_true x
 turned x = grind (arith, nat_tests)
 
--- so the truth of a word
+-- so the truth value of a word
 pub truth_of : (x : ℕ) → x < 2 ^ 32 → bit_xor (word_of (is_less 0 x)) (word_of (is_less x 0)) ≡ truth_word (is_true x)
 truth_of x h = differ 0 x (omega arith) h ∙ ap truth_word (turned x)
 
@@ -88,14 +88,14 @@ truth_small false = omega arith
 
 -- ---- an array's address and an index
 
--- an address is above 0 where it is not 0
+-- an address is above 0 if it is not 0
 pub above : (y : ℕ) → y < 2 ^ 31 → y ≢ 0 → is_less 0 y ≡ true
 above y h n = less_yes 0 y (omega arith) (omega arith) (omega arith)
 
 pub not_above : is_less 0 0 ≡ false
 not_above = refl
 
--- a length is not below 0, so an index without sign is below it exactly where one of these two tells it
+-- a length is not below 0, so an unsigned index is below it exactly if one of these two says so
 pub past_end : (i n : ℕ) → i < 2 ^ 32 → n < 2 ^ 31 → bit_xor (bit_xor (word_of (is_less i n)) (word_of (is_less i 0))) 1
     ≡ truth_word (not (nat_lt i n))
 past_end i n h k = ⊎_elim (λ l. ⊎_elim (λ m. inside l m) (λ g. beyond l g) (cases_lt i n)) (λ g. negative g)

@@ -2,11 +2,11 @@
 use Rattle.std.proofs.Common.{◌≡◌, ◌≢◌, ℕ, ◌^◌, ◌<◌, List, refl, ap, ◌∙◌, arith}
 use Rattle.std.specs.Prelude.{bit_xor, bit_and, bit_or}
 use Rattle.std.specs.Int.Bits.{xor_assoc}
-use Rattle.rpp_words.specs.Words.{is_less, sum_of, difference_of}
+use Rattle.code_scope.specs.rpp_words.Words.{is_less, sum_of, difference_of}
 use Rattle.rpp_tree.specs.declared.tree.BinOp.{BinOp}
 use Rattle.rpp_tree.specs.declared.tree.BinOp.TheVariants as op
-use Rattle.pisa_isa.specs.Table.{word_of}
-use Rattle.roopl_semantics.specs.Operators.{operated, is_true, truth_word}
+use Rattle.code_scope.specs.pisa_isa.Table.{word_of}
+use Rattle.code_scope.specs.roopl_semantics.Operators.{operated, is_true, truth_word}
 use Rattle.register_expressions.specs.Code.{change_cells, literal_cells, give_cells}
 use Rattle.register_expressions.specs.declared.held.Kind.TheVariants.{Changes, Gives, Joins}
 use Rattle.register_expressions.specs.Held.{kind}
@@ -99,7 +99,7 @@ module _ (n : ℕ) (f : ℕ → ℕ) (zs : List ℕ) (d : ℕ) (hd : d < n) wher
       abbrev more : ℕ
       more = word_of (is_less (f s) (f a))
 
-      to : {w : List Rattle.paired_code.specs.declared.part.Symbol.Symbol} {t : ℕ} (x v v' : ℕ) → v ≡ v'
+      to : {w : List Rattle.code_scope.specs.paired_code.declared.part.Symbol.Symbol} {t : ℕ} (x v v' : ℕ) → v ≡ v'
           → Goes w t (known n (written f d x) zs) (known n (written f d v) zs)
           → Goes w t (known n (written f d x) zs) (known n (written f d v') zs)
       to x v v' e g = goes_to refl refl (ap (λ z. known n (written f d z) zs) e) g

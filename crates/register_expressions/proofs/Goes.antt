@@ -1,23 +1,23 @@
--- A piece that leads from one memory to another, and back; and a piece that traps.
+-- A fragment that leads from one memory to another, and back; and a fragment that traps.
 use Rattle.std.proofs.Common.{◌≡◌, ℕ, ◌+◌, ◌^◌, ◌<◌, ◌≤◌, Bool, true, false, List, [], ◌∷◌, ◌++◌, length}
 use Rattle.std.proofs.Common.{length-set, refl, ap, ◌∙◌, subst, arith}
 use Rattle.std.specs.Prelude.{bit_xor, nat_lt, if◌then◌else◌, slice_index, slice_set}
 use Rattle.std.specs.Int.Bits.{xor_zero_l}
 use Rattle.std.proofs.lemmas.List.{get_or-set_same, set-set, set-get_or}
 use Rattle.std.proofs.lemmas.Bool.Decides.{nat_tests}
-use Rattle.rpp_words.specs.Words.{sum_of, difference_of, negated}
-use Rattle.rpp_words.proofs.Laws.{xor-twice, sum_of-negated, difference_of-sum_of, sum_of-difference_of}
-use Rattle.pisa_isa.specs.declared.cell.Cell.{Cell}
-use Rattle.pisa_isa.specs.Machine.{Memory}
-use Rattle.paired_code.specs.declared.part.Symbol.{Symbol}
-use Rattle.paired_code.specs.declared.part.Symbol.TheVariants.{Own}
-use Rattle.paired_code.specs.Machine.{Image, is_single}
-use Rattle.paired_code.specs.Layout.{mirror_cells, Test, test_cells}
-use Rattle.paired_code.specs.Pieces.{Outcome, Done, Trapped, Bad, Runs, after}
-use Rattle.paired_code.specs.Laws.{outcome_of, Passes, Fails}
-use Rattle.paired_code.proofs.Small.{runs_empty, runs_single}
-use Rattle.paired_code.proofs.Checks.{runs_passes, runs_fails}
-use Rattle.paired_code.proofs.Contract.{seq_law, mirror_law}
+use Rattle.code_scope.specs.rpp_words.Words.{sum_of, difference_of, negated}
+use Rattle.code_scope.proofs.rpp_words_laws.Laws.{xor-twice, sum_of-negated, difference_of-sum_of, sum_of-difference_of}
+use Rattle.code_scope.specs.pisa_isa.declared.cell.Cell.{Cell}
+use Rattle.code_scope.specs.pisa_isa.Machine.{Memory}
+use Rattle.code_scope.specs.paired_code.declared.part.Symbol.{Symbol}
+use Rattle.code_scope.specs.paired_code.declared.part.Symbol.TheVariants.{Own}
+use Rattle.code_scope.specs.paired_code.Machine.{Image, is_single}
+use Rattle.code_scope.specs.paired_code.Layout.{mirror_cells, Test, test_cells}
+use Rattle.code_scope.specs.paired_code.Pieces.{Outcome, Done, Trapped, Bad, Runs, after}
+use Rattle.code_scope.specs.paired_code.Laws.{outcome_of, Passes, Fails}
+use Rattle.code_scope.proofs.paired_code_laws.Small.{runs_empty, runs_single}
+use Rattle.code_scope.proofs.paired_code_laws.Checks.{runs_passes, runs_fails}
+use Rattle.code_scope.proofs.paired_code_laws.Contract.{seq_law, mirror_law}
 use Rattle.register_expressions.specs.Code.{around}
 
 -- there along the line and back against it, in k steps
@@ -113,7 +113,7 @@ traps_more h t = record { ahead = λ im. let a = t.ahead im in let l = a.1 in (a
 pub record TrapsBoth (w : List Symbol) (n code : ℕ) (m : Memory) : Type 0 where
   pub runs : (im : Image) (d : Bool) → (k : ℕ) × (k ≤ n) × Runs im w d m (Trapped code k)
 
--- a piece that begins with its trap traps in either direction
+-- a fragment that begins with its trap traps in either direction
 pub traps_around : {w : List Symbol} {n code : ℕ} {m : Memory} (mid : List Symbol) → Traps w n code m
     → TrapsBoth (around w mid) n code m
 traps_around {w = w} {n = n} {code = code} {m = m} mid t = record { runs = go }
@@ -153,19 +153,6 @@ traps_inside {w = w} {mid = mid} {j = j} {n = n} {code = code} {m = m} {m1 = m1}
               ((mirror_law w).turns im true m (Done m1 j) (g.ahead im)) a.2),
         )
 
--- a piece around a middle that runs in a direction
-pub runs_around : {w mid : List Symbol} {j k : ℕ} {m m1 m2 m' : Memory} → Goes w j m m1 → Goes w j m' m2
-    → (im : Image) (d : Bool) → Runs im mid d m1 (Done m2 k) → Runs im (around w mid) d m (Done m' (j + (k + j)))
-runs_around {w = w} {mid = mid} {j = j} {k = k} {m = m} {m1 = m1} {m2 = m2} {m' = m'} a c im false r =
-    seq_runs im w (mid ++ mirror_cells w) m m1 j (Done m' (k + j)) (a.ahead im)
-    (seq_runs im mid (mirror_cells w) m1 m2 k (Done m' j) r
-    ((mirror_law w).turns im false m2 (Done m' j) (c.back im)))
-runs_around {w = w} {mid = mid} {j = j} {k = k} {m = m} {m1 = m1} {m2 = m2} {m' = m'} a c im true r =
-    let e : j + k + j ≡ j + (k + j) = omega arith in
-    steps_are e (seq_back im w (mid ++ mirror_cells w) m m2 (j + k) (Done m' j)
-    (seq_back im mid (mirror_cells w) m m1 j (Done m2 k) ((mirror_law w).turns im true m (Done m1 j) (a.ahead im))
-    r) (c.back im))
-
 pub both_more : {w : List Symbol} {n n' code : ℕ} {m : Memory} → n ≤ n' → TrapsBoth w n code m → TrapsBoth w n' code m
 both_more h t = record { runs = λ im d. let a = t.runs im d in let l = a.1 in (a.0, omega arith, a.2) }
 
@@ -173,7 +160,7 @@ pub traps_mid : {w mid : List Symbol} {j n code : ℕ} {m m1 : Memory} → Goes 
     → Traps (around w mid) (j + n) code m
 traps_mid {w = w} {mid = mid} g t = traps_then g (traps_first (mirror_cells w) t)
 
--- in a given direction, between the memories of a piece that goes
+-- in a given direction, between the memories of a fragment that goes
 pub runs_along : {w : List Symbol} {k : ℕ} {m m' : Memory} → Goes w k m m' → Goes w k m' m → (im : Image) (d : Bool)
     → Runs im w d m (Done m' k)
 runs_along a b im false = a.ahead im
@@ -188,7 +175,7 @@ goes_cell c m m' s w e e' = record {
   back = λ im. subst (λ o. Runs im (Own c ∷ []) true m' o) e' (runs_single im c true m' s w);
 }
 
--- one that xors y into what x stands for
+-- one that xors y into what x denotes
 pub goes_xor : (c : Cell) (put : ℕ → Memory) (x y : ℕ) → is_single c ≡ true → c.imm < 2 ^ 32
     → ((x : ℕ) → outcome_of false c (put x) ≡ Done (put (bit_xor x y)) 1)
     → ((x : ℕ) → outcome_of true c (put x) ≡ Done (put (bit_xor x y)) 1)
@@ -216,7 +203,7 @@ pub goes_addi_word : (c : Cell) (put : ℕ → Memory) (x i : ℕ) → x < 2 ^ 3
 goes_addi_word c put x i h k s w e e' = goes_cell c (put x) (put (sum_of x i)) s w (e x)
     (e' (sum_of x i) ∙ ap (λ z. Done (put z) 1) (sum_of-negated x i h k))
 
--- where nothing wraps
+-- if nothing wraps
 pub goes_addi : (c : Cell) (put : ℕ → Memory) (x i : ℕ) → x + i < 2 ^ 32 → is_single c ≡ true → c.imm < 2 ^ 32
     → ((x : ℕ) → outcome_of false c (put x) ≡ Done (put (sum_of x i)) 1)
     → ((x : ℕ) → outcome_of true c (put x) ≡ Done (put (sum_of x (negated i))) 1)
@@ -263,7 +250,7 @@ goes_exch c put a x cells h s w e e' =
     ∙ ap (λ z. Done (put z (slice_set (slice_set cells a x) a (slice_index cells a))) 1) same
     ∙ ap (λ z. Done (put x z) 1) back)
 
--- a check passes where its test holds, and else stops at once
+-- a check passes if its test holds, and else stops at once
 pub goes_check : (t : Test) (code : ℕ) (m : Memory) → Passes t m → Goes (test_cells t code) 2 m m
 goes_check t code m h = record {
   ahead = λ im. runs_passes im false t code m h;

@@ -1,4 +1,4 @@
--- How many steps and cells expressions have whose parts stand in registers.
+-- How many steps and cells expressions have whose subexpressions are in registers.
 use Rattle.std.proofs.Common.{◌≡◌, ℕ, ◌+◌, ◌*◌, ◌<◌, ◌≤◌, Bool, true, false, List, [], ◌∷◌, ◌++◌, length, length-append}
 use Rattle.std.proofs.Common.{refl, arith}
 use Rattle.std.specs.Prelude.{nat_eq, nat_lt, ◌&&◌, ◌||◌, not, if◌then◌else◌}
@@ -6,10 +6,10 @@ use Rattle.std.proofs.lemmas.Bool.Decides.{nat_tests}
 use Rattle.rpp_tree.specs.declared.tree.BinOp.{BinOp}
 use Rattle.rpp_tree.specs.declared.tree.BinOp.TheVariants as op
 use Rattle.rpp_tree.specs.Tree.{Expression, Number, Null, Variable, Element, Binary, nodes}
-use Rattle.paired_code.specs.declared.part.Symbol.{Symbol}
-use Rattle.paired_code.specs.Layout.{mirror_cells}
-use Rattle.paired_code.proofs.Mirrored.{length_mirror}
-use Rattle.refine_form.specs.declared.spot.Spot.{Spot}
+use Rattle.code_scope.specs.paired_code.declared.part.Symbol.{Symbol}
+use Rattle.code_scope.specs.paired_code.Layout.{mirror_cells}
+use Rattle.code_scope.proofs.paired_code_laws.Mirrored.{length_mirror}
+use Rattle.code_scope.specs.refine_form.declared.spot.Spot.{Spot}
 use Rattle.register_expressions.specs.Code
 use Rattle.register_expressions.specs.declared.held.Kind.{Kind}
 use Rattle.register_expressions.specs.declared.held.Kind.TheVariants.{Changes, Gives, Joins, Neither}
@@ -19,7 +19,7 @@ use Rattle.register_expressions.specs.Held.{is_literal, literal_in, is_zero, spo
 use Rattle.register_expressions.specs.Steps.{operator_steps, before_steps, core_steps, told_steps, operated_steps}
 use Rattle.register_expressions.specs.Steps.{held_steps, given_steps}
 use Rattle.register_expressions.specs.Steps.{held_value_steps, held_truth_steps, held_test_steps, tokens}
-use Rattle.code_conventions.specs.declared.registers.TheConstants.{CONTENT, NOUGHT}
+use Rattle.code_scope.specs.code_conventions.declared.registers.TheConstants.{CONTENT, NOUGHT}
 
 pub some_nodes : (e : Expression) → 1 ≤ nodes e
 some_nodes (Number at word) = omega arith
@@ -60,7 +60,7 @@ need_least (Variable name) = omega arith
 need_least (Element name index) = omega arith
 need_least (Binary at o left right) = let a = need_least left in omega arith
 
--- where there are enough registers
+-- if there are enough registers
 pub held_few : (e : Expression) → is_held e ≡ true → need e < 10
 held_few (Number at word) q = omega arith
 held_few (Null at) q = absurd (cc)
@@ -279,7 +279,7 @@ operator_least op.Mul h = absurd (omega arith)
 operator_least op.Div h = absurd (omega arith)
 operator_least op.Rem h = absurd (omega arith)
 
--- such an operator is none that wants more registers than there are
+-- no such operator needs more registers than there are
 own_some : (c : Kind) (p q : Bool) → own c p q < 10 → own c true true < 10
 own_some Changes p q h = omega arith
 own_some Gives p q h = omega arith

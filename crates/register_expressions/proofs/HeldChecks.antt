@@ -4,14 +4,14 @@ use Rattle.std.proofs.Common.{refl, sym, ap, ◌∙◌, subst, arith}
 use Rattle.std.specs.Prelude.{slice_index, slice_set, nat_lt, not, bit_xor}
 use Rattle.std.specs.Int.Bits.{xor_zero_l}
 use Rattle.std.proofs.lemmas.Bool.Decides.{nat_tests}
-use Rattle.code_conventions.specs.declared.memory.TheConstants.{HEADER_WORDS}
-use Rattle.pisa_isa.specs.Table.{word_of}
-use Rattle.code_conventions.specs.declared.faults.TheConstants.{NIL, INDEX}
-use Rattle.code_conventions.specs.declared.registers.TheConstants.{CONTENT, NOUGHT, OUTCOME}
-use Rattle.paired_code.specs.Machine.{reg}
-use Rattle.paired_code.specs.Layout.{Equal, Positive}
-use Rattle.rpp_words.specs.Words.{is_less, sum_of}
-use Rattle.roopl_semantics.specs.Operators.{truth_word}
+use Rattle.code_scope.specs.code_conventions.declared.memory.TheConstants.{HEADER_WORDS}
+use Rattle.code_scope.specs.pisa_isa.Table.{word_of}
+use Rattle.code_scope.specs.code_conventions.declared.faults.TheConstants.{NIL, INDEX}
+use Rattle.code_scope.specs.code_conventions.declared.registers.TheConstants.{CONTENT, NOUGHT, OUTCOME}
+use Rattle.code_scope.specs.paired_code.Machine.{reg}
+use Rattle.code_scope.specs.paired_code.Layout.{Equal, Positive}
+use Rattle.code_scope.specs.rpp_words.Words.{is_less, sum_of}
+use Rattle.code_scope.specs.roopl_semantics.Operators.{truth_word}
 use Rattle.register_expressions.specs.Code.{exch, sltx, xori, nil_check_of, index_check_of, point_of}
 use Rattle.register_expressions.proofs.Comparing.{above, not_above, past_end}
 use Rattle.register_expressions.proofs.Goes.{Goes, Traps, goes_cons, goes_around, goes_to, goes_check, goes_seq}
@@ -70,9 +70,6 @@ module _ (n : ℕ) (f : ℕ → ℕ) (zs : List ℕ) (room : OUTCOME < n) (clear
     (ic : i ≢ CONTENT) (h : f a < length zs) (k : slice_index zs (f a) < 2 ^ 31) where
   abbrev measured : ℕ → ℕ
   measured = written f CONTENT (slice_index zs (f a))
-
-  abbrev opened : List ℕ
-  opened = slice_set zs (f a) 0
 
   length_out : Goes (exch CONTENT a ∷ []) 1 (known n f zs) (known n measured (slice_set zs (f a) 0))
   length_out = word_out n f zs a (f a) ha (omega arith) ac refl empty h

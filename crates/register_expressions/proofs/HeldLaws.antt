@@ -1,18 +1,19 @@
--- The value of an expression whose parts stand in registers, or its truth, xored into a register.
+-- The value of an expression whose subexpressions are in registers, or its truth value, xored into
+-- a register.
 use Rattle.std.proofs.Common.{◌≡◌, ◌≢◌, ℕ, ◌+◌, ◌^◌, ◌<◌, ◌≤◌, inl, inr, Bool, true, false, List, [], ◌∷◌, length}
 use Rattle.std.proofs.Common.{refl, sym, ap, ◌∙◌, subst, ⊎_elim, arith}
 use Rattle.std.specs.Prelude.{bit_xor, if◌then◌else◌, slice_index, slice_set, Result, Ok, Err}
 use Rattle.std.proofs.lemmas.Bool.{cases_eq}
-use Rattle.rpp_words.proofs.Laws.{xor-twice}
+use Rattle.code_scope.proofs.rpp_words_laws.Laws.{xor-twice}
 use Rattle.rpp_tree.specs.declared.tree.BinOp.{BinOp}
 use Rattle.rpp_tree.specs.Tree.{Expression, Number, Null, Variable, Element, Binary}
-use Rattle.pisa_isa.specs.Machine.{Memory}
-use Rattle.code_conventions.specs.declared.registers.TheConstants.{CONTENT, FRAME, NOUGHT, OBJECT, OUTCOME}
-use Rattle.paired_code.specs.declared.part.Symbol.{Symbol}
-use Rattle.paired_code.specs.Machine.{Image, reg, with_reg}
-use Rattle.paired_code.specs.Pieces.{Done, Trapped, Runs}
-use Rattle.roopl_semantics.specs.Operators.{operated, is_true, truth_word}
-use Rattle.refine_form.specs.declared.spot.Spot.{Spot}
+use Rattle.code_scope.specs.pisa_isa.Machine.{Memory}
+use Rattle.code_scope.specs.code_conventions.declared.registers.TheConstants.{CONTENT, FRAME, NOUGHT, OBJECT, OUTCOME}
+use Rattle.code_scope.specs.paired_code.declared.part.Symbol.{Symbol}
+use Rattle.code_scope.specs.paired_code.Machine.{Image, reg, with_reg}
+use Rattle.code_scope.specs.paired_code.Pieces.{Done, Trapped, Runs}
+use Rattle.code_scope.specs.roopl_semantics.Operators.{operated, is_true, truth_word}
+use Rattle.code_scope.specs.refine_form.declared.spot.Spot.{Spot}
 use Rattle.register_expressions.specs.Code.{Target, words, xor, around, truth_cells, part, core, give_cells, held_cells}
 use Rattle.register_expressions.specs.Code.{given_cells, held_value_cells, base_of, reach_cells, held_truth_cells}
 use Rattle.register_expressions.specs.Code.{held_test_cells}
@@ -120,7 +121,7 @@ module _ (n : ℕ) (b : Bases) (zs : List ℕ) (spot : List ℕ → Spot) (small
           goes_to refl refl (ap (λ u. known n (written (wide.puts f) into (bit_xor (f into) u)) zs) (open_first.has f))
           (xor_goes n (wide.puts f) zs into hi (part 0) (omega arith) part_not (f into))) f r
 
-      -- its truth
+      -- its truth value
       told : ℕ
       told = truth_word (is_true (given (number spot b zs e)))
 
@@ -415,7 +416,7 @@ module _ (spot : List ℕ → Spot) (free into : ℕ) (e : Expression) (m : Memo
   same : known 32 (reg m) m.cells ≡ m
   same = ap (λ r. record m { regs = r }) (sym (tabulated_is 32 m.regs ready.count))
 
-  -- a piece that xors a number into the register goes there in either direction
+  -- a fragment that xors a number into the register goes there in either direction
   both_ways : (w : List Symbol) (k v : ℕ) → ((f : ℕ → ℕ) → Free (bases_of m) 0 9 f
       → Goes w k (known 32 f m.cells) (known 32 (written f into (bit_xor (f into) v)) m.cells))
       → Runs im w d m (Done (with_reg m into (bit_xor (reg m into) v)) k)

@@ -4,15 +4,15 @@ use Rattle.std.proofs.Common.{refl, sym, ap, ◌∙◌, subst, ⊎_elim, arith}
 use Rattle.std.specs.Prelude.{nat_eq, nat_lt, if◌then◌else◌, slice_index, slice_set, bit_xor, bit_and, bit_or}
 use Rattle.std.proofs.lemmas.Bool.{cases_eq}
 use Rattle.std.proofs.lemmas.Bool.Decides.{nat_tests}
-use Rattle.code_conventions.specs.declared.memory.TheConstants.{HEADER_WORDS}
-use Rattle.rpp_words.specs.Words.{is_less, sum_of, difference_of, negated}
-use Rattle.pisa_isa.specs.Table.{word_of}
-use Rattle.pisa_isa.specs.Machine.{Memory}
-use Rattle.code_conventions.specs.declared.registers.TheConstants.{CONTENT, FRAME, OBJECT}
-use Rattle.paired_code.specs.Machine.{reg, with_reg}
-use Rattle.paired_code.specs.Pieces.{Done, Bad}
-use Rattle.refine_form.specs.declared.spot.Spot.{Spot}
-use Rattle.refine_form.specs.declared.spot.Spot.TheVariants.{Field, Frame}
+use Rattle.code_scope.specs.code_conventions.declared.memory.TheConstants.{HEADER_WORDS}
+use Rattle.code_scope.specs.rpp_words.Words.{is_less, sum_of, difference_of, negated}
+use Rattle.code_scope.specs.pisa_isa.Table.{word_of}
+use Rattle.code_scope.specs.pisa_isa.Machine.{Memory}
+use Rattle.code_scope.specs.code_conventions.declared.registers.TheConstants.{CONTENT, FRAME, OBJECT}
+use Rattle.code_scope.specs.paired_code.Machine.{reg, with_reg}
+use Rattle.code_scope.specs.paired_code.Pieces.{Done, Bad}
+use Rattle.code_scope.specs.refine_form.declared.spot.Spot.{Spot}
+use Rattle.code_scope.specs.refine_form.declared.spot.Spot.TheVariants.{Field, Frame}
 use Rattle.register_expressions.specs.Code.{add, sub, xor, addi, xori, andx, orx, sltx, exch, base_of, reach_cells}
 use Rattle.register_expressions.specs.Number.{Bases, address_of}
 use Rattle.register_expressions.proofs.Goes.{Goes, goes_to, goes_cons, goes_xor, goes_add, goes_sub, goes_addi}

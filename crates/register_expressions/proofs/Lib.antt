@@ -1,3 +1,9 @@
+pub use Rattle.code_scope.proofs.rpp_words_laws
+pub use Rattle.code_scope.proofs.meaning_sound_laws
+pub use Rattle.code_scope.proofs.paired_code_laws
+pub use Rattle.code_scope.proofs.refine_frame_laws
+pub use Rattle.code_scope.proofs.refine_form_laws
+pub use Rattle.code_scope.proofs as code_scope_laws
 pub mod Goes
 pub mod Comparing
 pub mod Scratch

@@ -1,4 +1,4 @@
--- What an expression is depends on the words below an address alone, and is a word.
+-- What an expression is depends only on the words below an address, and is a word.
 use Rattle.std.proofs.Common.{◌≡◌, ◌≢◌, ℕ, ◌+◌, ◌^◌, ◌<◌, ◌≤◌, Bool, true, false, List, length, refl, sym, ap, ◌∙◌}
 use Rattle.std.proofs.Common.{subst, arith, ⊎_elim}
 use Rattle.std.specs.Prelude.{slice_index, slice_set, nat_eq, nat_lt, if◌then◌else◌, Result, Ok, Err}
@@ -7,12 +7,12 @@ use Rattle.std.proofs.lemmas.Nat.{xor_lt, or_lt}
 use Rattle.std.proofs.lemmas.List.{get_or-set_same, get_or-set_other, set_past}
 use Rattle.std.proofs.lemmas.Bool.{cases_lt, cases_eq}
 use Rattle.std.proofs.lemmas.Bool.Decides.{nat_tests}
-use Rattle.code_conventions.specs.declared.memory.TheConstants.{HEADER_WORDS}
+use Rattle.code_scope.specs.code_conventions.declared.memory.TheConstants.{HEADER_WORDS}
 use Rattle.rpp_tree.specs.declared.tree.BinOp.{BinOp}
 use Rattle.rpp_tree.specs.declared.tree.BinOp.TheVariants as op
 use Rattle.rpp_tree.specs.Tree.{Expression, Number, Null, Variable, Element, Binary}
-use Rattle.roopl_semantics.specs.Operators.{operated}
-use Rattle.refine_form.specs.declared.spot.Spot.{Spot}
+use Rattle.code_scope.specs.roopl_semantics.Operators.{operated}
+use Rattle.code_scope.specs.refine_form.declared.spot.Spot.{Spot}
 use Rattle.register_expressions.specs.Number.{Bases, element_address, element_at, word_in, combined, word_of, number}
 use Rattle.register_expressions.specs.Number.{IsArray, Sees}
 use Rattle.register_expressions.proofs.Comparing.{truth_small}

@@ -5,18 +5,18 @@ use Rattle.std.proofs.lemmas.Bool.Decides.{nat_tests}
 use Rattle.std.proofs.Common.{◌∙◌, subst, ⊎_elim, arith}
 use Rattle.std.specs.Prelude.{slice_index, slice_set, bit_xor, if◌then◌else◌, Result, Ok, Err}
 use Rattle.std.specs.Int.Bits.{xor_zero_l, xor_assoc}
-use Rattle.rpp_words.specs.Words.{is_less}
-use Rattle.code_conventions.specs.declared.memory.TheConstants.{HEADER_WORDS}
+use Rattle.code_scope.specs.rpp_words.Words.{is_less}
+use Rattle.code_scope.specs.code_conventions.declared.memory.TheConstants.{HEADER_WORDS}
 use Rattle.rpp_tree.specs.declared.tree.BinOp.{BinOp}
 use Rattle.rpp_tree.specs.declared.tree.BinOp.TheVariants as op
 use Rattle.rpp_tree.specs.Tree.{Expression, Number, Null, Variable, Element, Binary}
-use Rattle.pisa_isa.specs.Machine.{Memory}
-use Rattle.paired_code.specs.declared.part.Symbol.{Symbol}
-use Rattle.pisa_isa.specs.Table as table
-use Rattle.code_conventions.specs.declared.registers.TheConstants.{CONTENT, FRAME, NOUGHT, OBJECT, OUTCOME}
-use Rattle.roopl_semantics.specs.Operators.{operated, is_true, truth_word}
-use Rattle.refine_form.specs.declared.spot.Spot.{Spot}
-use Rattle.refine_form.specs.declared.spot.Spot.TheVariants.{Field, Frame}
+use Rattle.code_scope.specs.pisa_isa.Machine.{Memory}
+use Rattle.code_scope.specs.paired_code.declared.part.Symbol.{Symbol}
+use Rattle.code_scope.specs.pisa_isa.Table as table
+use Rattle.code_scope.specs.code_conventions.declared.registers.TheConstants.{CONTENT, FRAME, NOUGHT, OBJECT, OUTCOME}
+use Rattle.code_scope.specs.roopl_semantics.Operators.{operated, is_true, truth_word}
+use Rattle.code_scope.specs.refine_form.declared.spot.Spot.{Spot}
+use Rattle.code_scope.specs.refine_form.declared.spot.Spot.TheVariants.{Field, Frame}
 use Rattle.register_expressions.specs.Code.{xor, around, base_of, reach_cells, part, before, core, exch, copy_cells}
 use Rattle.register_expressions.specs.Code.{nil_check_of, index_check_of, point_of, element_cells, core_cells}
 use Rattle.register_expressions.specs.Code.{truth_cells, told_cells, change_cells, literal_cells, give_cells}
@@ -130,7 +130,7 @@ module _ (spot : List ℕ → Spot) (b : Bases) (zs : List ℕ) where
   number_of at o left right e q = ap (λ z. combined o z (number spot b zs right)) e
       ∙ ap (combined o (Ok (given (number spot b zs left)))) q
 
-  -- where no element is read there is no fault
+  -- if no element is read there is no fault
   pub is_number : (e : Expression) → has_element e ≡ false → Fine e
   is_number (Number at word) h = refl
   is_number (Null at) h = refl
@@ -155,7 +155,7 @@ module _ (spot : List ℕ → Spot) (b : Bases) (zs : List ℕ) where
   zero_is (Element name index) q = absurd (cc)
   zero_is (Binary at o left right) q = absurd (cc)
 
-  -- what tells a truth is that truth
+  -- what determines a truth value is that truth value
   pub own_truth : (e : Expression) → Fine e → is_truth e ≡ true
       → given (number spot b zs e) ≡ truth_word (is_true (given (number spot b zs e)))
   own_truth (Number at word) h t = absurd (cc)
@@ -170,7 +170,7 @@ module _ (spot : List ℕ → Spot) (b : Bases) (zs : List ℕ) where
       → given (number spot b zs e) < 2 ^ 32
   value_word low all e s h = number_word spot b low zs all e s (given (number spot b zs e)) h
 
--- the bases stand there, and the registers of parts from k on, up to one, are 0
+-- the bases are there, and the registers of subexpressions from k on, up to one, are 0
 pub record Free (b : Bases) (k top : ℕ) (f : ℕ → ℕ) : Type 0 where
   pub object_is : f OBJECT ≡ b.object
   pub frame_is : f FRAME ≡ b.frame
@@ -197,7 +197,7 @@ pub record HasElement (arr x : ℕ) (ws : List ℕ) : Type 0 where
   pub below : arr + x + HEADER_WORDS < length ws
 
 module _ (n : ℕ) (b : Bases) (like : List ℕ → Type 0) where
-  -- cells that change registers of parts alone, by what stands in them
+  -- cells that change only registers of subexpressions, by what these hold
   pub record Changes (w : List Symbol) (t k top : ℕ) : Type 0 where
     pub puts : (ℕ → ℕ) → ℕ → ℕ
     pub goes : (f : ℕ → ℕ) → Free b k top f → (zs : List ℕ) → like zs → Goes w t (known n f zs) (known n (puts f) zs)
@@ -265,7 +265,7 @@ module _ (n : ℕ) (b : Bases) (like : List ℕ → Type 0) where
     local = λ f g r q. q;
   }
 
-  -- with cells behind it that leave all as it is
+  -- followed by cells that leave all as it is
   abbrev then_same : {w p : List Symbol} {t u k top : ℕ} → (c : Changes w t k top)
       → ((f : ℕ → ℕ) → Free b k top f → (zs : List ℕ) → like zs
       → Goes p u (known n (c.puts f) zs) (known n (c.puts f) zs)) → Changes (w ++ p) (t + u) k top
@@ -579,7 +579,7 @@ module _ (n : ℕ) (b : Bases) (like : List ℕ → Type 0) where
             (xor_zero_l (operated o x y))
             (both.give o e f (less_free (omega arith) (omega arith) f r) (part k) 0 (omega arith) away zs s)
 
-    -- the truth of a register xored into another
+    -- the truth value of a register xored into another
     pub told_goes : (zs : List ℕ) (g : ℕ → ℕ) (d a z v : ℕ) → d < n → a < n → NOUGHT < n → NOUGHT ≢ d → a ≢ d
         → g NOUGHT ≡ 0
         → g a ≡ v → v < 2 ^ 32
@@ -760,7 +760,7 @@ module _ (n : ℕ) (b : Bases) (like : List ℕ → Type 0) where
             ∙ one.change.low f (part k) (omega arith) ∙ r.clear (part k) (omega arith) (omega arith)
 
     module _ (low : ℕ) (inside : (zs : List ℕ) → like zs → low ≤ length zs) (zs : List ℕ) (all : AllWords zs) where
-      -- what an expression reads is the same: where it reads elements, all is
+      -- what an expression reads is the same: if it reads elements, all is
       abbrev pub Reads : List ℕ → Expression → Type 0
       Reads ws (Number at word) = Unit {0}
       Reads ws (Null at) = Unit {0}

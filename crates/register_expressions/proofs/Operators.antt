@@ -1,14 +1,14 @@
 -- The cells of each operator, from its operands in their registers.
 use Rattle.std.proofs.Common.{◌≡◌, ℕ, ◌^◌, ◌<◌, List, refl, ap, arith}
 use Rattle.std.specs.Prelude.{bit_xor, bit_and, bit_or}
-use Rattle.rpp_words.specs.Words.{is_less, sum_of, difference_of}
+use Rattle.code_scope.specs.rpp_words.Words.{is_less, sum_of, difference_of}
 use Rattle.rpp_tree.specs.declared.tree.BinOp.{BinOp}
 use Rattle.rpp_tree.specs.declared.tree.BinOp.TheVariants as op
-use Rattle.pisa_isa.specs.Table.{word_of}
-use Rattle.pisa_isa.specs.Machine.{Memory}
-use Rattle.code_conventions.specs.declared.registers.TheConstants.{LEFT, LEFT_TRUTH, RIGHT, RIGHT_TRUTH}
-use Rattle.paired_code.specs.Machine.{reg}
-use Rattle.roopl_semantics.specs.Operators.{operated, is_true, truth_word}
+use Rattle.code_scope.specs.pisa_isa.Table.{word_of}
+use Rattle.code_scope.specs.pisa_isa.Machine.{Memory}
+use Rattle.code_scope.specs.code_conventions.declared.registers.TheConstants.{LEFT, LEFT_TRUTH, RIGHT, RIGHT_TRUTH}
+use Rattle.code_scope.specs.paired_code.Machine.{reg}
+use Rattle.code_scope.specs.roopl_semantics.Operators.{operated, is_true, truth_word}
 use Rattle.register_expressions.specs.Code.{truth_cells, operator_cells, operator_result}
 use Rattle.register_expressions.specs.Number.{Bases}
 use Rattle.register_expressions.specs.Steps.{operator_steps}

@@ -2,15 +2,15 @@
 use Rattle.std.proofs.Common.{◌≡◌, ℕ, ◌+◌, ◌^◌, ◌<◌, ◌≤◌, List, [], ◌∷◌, length, length-set, refl, sym, ap, ◌∙◌, arith}
 use Rattle.std.specs.Prelude.{slice_index, slice_set}
 use Rattle.std.proofs.lemmas.List.{get_or-set_same, set-set}
-use Rattle.code_conventions.specs.declared.memory.TheConstants.{HEADER_WORDS}
-use Rattle.paired_code.specs.declared.part.Symbol.{Symbol}
-use Rattle.refine_form.specs.declared.spot.Spot.{Spot}
-use Rattle.refine_form.specs.declared.spot.Spot.TheVariants.{Field, Frame}
+use Rattle.code_scope.specs.code_conventions.declared.memory.TheConstants.{HEADER_WORDS}
+use Rattle.code_scope.specs.paired_code.declared.part.Symbol.{Symbol}
+use Rattle.code_scope.specs.refine_form.declared.spot.Spot.{Spot}
+use Rattle.code_scope.specs.refine_form.declared.spot.Spot.TheVariants.{Field, Frame}
 use Rattle.register_expressions.specs.Code.{xor, xori, around, reach_cells, copy_cells, store_cells}
 use Rattle.register_expressions.specs.Number.{Bases, address_of}
 use Rattle.register_expressions.proofs.Goes.{Goes, goes_cons, goes_around, goes_to, goes_set, goes_addi, goes_exch}
 use Rattle.register_expressions.proofs.Scratch.{Scratch, mem}
-use Rattle.code_conventions.specs.declared.registers.TheConstants.{CONTENT, ITEM, LEFT, OUTCOME, RIGHT, TRUTH}
+use Rattle.code_scope.specs.code_conventions.declared.registers.TheConstants.{CONTENT, ITEM, LEFT, OUTCOME, RIGHT, TRUTH}
 
 -- the registers that have a result
 pub data HasResult : ℕ → Type 0 where
@@ -21,7 +21,7 @@ pub data HasResult : ℕ → Type 0 where
   in_truth : HasResult TRUTH
 
 module _ (b : Bases) where
-  -- the bases while the word of a spot is out: its own stands at the word
+  -- the bases while the word of a storage slot is out: its own is at the word
   abbrev pub moved : Spot → Bases
   moved (Field i) = record b { object = address_of b (Field i) }
   moved (Frame i) = record b { frame = address_of b (Frame i) }

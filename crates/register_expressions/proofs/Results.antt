@@ -2,13 +2,13 @@
 use Rattle.std.proofs.Common.{◌≡◌, ◌≢◌, ℕ, ◌^◌, ◌<◌, inl, inr, List, [], ◌∷◌, refl, sym, ap, ◌∙◌, subst, ⊎_elim, arith}
 use Rattle.std.specs.Prelude.{bit_xor, nat_eq, if◌then◌else◌}
 use Rattle.std.proofs.lemmas.Bool.{cases_eq}
-use Rattle.pisa_isa.specs.Table.{word_of}
-use Rattle.rpp_words.specs.Words.{is_less}
-use Rattle.pisa_isa.specs.Machine.{Memory}
-use Rattle.code_conventions.specs.declared.registers.TheConstants.{AMOUNT, CONTENT, ITEM, LEFT, NOUGHT, OUTCOME, TRUTH}
-use Rattle.paired_code.specs.Machine.{reg}
-use Rattle.paired_code.specs.Pieces.{Done}
-use Rattle.roopl_semantics.specs.Operators.{is_true, truth_word}
+use Rattle.code_scope.specs.pisa_isa.Table.{word_of}
+use Rattle.code_scope.specs.rpp_words.Words.{is_less}
+use Rattle.code_scope.specs.pisa_isa.Machine.{Memory}
+use Rattle.code_scope.specs.code_conventions.declared.registers.TheConstants.{AMOUNT, CONTENT, ITEM, LEFT, NOUGHT, OUTCOME, TRUTH}
+use Rattle.code_scope.specs.paired_code.Machine.{reg}
+use Rattle.code_scope.specs.paired_code.Pieces.{Done}
+use Rattle.code_scope.specs.roopl_semantics.Operators.{is_true, truth_word}
 use Rattle.register_expressions.specs.Code.{Target, xor, truth_cells}
 use Rattle.register_expressions.specs.Number.{Bases}
 use Rattle.register_expressions.proofs.Comparing.{truth_of}
@@ -129,7 +129,7 @@ module _ (b : Bases) where
       (goes_set _ (λ z. mem c f (record s { content = z }) zs) s.truth refl (omega arith) (λ z. refl)
       (λ z. refl))
 
-  -- and its truth
+  -- and its truth value
   truth_by : (r v : ℕ) (put : ℕ → Memory) → v < 2 ^ 32 → Goes
       (Rattle.register_expressions.specs.Code.sltx TRUTH NOUGHT r ∷ []) 1 (put 0)
       (put (word_of (is_less 0 v))) → Goes (Rattle.register_expressions.specs.Code.sltx TRUTH r

@@ -1,6 +1,6 @@
 -- A memory by its registers: those that code of expressions uses, and the others.
 use Rattle.std.proofs.Common.{ℕ, List, [], ◌∷◌}
-use Rattle.pisa_isa.specs.Machine.{Memory}
+use Rattle.code_scope.specs.pisa_isa.Machine.{Memory}
 use Rattle.register_expressions.specs.Number.{Bases}
 
 pub record Scratch : Type 0 where
@@ -19,7 +19,7 @@ pub record Scratch : Type 0 where
   pub second : ℕ
   pub truth : ℕ
 
--- all 0, but for what a statement keeps
+-- all 0, except for what a statement keeps
 abbrev pub keeping : (amount place other : ℕ) → Scratch
 keeping amount place other = record {
   address = 0;

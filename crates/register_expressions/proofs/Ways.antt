@@ -1,9 +1,9 @@
 -- How a number comes from those of its parts.
 use Rattle.std.proofs.Common.{◌≡◌, ◌≢◌, ℕ, ◌+◌, ◌<◌, ◌≤◌, ◌⊎◌, inl, inr, List, refl, sym, ◌∙◌}
 use Rattle.std.specs.Prelude.{slice_index, Result, Ok, Err}
-use Rattle.code_conventions.specs.declared.memory.TheConstants.{HEADER_WORDS}
+use Rattle.code_scope.specs.code_conventions.declared.memory.TheConstants.{HEADER_WORDS}
 use Rattle.rpp_tree.specs.declared.tree.BinOp.{BinOp}
-use Rattle.roopl_semantics.specs.Operators.{operated}
+use Rattle.code_scope.specs.roopl_semantics.Operators.{operated}
 use Rattle.register_expressions.specs.Number.{element_address, element_at, word_in, combined}
 use Rattle.register_expressions.proofs.Numbers.{element_nil, element_inside, element_past, Way, nil, inside, past}
 use Rattle.register_expressions.proofs.Numbers.{way_of}
@@ -52,7 +52,7 @@ module _ (zs : List ℕ) (array : ℕ) where
       record { x = x; index = refl; array_is = n; below = l; at = ok_is (sym s ∙ e) }
   inside_by x a e (past n l) = let s = element_past zs array x n l in absurd (cc)
 
-  -- where an element has an address, it is there
+  -- if an element has an address, it is there
   pub inside_of : (k : Result ℕ ℕ) (a : ℕ) → element_at zs array k ≡ Ok a → IsInside zs array k a
   inside_of (Err d) a e = absurd (cc)
   inside_of (Ok x) a e = inside_by x a e (way_of zs array x)

@@ -1,23 +1,24 @@
--- The cells of words, operators and checks, and of expressions whose parts stand in registers.
+-- The cells of words, operators and checks, and of expressions whose subexpressions are in
+-- registers.
 use Rattle.std.specs.Prelude.{ℕ, ◌+◌, ◌<◌, ◌⊎◌, Bool, true, false, if◌then◌else◌, List, [], ◌∷◌}
 use Rattle.std.specs.Prelude.{◌++◌}
 use Rattle.rpp_tree.specs.declared.tree.BinOp.{BinOp}
 use Rattle.rpp_tree.specs.declared.tree.BinOp.TheVariants as op
-use Rattle.rpp_words.specs.Words.{difference_of}
+use Rattle.code_scope.specs.rpp_words.Words.{difference_of}
 use Rattle.rpp_tree.specs.Tree.{Expression, Number, Null, Variable, Element, Binary}
-use Rattle.pisa_isa.specs.declared.cell.Op.{Op}
-use Rattle.pisa_isa.specs.declared.cell.Op.TheVariants.{Add, Sub, Xor, Addi, Xori, Andx, Orx, Sltx}
-use Rattle.pisa_isa.specs.declared.cell.Op.TheVariants.{Exch}
-use Rattle.code_conventions.specs.declared.registers.TheConstants.{CONTENT, FRAME, LEFT, LEFT_TRUTH}
-use Rattle.code_conventions.specs.declared.registers.TheConstants.{LINK, NOUGHT, OBJECT, OUTCOME}
-use Rattle.code_conventions.specs.declared.registers.TheConstants.{RIGHT, RIGHT_TRUTH, TRUTH}
-use Rattle.paired_code.specs.declared.part.Symbol.{Symbol}
-use Rattle.paired_code.specs.declared.part.Symbol.TheVariants.{Own}
-use Rattle.paired_code.specs.Layout.{mirror_cells, check_equal_cells, check_positive_cells}
-use Rattle.code_conventions.specs.declared.memory.TheConstants.{HEADER_WORDS}
-use Rattle.code_conventions.specs.declared.faults.TheConstants.{NIL, INDEX}
-use Rattle.refine_form.specs.declared.spot.Spot.{Spot}
-use Rattle.refine_form.specs.declared.spot.Spot.TheVariants.{Field, Frame}
+use Rattle.code_scope.specs.pisa_isa.declared.cell.Op.{Op}
+use Rattle.code_scope.specs.pisa_isa.declared.cell.Op.TheVariants.{Add, Sub, Xor, Addi, Xori, Andx, Orx, Sltx}
+use Rattle.code_scope.specs.pisa_isa.declared.cell.Op.TheVariants.{Exch}
+use Rattle.code_scope.specs.code_conventions.declared.registers.TheConstants.{CONTENT, FRAME, LEFT, LEFT_TRUTH}
+use Rattle.code_scope.specs.code_conventions.declared.registers.TheConstants.{LINK, NOUGHT, OBJECT, OUTCOME}
+use Rattle.code_scope.specs.code_conventions.declared.registers.TheConstants.{RIGHT, RIGHT_TRUTH, TRUTH}
+use Rattle.code_scope.specs.paired_code.declared.part.Symbol.{Symbol}
+use Rattle.code_scope.specs.paired_code.declared.part.Symbol.TheVariants.{Own}
+use Rattle.code_scope.specs.paired_code.Layout.{mirror_cells, check_equal_cells, check_positive_cells}
+use Rattle.code_scope.specs.code_conventions.declared.memory.TheConstants.{HEADER_WORDS}
+use Rattle.code_scope.specs.code_conventions.declared.faults.TheConstants.{NIL, INDEX}
+use Rattle.code_scope.specs.refine_form.declared.spot.Spot.{Spot}
+use Rattle.code_scope.specs.refine_form.declared.spot.Spot.TheVariants.{Field, Frame}
 use Rattle.code_scope.specs.Visible.{offset_of}
 use Rattle.register_expressions.specs.declared.held.Kind.{Kind}
 use Rattle.register_expressions.specs.declared.held.Kind.TheVariants.{Changes, Gives, Joins}
@@ -68,7 +69,7 @@ orx d s t = three Orx d s t
 abbrev pub sltx : (d s t : ℕ) → Symbol
 sltx d s t = three Sltx d s t
 
--- a piece between another and its mirror
+-- a fragment between another and its inverse
 abbrev pub around : List Symbol → List Symbol → List Symbol
 around w mid = w ++ (mid ++ mirror_cells w)
 
@@ -78,7 +79,7 @@ abbrev pub base_of : Spot → ℕ
 base_of (Field i) = OBJECT
 base_of (Frame i) = FRAME
 
--- the base goes to a spot, whose word is then in `CONTENT`
+-- the base goes to a storage slot, whose word is then in `CONTENT`
 abbrev pub reach_cells : Spot → List Symbol
 reach_cells s = addi (base_of s) (offset_of s) ∷ exch CONTENT (base_of s) ∷ []
 
@@ -99,7 +100,7 @@ words (Variable name) = 0
 words (Element name index) = 1 + words index
 words (Binary at op left right) = 1 + (words left + words right)
 
--- the truth of register a in register t
+-- the truth value of register a in register t
 abbrev pub truth_cells : (t a : ℕ) → List Symbol
 truth_cells t a = sltx t NOUGHT a ∷ sltx t a NOUGHT ∷ []
 
@@ -135,14 +136,14 @@ operator_result _ = OUTCOME
 
 -- a check that passed leaves its flag 0, so that nothing is to be undone after it
 
--- fault 5 where the array, an address, is nil
+-- fault 5 if the array, an address, is nil
 abbrev pub nil_check_of : (array : ℕ) → List Symbol
 nil_check_of array = check_positive_cells array NIL
 
 abbrev pub nil_check : List Symbol
 nil_check = nil_check_of RIGHT
 
--- fault 9 where the index, without sign, is not below the array's length
+-- fault 9 if the index, without sign, is not below the array's length
 abbrev pub index_check_of : (array index : ℕ) → List Symbol
 index_check_of array index =
     around (exch CONTENT array ∷ []) (sltx OUTCOME index CONTENT
@@ -189,7 +190,7 @@ give_cells op.Equal d a s = sltx d a s ∷ sltx d s a ∷ xori d 1 ∷ []
 give_cells op.NotEqual d a s = sltx d a s ∷ sltx d s a ∷ []
 give_cells _ d a s = []
 
--- what stands before an operator, by the cells that open its operands: whether the right one is a
+-- what comes before an operator, by the cells that open its operands: whether the right one is a
 -- number that needs no register, and whether each is a variable
 abbrev pub before : (z l r : Bool) → (w v : List Symbol) → List Symbol
 before z l r w v = if z then (if l then [] else w)
@@ -202,7 +203,7 @@ core z l r x y a s mid =
     else (if r then around (reach_cells y) (mid a CONTENT)
     else (if l then around (reach_cells x) (mid CONTENT s) else mid a s))
 
--- the truth of what was opened past register k, in that register; a truth is in it already
+-- the truth value of what was opened past register k, in that register; a truth is in it already
 abbrev pub told_cells : Bool → List Symbol → (k : ℕ) → List Symbol
 told_cells true w k = w
 told_cells false w k = w ++ truth_cells (part k) (part (k + 1))
@@ -280,7 +281,7 @@ module _ (spot : List ℕ → Spot) where
   held_value_cells (Variable name) into = copy_cells (spot name.text) into
   held_value_cells e into = around (held_cells e 0) (xor into (part 0) ∷ [])
 
-  -- the truth of a value: that of a variable while its word is out
+  -- the truth value of a value: that of a variable while its word is out
   abbrev pub held_truth_cells : Expression → (into : ℕ) → List Symbol
   held_truth_cells e into = if is_variable e
       then around (reach_cells (spot_in spot e)) (truth_cells into CONTENT)

@@ -1,10 +1,10 @@
--- Expressions with few operators, whose parts stand in registers.
+-- Expressions with few operators, whose subexpressions are in registers.
 use Rattle.std.specs.Prelude.{ℕ, ◌+◌, nat_eq, nat_lt, Bool, true, false, ◌&&◌, ◌||◌, not, List}
 use Rattle.rpp_tree.specs.declared.tree.BinOp.{BinOp}
 use Rattle.rpp_tree.specs.declared.tree.BinOp.TheVariants as op
 use Rattle.rpp_tree.specs.Tree.{Expression, Number, Null, Variable, Element, Binary}
-use Rattle.refine_form.specs.declared.spot.Spot.{Spot}
-use Rattle.refine_form.specs.declared.spot.Spot.TheVariants.{Frame}
+use Rattle.code_scope.specs.refine_form.declared.spot.Spot.{Spot}
+use Rattle.code_scope.specs.refine_form.declared.spot.Spot.TheVariants.{Frame}
 use Rattle.register_expressions.specs.declared.held.Kind.{Kind}
 use Rattle.register_expressions.specs.declared.held.Kind.TheVariants.{Changes, Gives, Joins}
 use Rattle.register_expressions.specs.declared.held.Kind.TheVariants.{Neither}
@@ -43,7 +43,8 @@ abbrev pub is_truth : Expression → Bool
 is_truth (Binary at o left right) = tells o
 is_truth _ = false
 
--- a value that is no truth has a register beside that of its truth, and is opened past it
+-- a value that is no truth value has a register in addition to that of its truth value, and is
+-- opened past it
 abbrev pub beside : Bool → ℕ
 beside true = 0
 beside false = 1
@@ -52,8 +53,8 @@ abbrev pub past : Bool → ℕ → ℕ
 past true k = k
 past false k = k + 1
 
--- how many registers an operator needs beside those of its operands, by whether these are truths:
--- more than there are where its expression is none of these
+-- how many registers an operator needs in addition to those of its operands, by whether these are
+-- truth values: more than there are if its expression is none of these
 abbrev pub own : Kind → (p q : Bool) → ℕ
 own Changes p q = 0
 own Gives p q = 1
@@ -110,17 +111,17 @@ has_element _ = false
 abbrev pub is_opened_once : Expression → Bool
 is_opened_once e = is_held e && not (has_element e)
 
--- where an element changes, its address stays in a register, its index stands above that, and the
--- value above both; neither index nor value reads an element
+-- if an element changes, its address stays in a register, its index is above that, and the value
+-- above both; neither index nor value reads an element
 abbrev pub is_near : (index value : Expression) → Bool
 is_near index value = (nat_lt (2 + need index + need value) 10 && not (has_element value))
     && not (has_element index)
 
--- an element that is swapped with a variable is found once, where its index reads no element
+-- an element that is swapped with a variable is found once, if its index reads no element
 abbrev pub is_near_index : Expression → Bool
 is_near_index index = not (has_element index)
 
--- an operand that is a variable is read where its word is taken out, and needs no register
+-- an operand that is a variable is read if its word is taken out, and needs no register
 abbrev pub is_variable : Expression → Bool
 is_variable (Variable name) = true
 is_variable _ = false

@@ -1,19 +1,19 @@
 -- What a memory has before code of expressions, and what a value does with it.
 use Rattle.std.specs.Prelude.{◌≡◌, ℕ, ◌+◌, ◌^◌, ◌<◌, ◌≤◌, ◌⊎◌, Bool, List, length, slice_index}
 use Rattle.std.specs.Prelude.{bit_xor, Result, Ok, Err}
-use Rattle.pisa_isa.specs.Machine.{Memory}
-use Rattle.code_conventions.specs.declared.registers.TheConstants.{FRAME, OBJECT}
-use Rattle.paired_code.specs.declared.part.Symbol.{Symbol}
-use Rattle.paired_code.specs.Machine.{Image, reg, with_reg}
-use Rattle.paired_code.specs.Pieces.{Done, Trapped, Runs}
-use Rattle.roopl_semantics.specs.Operators.{is_true, truth_word}
+use Rattle.code_scope.specs.pisa_isa.Machine.{Memory}
+use Rattle.code_scope.specs.code_conventions.declared.registers.TheConstants.{FRAME, OBJECT}
+use Rattle.code_scope.specs.paired_code.declared.part.Symbol.{Symbol}
+use Rattle.code_scope.specs.paired_code.Machine.{Image, reg, with_reg}
+use Rattle.code_scope.specs.paired_code.Pieces.{Done, Trapped, Runs}
+use Rattle.code_scope.specs.roopl_semantics.Operators.{is_true, truth_word}
 use Rattle.register_expressions.specs.Number.{Bases}
 
 -- a register that code of expressions uses for itself
 abbrev pub Temporary : ℕ → Type 0
 Temporary r = ((4 < r) × (r < 11)) ⊎ ((15 < r) × (r < 25))
 
--- where the present object and the open frame stand
+-- the addresses of the current object and of the current frame
 abbrev pub bases_of : Memory → Bases
 bases_of m = record { object = reg m OBJECT; frame = reg m FRAME }
 
@@ -33,7 +33,7 @@ Xored into steps m (Ok v) im p d = Runs im p d m
     (Done (with_reg m into (bit_xor (reg m into) v)) steps)
 Xored into steps m (Err c) im p d = (k : ℕ) × (k ≤ steps) × Runs im p d m (Trapped c k)
 
--- the truth of a result
+-- the truth value of a result
 abbrev pub truth_of : Result ℕ ℕ → Result ℕ ℕ
 truth_of (Ok v) = Ok (truth_word (is_true v))
 truth_of (Err c) = Err c

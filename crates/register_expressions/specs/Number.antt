@@ -1,20 +1,20 @@
--- What an expression is, read from a memory alone.
+-- What an expression is, read only from a memory.
 use Rattle.std.specs.Prelude.{◌≡◌, ◌≢◌, ℕ, ◌+◌, ◌^◌, ◌<◌, ◌≤◌, nat_eq, nat_lt, if◌then◌else◌, Bool}
 use Rattle.std.specs.Prelude.{false, ◌||◌, List, slice_index, Result, Ok, Err}
 use Rattle.rpp_tree.specs.declared.tree.BinOp.{BinOp}
 use Rattle.rpp_tree.specs.Tree.{Expression, Number, Null, Variable, Element, Binary, Lvalue, Whole}
 use Rattle.rpp_tree.specs.Tree.{Item}
-use Rattle.code_conventions.specs.declared.memory.TheConstants.{HEADER_WORDS}
-use Rattle.roopl_semantics.specs.Operators.{operated}
-use Rattle.refine_form.specs.declared.spot.Spot.{Spot}
-use Rattle.refine_form.specs.declared.spot.Spot.TheVariants.{Field, Frame}
+use Rattle.code_scope.specs.code_conventions.declared.memory.TheConstants.{HEADER_WORDS}
+use Rattle.code_scope.specs.roopl_semantics.Operators.{operated}
+use Rattle.code_scope.specs.refine_form.declared.spot.Spot.{Spot}
+use Rattle.code_scope.specs.refine_form.declared.spot.Spot.TheVariants.{Field, Frame}
 
--- the addresses of the present object and of the open frame
+-- the addresses of the current object and of the current frame
 pub record Bases : Type 0 where
   pub object : ℕ
   pub frame : ℕ
 
--- the address of a spot
+-- the address of a storage slot
 abbrev pub address_of : Bases → Spot → ℕ
 address_of b (Field i) = b.object + (HEADER_WORDS + i)
 address_of b (Frame i) = b.frame + i
@@ -48,7 +48,7 @@ abbrev pub read_of : Lvalue → Expression
 read_of (Whole name) = Variable name
 read_of (Item name index) = Element name index
 
--- the index of a place; nil where it is no element
+-- the index of a place; nil if it is no element
 abbrev pub index_of : Lvalue → Expression
 index_of (Whole name) = Null 0
 index_of (Item name index) = index
@@ -100,12 +100,12 @@ module _ (spot : List ℕ → Spot) (b : Bases) where
   swap_shares cells left right = shares cells left (index_of left) (index_of right)
       || shares cells right (index_of left) (index_of right)
 
-  -- a word that is nil, or where an array stands, all below an address
+  -- a word that is nil, or the address of an array, all below an address
   pub record IsArray (low : ℕ) (cells : List ℕ) (a : ℕ) : Type 0 where
     pub short : a ≢ 0 → slice_index cells a < 2 ^ 31
     pub room : a ≢ 0 → a + HEADER_WORDS + slice_index cells a ≤ low
 
-  -- all that an expression reads stands below an address, and each number is a word
+  -- all that an expression reads is below an address, and each number is a word
   abbrev pub Sees : ℕ → List ℕ → Expression → Type 0
   Sees low cells (Number at word) = word < 2 ^ 32
   Sees low cells (Null at) = Unit {0}

@@ -1,6 +1,6 @@
-// Single cells as pieces.
+// Single cells as fragments.
 ghost use Rattle.std.specs.Prelude.{◌≡◌, ◌≢◌, ◌<◌, [], ◌∷◌, IfOk};
-ghost use Rattle.paired_code.specs.Code.{unmarked};
+ghost use Rattle.code_scope.specs.paired_code.Code.{unmarked};
 ghost use Rattle.register_expressions.specs.Code.{two as two_of, three as three_of, with_word as with_word_of, around};
 
 use code_conventions::cells;
@@ -115,7 +115,7 @@ pub fn sltx(alloc: Global, d: u8, s: u8, t: u8) -> Result<Piece, NoMemory>
     plain(alloc, cells::sltx(d, s, t))
 }
 
-/// A piece between another and its mirror.
+/// A fragment between another and its inverse.
 pub fn enclosed(alloc: Global, outer: Piece, middle: Piece) -> Result<Piece, NoMemory>
     requires outer { outer.marks ≡ [] }
     requires middle { middle.marks ≡ [] }

@@ -1,7 +1,7 @@
-// Expressions with few operators, whose parts stand in registers.
+// Expressions with few operators, whose subexpressions are in registers.
 ghost use Rattle.std.specs.Prelude.{◌≡◌, ◌≢◌, ◌<◌, ◌≤◌, ◌+◌, ◌*◌, [], ◌∷◌, ◌++◌, ◌^◌, ◌⊎◌, true, false, if◌then◌else◌, IfOk};
 ghost use Rattle.rpp_tree.specs.Views.{expression_of, lvalue_of};
-ghost use Rattle.paired_code.specs.Code.{unmarked};
+ghost use Rattle.code_scope.specs.paired_code.Code.{unmarked};
 ghost use Rattle.register_expressions.specs.Code.{Target, words as words_of, sltx as sltx_cell, xor as xor_cell, xori as xori_cell, exch as exch_cell, around, reach_cells, copy_cells, nil_check_of, index_check_of, point_of, part as part_of, before, core, told_cells, element_cells, operands_cells, core_cells, change_cells, literal_cells, give_cells, held_cells, given_cells, held_value_cells, held_truth_cells, held_test_cells};
 ghost use Rattle.register_expressions.specs.Held.{kind as kind_of, own as own_of, beside as beside_of, past as past_of, need as need_of, told_need as told_need_of, left_at as left_place, right_at as right_place, has_parts as parts_in, is_held as held_of, has_element as element_in, is_opened_once as opened_once, is_near as near_of, is_near_index as near_index, is_variable as variable_of, is_literal as literal_is, literal_in, is_zero as zero_is, spot_in, tells as tells_of, is_truth as truth_is};
 ghost use Rattle.register_expressions.specs.Number.{read_of};
@@ -224,7 +224,7 @@ pub fn is_near(index: &Expr, value: &Expr) -> bool
     2 + need(index) + need(value) < 10 && !has_element(value) && !has_element(index)
 }
 
-/// Whether an element with this index can be found once, where it is swapped with a variable.
+/// Whether an element with this index can be found once, if it is swapped with a variable.
 pub fn is_near_index(index: &Expr) -> bool
     ensures { result ≡ near_index (expression_of index.now) }
 {
@@ -390,7 +390,7 @@ fn give(alloc: Global, op: BinOp, d: u8, a: u8, s: u8) -> Result<Piece, NoMemory
     }
 }
 
-// While the word of a spot is out.
+// While the word of a storage slot is out.
 fn taken(alloc: Global, spot: Spot, middle: Piece) -> Result<Piece, NoMemory>
     requires small { offset_of spot < 2 ^ 32 }
     requires marks { middle.marks ≡ [] }
@@ -549,7 +549,7 @@ fn held_read(alloc: Global, names: &Names, place: &Place, k: u32) -> Result<Piec
     }
 }
 
-// What stands before an operator, by the pieces that open its operands.
+// What comes before an operator, by the fragments that open its operands.
 fn opened(
     alloc: Global,
     zero: bool,
@@ -579,7 +579,7 @@ fn opened(
     seq(first, second)
 }
 
-// The truth of what was opened past register k, in that register.
+// The truth value of what was opened past register k, in that register.
 fn told(alloc: Global, truth_already: bool, value: Piece, k: u32) -> Result<Piece, NoMemory>
     requires marks { value.marks ≡ [] }
     requires few { k + beside_of truth_already < 9 }
@@ -650,7 +650,7 @@ fn right_at(kind: Kind, left: &Expr, right: &Expr, k: u32) -> u32
     }
 }
 
-// What opens the operands of an operator, by their pieces.
+// What opens the operands of an operator, by their fragments.
 fn operands(alloc: Global, e: &Expr, first: Piece, second: Piece, k: u32) -> Result<Piece, NoMemory>
     requires room { words_of (expression_of e.now) ≤ 1000 }
     requires first { first.marks ≡ [] }
@@ -892,7 +892,7 @@ pub fn held_value(alloc: Global, e: &Expr, names: &Names, into: u8) -> Result<Pi
     }
 }
 
-// The truth of a value, where it is a variable while its word is out.
+// The truth value of a value, if it is a variable while its word is out.
 fn held_truth(alloc: Global, e: &Expr, names: &Names, into: u8) -> Result<Piece, NoMemory>
     requires register { Target into }
     requires room { words_of (expression_of e.now) ≤ 1000 }

@@ -1,6 +1,6 @@
 // Words of memory, operators and checks.
 ghost use Rattle.std.specs.Prelude.{◌≡◌, ◌≢◌, ◌<◌, ◌+◌, ◌^◌, [], ◌∷◌, ◌++◌, IfOk};
-ghost use Rattle.paired_code.specs.Code.{unmarked};
+ghost use Rattle.code_scope.specs.paired_code.Code.{unmarked};
 ghost use Rattle.register_expressions.specs.Code.{sltx as sltx_cell, xori as xori_cell, base_of, reach_cells, copy_cells, store_cells, truth_cells as truth_of, operator_cells, operator_result, nil_check as nil_cells, index_check as index_cells, point_cells, nil_check_of as nil_check_cells, index_check_of as index_check_cells, point_of, around, exch as exch_cell, xor as xor_cell};
 ghost use Rattle.code_scope.specs.Visible.{offset_of};
 
@@ -16,7 +16,7 @@ use rpp_tree::tree::BinOp;
 use rpp_words::NoMemory;
 use std::alloc::Global;
 
-/// The register of a spot's base.
+/// The register of a storage slot's base.
 pub fn base(spot: Spot) -> u8
     ensures value { result ≡ base_of spot }
     ensures low { result < 5 }
@@ -27,7 +27,7 @@ pub fn base(spot: Spot) -> u8
     }
 }
 
-/// The offset of a spot.
+/// The offset of a storage slot.
 pub fn offset(spot: Spot) -> u32
     requires { offset_of spot < 2 ^ 32 }
     ensures { result ≡ offset_of spot }
@@ -38,7 +38,7 @@ pub fn offset(spot: Spot) -> u32
     }
 }
 
-/// The base goes to a spot, whose word is then in `CONTENT`.
+/// The base goes to a storage slot, whose word is then in `CONTENT`.
 pub fn reached(alloc: Global, spot: Spot) -> Result<Piece, NoMemory>
     requires { offset_of spot < 2 ^ 32 }
     ensures { IfOk result (λ p. p ≡ unmarked (reach_cells spot)) }
@@ -49,7 +49,7 @@ pub fn reached(alloc: Global, spot: Spot) -> Result<Piece, NoMemory>
     seq(there, word)
 }
 
-/// The word of a spot xored into a register.
+/// The word of a storage slot xored into a register.
 pub fn copy(alloc: Global, spot: Spot, into: u8) -> Result<Piece, NoMemory>
     requires small { offset_of spot < 2 ^ 32 }
     requires register { into < 32 }
@@ -61,7 +61,7 @@ pub fn copy(alloc: Global, spot: Spot, into: u8) -> Result<Piece, NoMemory>
     enclosed(alloc, outer, middle)
 }
 
-/// A register xored into the word of a spot.
+/// A register xored into the word of a storage slot.
 pub fn store(alloc: Global, spot: Spot, from: u8) -> Result<Piece, NoMemory>
     requires small { offset_of spot < 2 ^ 32 }
     requires register { from < 32 }
@@ -73,7 +73,7 @@ pub fn store(alloc: Global, spot: Spot, from: u8) -> Result<Piece, NoMemory>
     enclosed(alloc, outer, middle)
 }
 
-/// The truth of a register in another.
+/// The truth value of a register in another.
 pub fn truth(alloc: Global, into: u8, from: u8) -> Result<Piece, NoMemory>
     requires into { into < 32 }
     requires from { from < 32 }
@@ -239,7 +239,7 @@ fn point_at(alloc: Global, array: u8, at: u8) -> Result<Piece, NoMemory>
     seq(first, second)
 }
 
-// An array behind what opens an index.
+// An array after what opens an index.
 fn with_array(alloc: Global, spot: Spot, index: Piece, array: u8) -> Result<Piece, NoMemory>
     requires small { offset_of spot < 2 ^ 32 }
     requires marks { index.marks ≡ [] }

@@ -19,7 +19,7 @@ refusal_of (error.LocalInOwnExpression at) = refusal.local_in_own_expression at
 refusal_of (error.NotClassType at) = refusal.not_class_type at
 refusal_of error.NoMemory = record { number = 0; at = 0 }
 
--- what a rule answered, with its refusal as number and place
+-- what a rule returned, with its refusal as number and place
 abbrev pub verdict_of : {A : Type 0} → Result A TypeError → Result A Refusal
 verdict_of (Ok value) = Ok value
 verdict_of (Err error) = Err (refusal_of error)

@@ -2,7 +2,7 @@
 use thiserror::Error;
 
 /// Why a program is refused for its types. `at` is a place in bytes from the start of the text:
-/// where nothing else is said, that of the statement.
+/// if nothing else is said, that of the statement.
 #[derive(Debug, Drop, Error)]
 pub enum TypeError {
     /// The name at `at` means nothing.
@@ -11,15 +11,15 @@ pub enum TypeError {
     /// The name at `at` is that of a visible parameter or local.
     #[error("the name at byte {at} is declared already")]
     Redeclared { at: u32 },
-    /// A type is not the one that is wanted. `at` is the statement, operator, expression, argument
-    /// or closing name.
+    /// A type is not the expected one. `at` is the statement, operator, expression, argument or
+    /// closing name.
     #[error("the types at byte {at} do not fit")]
     TypeDiffers { at: u32 },
     /// The variable that is changed occurs in what changes it. `at` is the statement, or the
     /// receiver of a call.
     #[error("what changes at byte {at} occurs in what changes it")]
     SelfUpdate { at: u32 },
-    /// One variable stands for two. `at` is the argument of a call, or the statement.
+    /// One variable is passed for two. `at` is the argument of a call, or the statement.
     #[error("one variable stands for two at byte {at}")]
     SameArgument { at: u32 },
     /// A field is an argument of a call on the same object.

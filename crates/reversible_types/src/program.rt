@@ -105,7 +105,7 @@ pub fn check_all(program: &Program, table: &ClassTable) -> Result<(), TypeError>
     Ok(())
 }
 
-/// The program with its table where every rule accepts it, and else the first refusal in the order
+/// The program with its table if every rule accepts it, and else the first refusal in the order
 /// of the text.
 /// The table must be the program's, as `ClassTable::build` gives it, and the tree must keep the
 /// limits, as the parser's trees do.

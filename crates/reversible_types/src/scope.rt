@@ -9,7 +9,7 @@ use class_table::{ClassTable, Kind};
 use rpp_tree::text::Text;
 use rpp_tree::tree::{Ident, Program, VarType};
 
-/// Where a statement stands: the program and its table, and the class of the method.
+/// The scope of a statement: the program and its table, and the class of the method.
 #[derive(Clone, Copy)]
 pub struct Typing<'a> {
     pub program: &'a Program,

@@ -1,31 +1,31 @@
--- A text is judged in one way.
+-- A text has one result of the check.
 use Rattle.std.proofs.Common.{◌≡◌, ◌∙◌, sym, ap, subst, ℕ, List, length, refl, Some, None, Ok, Err}
 use Rattle.std.specs.Prelude.{Result}
 use Rattle.rpp_tree.specs.Tree.{Source}
-use Rattle.roopl_lexer.specs.declared.token.Token.{Token}
-use Rattle.roopl_lexer.specs.declared.error.LexError.{LexError}
-use Rattle.roopl_lexer.specs.Tokens.{Cut}
-use Rattle.roopl_lexer.proofs.Unique.{one_cut}
+use Rattle.roopl_parser.specs.roopl_lexer.declared.token.Token.{Token}
+use Rattle.roopl_parser.specs.roopl_lexer.declared.error.LexError.{LexError}
+use Rattle.roopl_parser.specs.roopl_lexer.Tokens.{Cut}
+use Rattle.roopl_parser.proofs.roopl_lexer_laws.Unique.{one_cut}
 use Rattle.roopl_parser.specs.declared.error.ParseError.{ParseError}
 use Rattle.roopl_parser.specs.declared.error.ParseError.TheVariants.{Syntax, Limit, NoMemory}
 use Rattle.roopl_parser.specs.Grammar.{Derives}
 use Rattle.roopl_parser.specs.Viable.{first_limit, reading}
 use Rattle.roopl_parser.proofs.Exact.{one_tree, read_all, wrong_read, passed_read}
-use Rattle.class_table.specs.declared.error.ClassError.{ClassError}
-use Rattle.class_table.specs.Program.{IsAccepted, check_program}
-use Rattle.class_table.specs.Refusal.{Refusal}
-use Rattle.class_table.specs.Table.{HasClassTable, first_class_refusal}
+use Rattle.command_plan.specs.class_table.declared.error.ClassError.{ClassError}
+use Rattle.command_plan.specs.class_table.Program.{IsAccepted, check_program}
+use Rattle.command_plan.specs.class_table.Refusal.{Refusal}
+use Rattle.command_plan.specs.class_table.Table.{HasClassTable, first_class_refusal}
 use Rattle.roopl_judge.specs.Errors.{lex_refusal, parse_refusal, class_refusal}
 use Rattle.roopl_judge.specs.Judged.{IsTreeRefusal, IsJudged, no_tokens, no_tree, no_table, no_types, accepted}
 
--- what reading the tokens gives, where they are refused
+-- what reading the tokens gives, if they are refused
 refusal_read : (tokens : List Token) (end : ℕ) (e : ParseError) → IsTreeRefusal tokens end e
     → reading end tokens ≡ Err e
 refusal_read tokens end (Syntax at) h = wrong_read end tokens at h.0 h.1
 refusal_read tokens end (Limit which at) h = passed_read end tokens (Limit which at) h.0
 refusal_read tokens end NoMemory h = absurd h
 
--- ---- the judgement in layers
+-- ---- the check in layers
 
 data OfTable (text : List ℕ) (program : Source) : Result Source Refusal → Type 0 where
   table_refused : (error : ClassError) (refusal : Refusal) → first_class_refusal program (length text) ≡ Some error

@@ -1,17 +1,17 @@
 -- Errors of a source as its refusals.
 use Rattle.std.specs.Prelude.{⊤, Option, Some, None}
-use Rattle.class_table.specs.Refusal.{Refusal}
+use Rattle.command_plan.specs.class_table.Refusal.{Refusal}
 use Rattle.roopl_judge.specs.declared.error.SourceError.{SourceError}
 use Rattle.roopl_judge.specs.declared.error.SourceError.TheVariants.{Refused, NoMemory}
 use Rattle.command_plan.specs.Refusals.{refused}
-use Rattle.roopl_lexer.specs.declared.error.LexError.{LexError}
+use Rattle.roopl_parser.specs.roopl_lexer.declared.error.LexError.{LexError}
 use Rattle.roopl_parser.specs.declared.error.ParseError.{ParseError}
-use Rattle.class_table.specs.declared.error.ClassError.{ClassError}
-use Rattle.roopl_lexer.specs.declared.error.LexError.TheVariants as lex
+use Rattle.command_plan.specs.class_table.declared.error.ClassError.{ClassError}
+use Rattle.roopl_parser.specs.roopl_lexer.declared.error.LexError.TheVariants as lex
 use Rattle.roopl_parser.specs.declared.error.ParseError.TheVariants as parse
-use Rattle.class_table.specs.declared.error.ClassError.TheVariants as class
+use Rattle.command_plan.specs.class_table.declared.error.ClassError.TheVariants as class
 
--- the refusal that an error is; want of memory is none
+-- the refusal that an error is; `NoMemory` is none
 abbrev pub lex_refusal : LexError → Option Refusal
 lex_refusal (lex.BadByte at) = Some (refused 1 at)
 lex_refusal (lex.NumberTooLarge at) = Some (refused 2 at)

@@ -1,19 +1,19 @@
--- How a text is judged: it is a program that every rule accepts, or it has a first refusal.
+-- How a text is checked: it is a program that every rule accepts, or it has a first refusal.
 use Rattle.std.specs.Prelude.{◌≡◌, ◌≢◌, ℕ, List, length, Some, None, Result, Ok, Err}
 use Rattle.rpp_tree.specs.declared.limits.LimitKind.TheVariants.{Tokens}
 use Rattle.rpp_tree.specs.Limits.{IsWithinLimits}
 use Rattle.rpp_tree.specs.Tree.{Source}
-use Rattle.roopl_lexer.specs.declared.token.Token.{Token}
-use Rattle.roopl_lexer.specs.declared.error.LexError.{LexError}
-use Rattle.roopl_lexer.specs.Tokens.{Cut, IsCutting}
+use Rattle.roopl_parser.specs.roopl_lexer.declared.token.Token.{Token}
+use Rattle.roopl_parser.specs.roopl_lexer.declared.error.LexError.{LexError}
+use Rattle.roopl_parser.specs.roopl_lexer.Tokens.{Cut, IsCutting}
 use Rattle.roopl_parser.specs.declared.error.ParseError.{ParseError}
 use Rattle.roopl_parser.specs.declared.error.ParseError.TheVariants.{Syntax, Limit, NoMemory}
 use Rattle.roopl_parser.specs.Grammar.{Derives}
 use Rattle.roopl_parser.specs.Viable.{IsWrongAt, IsReached, first_limit}
-use Rattle.class_table.specs.declared.error.ClassError.{ClassError}
-use Rattle.class_table.specs.Program.{IsAccepted, check_program}
-use Rattle.class_table.specs.Refusal.{Refusal}
-use Rattle.class_table.specs.Table.{HasClassTable, first_class_refusal}
+use Rattle.command_plan.specs.class_table.declared.error.ClassError.{ClassError}
+use Rattle.command_plan.specs.class_table.Program.{IsAccepted, check_program}
+use Rattle.command_plan.specs.class_table.Refusal.{Refusal}
+use Rattle.command_plan.specs.class_table.Table.{HasClassTable, first_class_refusal}
 use Rattle.roopl_judge.specs.Errors.{lex_refusal, parse_refusal, class_refusal}
 
 -- the first refusal of tokens: one of them is wrong and none before it passes a limit, or one
@@ -24,14 +24,14 @@ IsTreeRefusal tokens end (Limit which at) = (first_limit tokens ≡ Some (Limit 
     × (which ≢ Tokens → IsReached tokens at)
 IsTreeRefusal tokens end NoMemory = ⊥
 
--- the tree of a text within the limits
+-- the syntax tree of a text within the limits
 pub record HasTree (text : List ℕ) (tokens : List Token) (program : Source) : Type 0 where
   pub cutting : IsCutting text tokens
   pub derives : Derives tokens program
   pub no_limit : first_limit tokens ≡ None
   pub within : IsWithinLimits program
 
--- a text's tree, whatever its tokens are
+-- a text's syntax tree, whatever its tokens are
 pub record IsTree (text : List ℕ) (program : Source) : Type 0 where
   pub tokens : List Token
   pub tree : HasTree text tokens program

@@ -97,7 +97,7 @@ pub fn of_types(error: TypeError) -> SourceError
         TypeError::RefusedOperator { at } => refused(21, at),
         TypeError::LocalInOwnExpression { at } => refused(22, at),
         TypeError::NotClassType { at } => refused(23, at),
-        // `check` takes no memory, so that it runs out is no answer of its.
+        // `check` takes no memory, so that it runs out is no result of its.
         TypeError::NoMemory => refused(0, 0),
     }
 }

@@ -1,10 +1,10 @@
-// Judges a text: the lexer, the parser, the class table and the types, in this order.
+// Checks a text: the lexer, the parser, the class table and the types, in this order.
 ghost use Rattle.std.specs.Prelude.{◌≡◌, ◌≤◌, length, IfOk, IfErr, OnOk, Ok, Err};
 ghost use Rattle.rpp_tree.specs.declared.limits.TheConstants.{MOST_BYTES};
 ghost use Rattle.rpp_tree.specs.Views.{source_of};
-ghost use Rattle.class_table.specs.Table.{table_of, HasClassTable};
-ghost use Rattle.roopl_lexer.specs.Readable.{AreReadable};
-ghost use Rattle.roopl_lexer.specs.Tokens.{IsCutting};
+ghost use Rattle.command_plan.specs.class_table.Table.{table_of, HasClassTable};
+ghost use Rattle.roopl_parser.specs.roopl_lexer.Readable.{AreReadable};
+ghost use Rattle.roopl_parser.specs.roopl_lexer.Tokens.{IsCutting};
 ghost use Rattle.roopl_judge.specs.Errors.{IfRefused};
 ghost use Rattle.roopl_judge.specs.Judged.{IsTree, IsJudged};
 
@@ -41,7 +41,7 @@ fn cut(alloc: Global, text: &[u8]) -> Result<Vec<Token>, SourceError>
     }
 }
 
-// The tree of a text with these tokens.
+// The syntax tree of a text with these tokens.
 fn tree(alloc: Global, text: &[u8], tokens: &[Token]) -> Result<Program, SourceError>
     requires short { length text.now ≤ MOST_BYTES }
     requires cutting { IsCutting text.now tokens.now }
@@ -55,7 +55,7 @@ fn tree(alloc: Global, text: &[u8], tokens: &[Token]) -> Result<Program, SourceE
     }
 }
 
-// The class table of a text's tree.
+// The class table of a text's syntax tree.
 fn table(alloc: Global, text: &[u8], program: &Program) -> Result<ClassTable, SourceError>
     requires short { length text.now ≤ MOST_BYTES }
     requires tree { IsTree text.now (source_of program.now) }
@@ -69,7 +69,7 @@ fn table(alloc: Global, text: &[u8], program: &Program) -> Result<ClassTable, So
     }
 }
 
-// A text's tree with its table, where the types are accepted.
+// A text's syntax tree with its table, if the types are accepted.
 fn types(_text: &[u8], program: Program, table: ClassTable) -> Result<Checked, SourceError>
     requires tree { IsTree _text.now (source_of program) }
     requires table { table ≡ table_of (source_of program) }

@@ -1,8 +1,8 @@
-// Laws of the judgement of texts, each the contract of a function that does nothing.
+// Laws of the check of texts, each the contract of a function that does nothing.
 ghost use Rattle.roopl_judge.specs.Laws.{OneJudgement};
 
-/// A text is judged in one way: as one program, or with one first refusal. So a refusal comes exactly
-/// where, and with the number and the place with which, the text is judged as refused.
+/// A text has one result of the check: one program, or one first refusal. So a refusal with its
+/// number and offset is reported exactly if the check of the text gives it.
 pub fn one_judgement()
     ensures { OneJudgement }
 {}

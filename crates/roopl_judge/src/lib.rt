@@ -1,6 +1,5 @@
-//! The judgement of a text: the lexer, the parser, the class table and the types in their order.
-//! The layer above may use
-//! `judge` and the law `one_judgement`.
+//! The check of a source: lexer, parser, class table and types in their order. The layer above may
+//! use `judge` and the law `one_judgement`.
 #![tactic(auto)]
 
 mod error;

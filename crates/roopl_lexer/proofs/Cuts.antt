@@ -1,4 +1,4 @@
--- One more part of a text, and the cutting of the rest, are the cutting of both.
+-- One more part of a text, and the tokenization of the rest, are the tokenization of both.
 use Rattle.std.proofs.Common.{◌≡◌, ℕ, ◌+◌, ◌-◌, ◌<◌, ◌≤◌, false, List, [], ◌∷◌, ◌++◌, length, get_or, drop, take, refl}
 use Rattle.std.proofs.Common.{sym, ap, subst, ⊎_elim, arith, take_all, append_assoc, length-drop, drop-drop}
 use Rattle.std.specs.Prelude.{Option, Some, None}
@@ -9,7 +9,7 @@ use Rattle.roopl_lexer.specs.declared.error.LexError.TheVariants.{BadByte, Numbe
 use Rattle.roopl_lexer.specs.Tokens.{is_white, begins_comment, Cut, finish, white, comment, token, bad_byte, too_large}
 use Rattle.roopl_lexer.specs.Begins.{IsBlank, IsTokenAt, IsRefusedAt}
 
--- neither white space nor a comment is at the front
+-- neither white space nor a comment is at the beginning
 pub record NoBlank (rest : List ℕ) : Type 0 where
   pub no_white : is_white (get_or rest 0 0) ≡ false
   pub no_comment : begins_comment rest ≡ false
@@ -59,7 +59,7 @@ refusal_cut at rest (NumberTooLarge place) some none refused other =
     (too_large at rest refused.1.kind refused.1.len none.no_comment refused.1.is_longest refused.1.too_large)
 refusal_cut at rest NoMemory some none refused other = absurd (other refl)
 
--- the tokens so far and the cutting of the rest are the cutting of the text
+-- the tokens so far and the tokenization of the rest are the tokenization of the text
 abbrev pub CutUpTo : List ℕ → List Token → ℕ → Type 0
 CutUpTo text tokens at = (after : List Token) (refusal : Option LexError) → Cut at (drop at text) after refusal
     → Cut 0 text (tokens ++ after) refusal

@@ -12,8 +12,8 @@ use Rattle.roopl_lexer.specs.declared.token.Keyword.{Keyword}
 use Rattle.roopl_lexer.specs.declared.token.TokenKind.TheVariants.{Word, Name, Number, Sign}
 use Rattle.roopl_lexer.specs.Signs.{keyword_bytes, sign_bytes}
 use Rattle.roopl_lexer.specs.Tokens.{IsLongest, is_too_large}
-use Rattle.rpp_words.specs.Texts.{decimal_from}
-use Rattle.rpp_words.specs.Names.{is_name_byte}
+use Rattle.rpp_tree.specs.rpp_words.Texts.{decimal_from}
+use Rattle.rpp_tree.specs.rpp_words.Names.{is_name_byte}
 use Rattle.roopl_lexer.specs.Begins.{IsTokenAt, IsLargeNumber, IsLongestSign}
 use Rattle.roopl_lexer.proofs.Fronts.{letter_name_byte, run_some, word_longest, numeral_longest, run_name, run_numeral}
 use Rattle.roopl_lexer.proofs.Fronts.{sign_longest}

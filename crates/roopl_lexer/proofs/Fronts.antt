@@ -7,7 +7,7 @@ use Rattle.std.specs.Char.{is_ascii_alphabetic, is_ascii_digit}
 use Rattle.std.proofs.lemmas.Bool.Decides.{nat_tests}
 use Rattle.std.proofs.lemmas.List.Elements.{All-from_get_or}
 use Rattle.std.proofs.lemmas.List.Sums.{prefix_len_passes, prefix_len_stops, prefix_len-le-length}
-use Rattle.rpp_words.specs.Names.{is_name_byte}
+use Rattle.rpp_tree.specs.rpp_words.Names.{is_name_byte}
 use Rattle.rpp_tree.specs.Names.{IsName, is_keyword}
 use Rattle.roopl_lexer.specs.declared.token.Symbol.{Symbol}
 use Rattle.roopl_lexer.specs.declared.token.TokenKind.{TokenKind}
@@ -51,7 +51,7 @@ numeral_bytes (Sign sign) bytes spelled digit =
     let same = ap (λ list. is_ascii_digit (get_or list 0 0)) spelled in
     cc
 
--- a token that begins with neither is a sign
+-- a token that begins with neither is a symbol
 pub other_sign : (kind : TokenKind) (bytes : List ℕ) → Spells kind bytes
     → is_ascii_alphabetic (get_or bytes 0 0) ≡ false → is_ascii_digit (get_or bytes 0 0) ≡ false
     → (sign : Symbol) × (bytes ≡ sign_bytes sign)
@@ -119,7 +119,7 @@ numeral_longest kind rest digit spelled = record {
       (numeral_bytes other (take more rest) found (ap is_ascii_digit (first_of_front more rest (omega arith)) ∙ digit));
 }
 
--- the run of name bytes behind a letter is a name, if it is no keyword
+-- the run of name bytes after a letter is a name, if it is no keyword
 pub run_name : (rest : List ℕ) → 0 < length rest → is_ascii_alphabetic (get_or rest 0 0) ≡ true
     → is_keyword (take (prefix_len is_name_byte rest) rest) ≡ false → IsName (take (prefix_len is_name_byte rest) rest)
 run_name rest some letter none =

@@ -1,4 +1,4 @@
--- The tokens of a cutting stand in order, and their names are names.
+-- The tokens of a tokenization are in order, and their names are names.
 use Rattle.std.proofs.Common.{◌≡◌, ℕ, ◌+◌, ◌<◌, ◌≤◌, true, List, [], ◌∷◌, length, get_or, drop, take, ap, subst, arith}
 use Rattle.std.proofs.Common.{zero-add, length-drop, length-take-le}
 use Rattle.std.specs.Prelude.{Option, sum_by}
@@ -15,7 +15,7 @@ use Rattle.roopl_lexer.specs.Tokens.{too_large}
 use Rattle.roopl_lexer.specs.Readable.{IsNamed, name_length, AreReadable, AreInOrder}
 use Rattle.roopl_lexer.proofs.Unique.{longest_some}
 
--- a cutting may be begun further ahead
+-- a tokenization may begin further ahead
 earlier : (before start end : ℕ) (tokens : List Token) → before ≤ start → AreInOrder start tokens end
     → AreInOrder before tokens end
 earlier before start end [] below ordered = omega arith

@@ -1,4 +1,4 @@
--- The longest sign at a front, from the signs of one, two and three bytes.
+-- The longest symbol at a beginning, from the symbols of one, two and three bytes.
 use Rattle.std.proofs.Common.{◌≡◌, ℕ, ◌<◌, ◌≤◌, false, List, [], ◌∷◌, length, get_or, take, refl, sym, ◌∙◌, ap, subst}
 use Rattle.std.proofs.Common.{⊎_elim, arith, length-take-le}
 use Rattle.std.proofs.str.Laws.{order}
@@ -31,21 +31,21 @@ pub sign_short : (sign : Symbol) → length (sign_bytes sign) ≤ 3
 sign_short AddTo = omega arith
 sign_short _ = omega arith
 
--- a sign that is found among those of one number of bytes
+-- a symbol that is found among those of one number of bytes
 abbrev pub Finds : List ℕ → Option Symbol → Type 0
 Finds bytes found = MatchOption found (NoSign bytes) (λ sign. bytes ≡ sign_bytes sign)
 
--- the length of a front that is a sign
+-- the length of a front that is a symbol
 front_length : (rest : List ℕ) (sign : Symbol) (len : ℕ) → len ≤ length rest → take len rest ≡ sign_bytes sign
     → len ≡ length (sign_bytes sign)
 front_length rest sign len within spelled = sym (length-take-le len rest within) ∙ ap length spelled
 
--- a sign of n bytes is found at the front
+-- a symbol of n bytes is found at the beginning
 abbrev pub FindsAt : List ℕ → ℕ → Option Symbol → Type 0
 FindsAt rest n None = n ≤ length rest → NoSign (take n rest)
 FindsAt rest n (Some sign) = (n ≤ length rest) × (take n rest ≡ sign_bytes sign)
 
--- no sign is at the front
+-- no symbol is at the beginning
 longest_none : (rest : List ℕ) → ((len : ℕ) → 0 < len → len ≤ 3 → len ≤ length rest → NoSign (take len rest))
     → IsLongestSign rest None
 longest_none rest none sign len within spelled =
@@ -54,7 +54,7 @@ longest_none rest none sign len within spelled =
     let short = sign_short sign in
     none len (omega arith) (omega arith) within sign spelled
 
--- a sign is at the front, and none of more bytes
+-- a symbol is at the beginning, and none of more bytes
 longest_some : (rest : List ℕ) (sign : Symbol) (n : ℕ) → n ≤ length rest → take n rest ≡ sign_bytes sign
     → ((len : ℕ) → n < len → len ≤ 3 → len ≤ length rest → NoSign (take len rest)) → IsLongestSign rest (Some sign)
 longest_some rest sign n within spelled none =
@@ -69,7 +69,7 @@ longest_some rest sign n within spelled none =
           none len longer (omega arith) inside other found,
     )
 
--- the lengths of signs above one
+-- the lengths of symbols above one
 above_two : (rest : List ℕ) → (3 ≤ length rest → NoSign (take 3 rest)) → (len : ℕ) → 2 < len → len ≤ 3
     → len ≤ length rest → NoSign (take len rest)
 above_two rest none len longer short inside =

@@ -1,4 +1,4 @@
--- A text has one cutting: at each place one constructor fits, and one token is the longest.
+-- A text has one tokenization: at each offset one constructor fits, and one token is the longest.
 use Rattle.std.proofs.Common.{◌≡◌, ℕ, ◌+◌, ◌<◌, ◌≤◌, Bool, true, false, not, List, [], ◌∷◌, length, get_or, drop, take}
 use Rattle.std.proofs.Common.{refl, sym, ◌∙◌, ap, subst, ⊎_elim, arith, length-take-le}
 use Rattle.std.specs.Prelude.{Option}
@@ -179,10 +179,7 @@ comment_no_white [] starts blank = cc
 comment_no_white (a ∷ []) starts blank = cc
 comment_no_white (a ∷ b ∷ rest) starts blank = grind (arith, nat_tests)
 
--- ---- one cutting
-
-abbrev Same : List Token → List Token → Option LexError → Option LexError → Type 0
-Same a b x y = (a ≡ b) × (x ≡ y)
+-- ---- one tokenization
 
 pub one_cut : (at : ℕ) (rest : List ℕ) (a : List Token) (x : Option LexError) (b : List Token) (y : Option LexError)
     → Cut at rest a x → Cut at rest b y → (a ≡ b) × (x ≡ y)

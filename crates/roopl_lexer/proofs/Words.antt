@@ -5,7 +5,7 @@ use Rattle.std.specs.Str.{bytes_eq}
 use Rattle.std.specs.Char.{is_ascii_alphabetic}
 use Rattle.std.proofs.lemmas.Slice.Eq.{bytes_eq-Decides}
 use Rattle.std.proofs.lemmas.List.Sums.{AllPass-from_list_all}
-use Rattle.rpp_words.specs.Names.{is_name_byte}
+use Rattle.rpp_tree.specs.rpp_words.Names.{is_name_byte}
 use Rattle.rpp_tree.specs.Names.{is_keyword, keywords}
 use Rattle.roopl_lexer.specs.declared.token.Keyword.{Keyword}
 use Rattle.roopl_lexer.specs.declared.token.Keyword.TheVariants.{Class, Inherits, Method, Int, Nil, Skip, If, Then}

@@ -10,7 +10,7 @@ use Rattle.roopl_lexer.specs.Signs.{sign_bytes}
 use Rattle.roopl_lexer.specs.Tokens.{is_white, begins_comment, comment_length, Spells, IsLongest}
 use Rattle.roopl_lexer.specs.Tokens.{is_too_large}
 
--- a byte of white space, or a comment, or nothing of them, stands at the front
+-- a byte of white space, or a comment, or nothing of them, comes first
 abbrev pub IsBlank : List ℕ → ℕ → Type 0
 IsBlank rest len = ((len ≡ 1) × (is_white (slice_index rest 0) ≡ true))
     ⊎ ((len ≡ comment_length rest) × (0 < len) × (len ≤ length rest) × (begins_comment rest ≡ true))
@@ -40,11 +40,11 @@ IsRefusedAt at rest (BadByte place) = (place ≡ at) × NoToken rest
 IsRefusedAt at rest (NumberTooLarge place) = (place ≡ at) × IsLargeNumber rest
 IsRefusedAt at rest NoMemory = Unit {0}
 
--- no sign has these bytes
+-- no symbol has these bytes
 abbrev pub NoSign : List ℕ → Type 0
 NoSign bytes = (sign : Symbol) → bytes ≡ sign_bytes sign → ⊥
 
--- the longest sign at the front of the rest, if there is one
+-- the longest symbol at the beginning of the rest, if there is one
 abbrev pub IsLongestSign : List ℕ → Option Symbol → Type 0
 IsLongestSign rest None = (sign : Symbol) (len : ℕ) → len ≤ length rest
     → take len rest ≡ sign_bytes sign → ⊥

@@ -26,7 +26,7 @@ pub record AreReadable (tokens : List Token) : Type 0 where
   pub names : All (λ token. IsNamed token.kind) tokens
   pub name_bytes : sum_by (λ token. name_length token.kind) tokens ≤ MOST_BYTES
 
--- each token has bytes and stands behind the one before, between two places
+-- each token has bytes and comes after the one before, between two offsets
 abbrev pub AreInOrder : ℕ → List Token → ℕ → Type 0
 AreInOrder start [] end = start ≤ end
 AreInOrder start (token ∷ tokens) end = (start ≤ token.at) × (0 < token.len)

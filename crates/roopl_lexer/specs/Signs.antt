@@ -42,7 +42,7 @@ keyword_bytes Uncopy = codes "uncopy"
 keyword_bytes Call = codes "call"
 keyword_bytes Uncall = codes "uncall"
 
--- the bytes of a sign
+-- the bytes of a symbol
 abbrev pub sign_bytes : Symbol → List ℕ
 sign_bytes AddTo = codes "+="
 sign_bytes SubFrom = codes "-="

@@ -4,7 +4,7 @@ use Rattle.std.specs.Prelude.{[], ◌∷◌, length, take, drop, ◌==◌, ◌||
 use Rattle.std.specs.Prelude.{None}
 use Rattle.std.specs.List.{AllPass, position_or_len}
 use Rattle.std.specs.Char.{is_ascii_digit}
-use Rattle.rpp_words.specs.Texts.{decimal_from}
+use Rattle.rpp_tree.specs.rpp_words.Texts.{decimal_from}
 use Rattle.rpp_tree.specs.Names.{IsName}
 use Rattle.roopl_lexer.specs.declared.token.Token.{Token}
 use Rattle.roopl_lexer.specs.declared.token.TokenKind.{TokenKind}
@@ -18,7 +18,7 @@ use Rattle.roopl_lexer.specs.Signs.{keyword_bytes, sign_bytes}
 abbrev pub is_white : ℕ → Bool
 is_white b = b == 32 || b == 9 || b == 10 || b == 13
 
--- whether two slashes stand here
+-- whether two slashes are here
 abbrev pub begins_comment : List ℕ → Bool
 begins_comment [] = false
 begins_comment (a ∷ []) = false
@@ -28,7 +28,7 @@ begins_comment (a ∷ b ∷ rest) = (a == 47) && (b == 47)
 abbrev pub comment_length : List ℕ → ℕ
 comment_length rest = position_or_len (λ b. b == 10) rest
 
--- digits alone, one or more
+-- only digits, one or more
 pub record IsNumeral (bytes : List ℕ) : Type 0 where
   pub some : 0 < length bytes
   pub digits : AllPass is_ascii_digit bytes
@@ -60,7 +60,7 @@ pub record NothingBegins (rest : List ℕ) : Type 0 where
   pub no_comment : begins_comment rest ≡ false
   pub no_token : (kind : TokenKind) (len : ℕ) → len ≤ length rest → Spells kind (take len rest) → ⊥
 
--- the rest of a text, from a place on, is cut into these tokens, up to the first refusal where
+-- the rest of a text, from a place on, is cut into these tokens, up to the first refusal if
 -- there is one
 pub data Cut : (at : ℕ) (rest : List ℕ) (tokens : List Token) (refusal : Option LexError)
     → Type 0 where

@@ -1,4 +1,4 @@
-// What holds of all texts.
+// What holds for all texts.
 ghost use Rattle.std.specs.Prelude.{◌≡◌, ℕ, List, Option};
 ghost use Rattle.roopl_lexer.specs.declared.token.Token.{Token};
 ghost use Rattle.roopl_lexer.specs.declared.error.LexError.{LexError};

@@ -20,13 +20,13 @@ pub fn lex(alloc: Global, text: &[u8]) -> Result<Vec<Token>, LexError>
     requires { length text.now ≤ MOST_BYTES }
     ensures tokens { IfOk result (λ tokens. IsCutting text.now tokens.items) }
 
-    // The tokens stand one behind the other, each within the text.
+    // The tokens come one after the other, each within the text.
     ensures order { IfOk result (λ tokens. AreInOrder 0 tokens.items (length text.now)) }
     ensures within { IfOk result (λ tokens. All (λ token. token.at + token.len ≤ length text.now)
         tokens.items) }
     ensures readable { IfOk result (λ tokens. AreReadable tokens.items) }
 
-    // Where memory does not run out, a refusal is the first one of the text.
+    // If memory does not run out, a refusal is the first one of the text.
     ensures refusal { IfErr result (λ error. error ≢ LexError.NoMemory → IsFirstRefusal text.now error) }
 {
     let mut tokens = Vec::new(alloc);
@@ -45,7 +45,7 @@ pub fn lex(alloc: Global, text: &[u8]) -> Result<Vec<Token>, LexError>
     Ok(tokens)
 }
 
-/// How many bytes of white space or of a comment stand at the front.
+/// How many bytes of white space or of a comment come first.
 fn blank_len(rest: &[u8]) -> usize
     requires { 0 < length rest.now }
     ensures { IsBlank rest.now result }
@@ -113,7 +113,7 @@ fn number_at(rest: &[u8], at: u32) -> Result<Token, LexError>
     }
 }
 
-/// The sign that begins at a byte that begins neither a word nor a number.
+/// The symbol that begins at a byte that begins neither a word nor a number.
 fn sign_at(rest: &[u8], at: u32) -> Result<Token, LexError>
     requires some_bytes { 0 < length rest.now }
     requires no_letter { is_ascii_alphabetic (slice_index rest.now 0) ≡ false }

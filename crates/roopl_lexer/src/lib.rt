@@ -1,5 +1,5 @@
-//! The lexer: a source text is cut into its tokens, the longest at each place, or refused at the first
-//! place where that fails. The layers above use `lex`, its tokens and its errors.
+//! The lexer of source texts. It takes the longest token at each offset, or refuses the text at the
+//! first offset where that fails. The layers above use `lex`, its tokens and its errors.
 #![tactic(auto)]
 
 mod error;

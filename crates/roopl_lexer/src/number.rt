@@ -2,11 +2,11 @@
 ghost use Rattle.std.specs.Prelude.{◌≡◌, ◌<◌, ◌≤◌, MatchOption};
 ghost use Rattle.std.specs.List.{AllPass};
 ghost use Rattle.std.specs.Char.{is_ascii_digit};
-ghost use Rattle.rpp_words.specs.Texts.{decimal_from};
+ghost use Rattle.rpp_tree.specs.rpp_words.Texts.{decimal_from};
 
 use rpp_tree::MOST_NUMBER;
 
-/// The number that these digits write, where it is at most the greatest one.
+/// The number that these digits write, if it is at most the greatest one.
 pub fn number_of(digits: &[u8]) -> Option<u32>
     requires { AllPass is_ascii_digit digits.now }
     ensures { MatchOption result (MOST_NUMBER < decimal_from 0 digits.now)

@@ -1,8 +1,8 @@
-// How long the parts at the front of a text are.
+// How long the parts at the beginning of a text are.
 ghost use Rattle.std.specs.Prelude.{◌≡◌, ◌<◌, ◌≤◌, length, true, false};
 ghost use Rattle.std.specs.List.{prefix_len};
 ghost use Rattle.std.specs.Char.{is_ascii_digit};
-ghost use Rattle.rpp_words.specs.Names.{is_name_byte};
+ghost use Rattle.rpp_tree.specs.rpp_words.Names.{is_name_byte};
 ghost use Rattle.roopl_lexer.specs.Tokens.{is_white, begins_comment, comment_length};
 
 use rpp_words::is_name_byte;
@@ -38,7 +38,7 @@ pub fn comment_len(rest: &[u8]) -> usize
     rest.len()
 }
 
-/// How many bytes at the front belong to a name.
+/// How many bytes at the beginning belong to a name.
 #[tactic(auto, using(std::proofs::lemmas::List::Sums::prefix_len_is))]
 pub fn name_len(rest: &[u8]) -> usize
     ensures length { result ≡ prefix_len is_name_byte rest.now }
@@ -52,7 +52,7 @@ pub fn name_len(rest: &[u8]) -> usize
     rest.len()
 }
 
-/// How many digits stand at the front.
+/// How many digits come first.
 #[tactic(auto, using(std::proofs::lemmas::List::Sums::prefix_len_is))]
 pub fn digits_len(rest: &[u8]) -> usize
     ensures length { result ≡ prefix_len is_ascii_digit rest.now }

@@ -1,11 +1,11 @@
-// The signs.
+// The symbols.
 ghost use Rattle.std.specs.Prelude.{◌≡◌, ◌∷◌, [], length, MatchOption};
 ghost use Rattle.roopl_lexer.specs.Signs.{sign_bytes};
 ghost use Rattle.roopl_lexer.specs.Begins.{NoSign, IsLongestSign};
 
 use crate::token::Symbol;
 
-/// The sign of one byte that this byte is, if it is one.
+/// The symbol of one byte that this byte is, if it is one.
 fn single_sign(a: u8) -> Option<Symbol>
     ensures { MatchOption result (NoSign (a ∷ [])) (λ sign. a ∷ [] ≡ sign_bytes sign) }
 {
@@ -30,7 +30,7 @@ fn single_sign(a: u8) -> Option<Symbol>
     }
 }
 
-/// The sign of two bytes that these are, if they are one.
+/// The symbol of two bytes that these are, if they are one.
 fn double_sign(a: u8, b: u8) -> Option<Symbol>
     ensures { MatchOption result (NoSign (a ∷ b ∷ [])) (λ sign. a ∷ b ∷ [] ≡ sign_bytes sign) }
 {
@@ -48,7 +48,7 @@ fn double_sign(a: u8, b: u8) -> Option<Symbol>
     }
 }
 
-/// The sign of three bytes that these are, if they are one.
+/// The symbol of three bytes that these are, if they are one.
 fn triple_sign(a: u8, b: u8, c: u8) -> Option<Symbol>
     ensures { MatchOption result (NoSign (a ∷ b ∷ c ∷ [])) (λ sign. a ∷ b ∷ c ∷ [] ≡ sign_bytes sign) }
 {
@@ -58,7 +58,7 @@ fn triple_sign(a: u8, b: u8, c: u8) -> Option<Symbol>
     }
 }
 
-/// The longest sign at the front, if there is one.
+/// The longest symbol at the beginning, if there is one.
 pub fn sign_of(rest: &[u8]) -> Option<Symbol>
     ensures { IsLongestSign rest.now result }
 {
@@ -72,7 +72,7 @@ pub fn sign_of(rest: &[u8]) -> Option<Symbol>
     }
 }
 
-/// How many bytes a sign has.
+/// How many bytes a symbol has.
 pub fn sign_len(sign: Symbol) -> u32
     ensures { result ≡ length (sign_bytes sign) }
 {

@@ -1,7 +1,7 @@
 // The tokens of a source text.
 use rpp_tree::Text;
 
-/// A token, and where it stands in the source.
+/// A token, and its offset in the source.
 #[derive(Drop)]
 pub struct Token {
     /// What the token is.
@@ -21,7 +21,7 @@ pub enum TokenKind {
     Name(Text),
     /// A number, at most `MOST_NUMBER`.
     Number(u32),
-    /// A sign of the language.
+    /// A symbol of the language.
     Sign(Symbol),
 }
 
@@ -78,7 +78,7 @@ pub enum Keyword {
     Uncall,
 }
 
-/// The signs of the language.
+/// The symbols of the language.
 #[derive(Clone, Copy, Debug, PartialEq, Eq)]
 pub enum Symbol {
     /// `+=`

@@ -1,4 +1,4 @@
--- What an answer that is the reading says in the terms of the grammar.
+-- What a result that is the reading says in the terms of the grammar.
 use Rattle.std.specs.Prelude.{◌≡◌, ◌≢◌, ◌<◌, ℕ, true, nat_lt, cond, List, [], ◌∷◌, length, drop, slice_index_or, Some}
 use Rattle.std.specs.Prelude.{None, Result, Ok, Err, IfOk, MatchResult, refl}
 use Rattle.std.proofs.Common.{sym, ap, ◌∙◌, lt-ltb}
@@ -20,7 +20,7 @@ use Rattle.roopl_parser.specs.Viable.{IsWrongAt, IsReached, first_limit, place_o
 use Rattle.roopl_parser.proofs.Exact.{read_tree, read_syntax, read_limit, read_all, kept, wrong_read, passed_read}
 use Rattle.roopl_parser.proofs.Parts.{within_limits}
 
--- an answer that is the reading, but for want of memory
+-- a result that is the reading, unless memory runs out
 abbrev pub Reads : ℕ → List Token → Result Program ParseError → Type 0
 Reads end tokens result = MatchResult result (λ b. reading end tokens ≡ Ok (Classes (source_of b).classes))
     (λ e. e ≢ NoMemory → reading end tokens ≡ Err e)

@@ -1,4 +1,4 @@
--- What the grammar derives is read; and where the tree keeps the limits, no token passes one.
+-- What the grammar derives is read; and if the syntax tree keeps the limits, no token passes one.
 use Rattle.std.specs.Prelude.{◌≡◌, ℕ, suc, ◌+◌, ◌<◌, ◌≤◌, max, Bool, true, false, IsTrue, List, [], ◌∷◌, ◌++◌, length}
 use Rattle.std.specs.Prelude.{Option, Some, None, Result, All, cond, nat_eq, nat_lt, refl}
 use Rattle.std.proofs.lemmas.Bool.Decides.{nat_tests}
@@ -76,7 +76,7 @@ no_bracket : (b : Bool) → passed (cond b Within Element) false ≡ None
 no_bracket true = refl
 no_bracket false = refl
 
--- a name alone, and the name of an element
+-- only a name, and the name of an element
 name_room : (n i : ℕ) → n < MOST_NODES → passed (name_mark n i) false ≡ None
 name_room n i h = rw (lt-ltb n MOST_NODES h) (no_bracket (nat_lt i MOST_INDEX_DEPTH))
 
@@ -101,13 +101,13 @@ param_room c b h = rw (lt-ltb c MOST_PARAMETERS h) refl
 class_room : (c : ℕ) (b : Bool) → c < MOST_CLASSES → passed (class_mark c) b ≡ None
 class_room c b h = rw (lt-ltb c MOST_CLASSES h) refl
 
--- ---- what stands behind
+-- ---- what follows
 
 abbrev pub operator_here : ℕ → List Token → Option BinOp
 operator_here k [] = None
 operator_here k (t ∷ ts) = operator_at k t.kind
 
--- no index and no operator of a level below k stands here
+-- no index and no operator of a level below k is here
 abbrev pub Below : ℕ → List Token → Type 0
 Below k ts = (here (is_sign sign.LeftBracket) ts ≡ false) × ((j : ℕ) → j < k → operator_here j ts ≡ None)
 
@@ -372,7 +372,7 @@ module _ (strict : Bool) (end : ℕ) where
         ∙ run_build strict end rest _ (MakeBinary a.at op) (More (suc k) p i ∷ s) _
         ∙ ap (λ m. scan strict end rest m (More (suc k) p i ∷ s) (AnExpr (Binary a.at op l r) ∷ vs)) q)
 
-  -- an expression, and no operator behind it
+  -- an expression, and no operator after it
   pub value_reads : {ts rest : List Token} {e : Expression} (d : IsExpr 9 ts rest e) (p i n : ℕ)
       → (IsTrue strict → p + parens_of d ≤ MOST_PARENS) → (IsTrue strict → n + nodes e ≤ MOST_NODES)
       → (IsTrue strict → i + index_depth e ≤ MOST_INDEX_DEPTH) → Below 10 rest → (s : List Part) (vs : List Value)
@@ -429,7 +429,7 @@ module _ (strict : Bool) (end : ℕ) where
       (scan strict end ts n (Brackets ∷ s) (AType (kind.Class (ident a name)) ∷ vs)) (λ t. refl)
       ∙ bracketed_reads x n b s vs
 
-  -- behind a type: its variable's name
+  -- after a type: its variable's name
   pub named_reads : (a : Span) (name : List ℕ) (rest : List Token) (k : VarType) (n : ℕ) (s : List Part)
       (vs : List Value) → scan strict end (tok a (Name name) ∷ rest) n (var_parts s) (AType k ∷ vs)
       ≡ scan strict end rest n s (AVar (record { kind = k; name = ident a name }) ∷ vs)
@@ -471,7 +471,7 @@ module _ (strict : Bool) (end : ℕ) where
       ∙ more_params_read m n (suc c) (λ t. omega (arith, h t)) s (ys ++ v ∷ []) vs
       ∙ ap (λ l. scan strict end rest n s (Vars l ∷ vs)) (append_assoc ys (v ∷ []) xs)
 
-  -- the first parameter is read as any other, behind none
+  -- the first parameter is read as any other, after none
   pub first_param : {ts rest : List Token} {v : Var} (x : IsVar ts rest v) (n : ℕ) (s : List Part) (vs : List Value)
       → scan strict end ts n (Params ∷ s) vs ≡ scan strict end ts n (Param 0 ∷ MoreParams 1 ∷ s) (Vars [] ∷ vs)
   unfolding scan walk ends

@@ -55,7 +55,7 @@ accepted : (end : ℕ) (ts : List Token) (x : List ClassText) → IsClasses ts [
 accepted end ts x d = classes_read false end d 0 (λ t. absurd (not_true t)) (λ t. absurd (not_true t))
     (λ t. absurd (not_true t)) (refl, refl, refl, (refl, λ j l. refl)) refl refl [] [] [] ∙ ends_here false end x
 
--- two trees of one list of tokens are one
+-- two syntax trees of one list of tokens are one
 pub one_tree : (tokens : List Token) (x y : Source) → Derives tokens x → Derives tokens y → x ≡ y
 one_tree tokens x y d e =
     let p = accepted 0 tokens x.classes d in
@@ -125,7 +125,7 @@ tree_by : (end : ℕ) (ts : List Token) (x : List ClassText) (m : Option ParseEr
 tree_by end ts x None e h = (free_tree end ts x (sym e ∙ h), refl)
 tree_by end ts x (Some l) e h = cc
 
--- what follows where reading gave a tree
+-- what follows if reading gave a syntax tree
 pub read_tree : (end : ℕ) (ts : List Token) (x : Source) → reading end ts ≡ Ok (Classes x.classes)
     → Derives ts x × (first_limit ts ≡ None)
 read_tree end ts x h = tree_by end ts x.classes (first_limit ts) (reading_is end ts) h
@@ -149,7 +149,7 @@ syntax_by : (end : ℕ) (ts : List Token) (at : ℕ) (m : Option ParseError) →
 syntax_by end ts at None never e h = (wrong_at end ts at (sym e ∙ h), refl)
 syntax_by end ts at (Some l) never e h = let same : l ≡ Syntax at = cc in absurd (never (ap Some same))
 
--- what follows where reading gave an error of syntax
+-- what follows if reading gave an error of syntax
 pub read_syntax : (end : ℕ) (ts : List Token) (at : ℕ) → reading end ts ≡ Err (Syntax at)
     → IsWrongAt end ts at × (first_limit ts ≡ None)
 read_syntax end ts at h = syntax_by end ts at (first_limit ts) (not_syntax ts at (nat_lt MOST_TOKENS (length ts)))
@@ -175,7 +175,7 @@ limit_reached : (ts : List Token) (which : LimitKind) (at : ℕ) (b : Bool)
 limit_reached ts which at true h never = let same : which ≡ Tokens = cc in absurd (never same)
 limit_reached ts which at false h never = reached ts which at h
 
--- what follows where reading gave a limit
+-- what follows if reading gave a limit
 pub read_limit : (end : ℕ) (ts : List Token) (which : LimitKind) (at : ℕ) → reading end ts ≡ Err (Limit which at)
     → (first_limit ts ≡ Some (Limit which at)) × (which ≢ Tokens → IsReached ts at)
 read_limit end ts which at h =
@@ -193,7 +193,7 @@ strict_ok : (m : Option ParseError) (strict : Result Value ParseError) (q : Valu
 strict_ok None strict q h = h
 strict_ok (Some e) strict q h = cc
 
--- where no limit is passed, the tree, its tokens and their parentheses keep the limits
+-- if no limit is passed, the syntax tree, its tokens and their parentheses keep the limits
 pub kept : (ts : List Token) (x : Source) (d : Derives ts x) → first_limit ts ≡ None
     → (length ts ≤ MOST_TOKENS) × IsSmall x × (classes_parens d ≤ MOST_PARENS)
 kept ts x d e =
@@ -258,12 +258,12 @@ free_wrong end ts at (Err f) e w =
     let same = one_wrong end ts (place_of end r.rest) at p w in
     ap Err (r.place ∙ ap Syntax same)
 
--- where tokens go wrong and none before passes a limit, reading says so
+-- if tokens go wrong and none before passes a limit, reading says so
 pub wrong_read : (end : ℕ) (ts : List Token) (at : ℕ) → IsWrongAt end ts at → first_limit ts ≡ None
     → reading end ts ≡ Err (Syntax at)
 wrong_read end ts at w e = reading_is end ts ∙ ap (λ m. unless m (scan false end ts 0 start none_yet)) e
     ∙ free_wrong end ts at (scan false end ts 0 start none_yet) refl w
 
--- where a limit is passed first, reading says so
+-- if a limit is passed first, reading says so
 pub passed_read : (end : ℕ) (ts : List Token) (e : ParseError) → first_limit ts ≡ Some e → reading end ts ≡ Err e
 passed_read end ts e h = reading_is end ts ∙ ap (λ m. unless m (scan false end ts 0 start none_yet)) h

@@ -87,8 +87,8 @@ stop_step at t ts n s vs e (Next m n' s' vs') w below h =
           r.dead more q b (subst Q w k);
     }
 
--- where reading without the limits stops: some value is read behind the tokens before, and none
--- with the token
+-- where reading without the limits stops: some value is read after the tokens before, and none with
+-- the token
 pub stop : (at : ℕ) (ts : List Token) (n : ℕ) (s : List Part) (vs : List Value) (e : ParseError)
     → scan false at ts n s vs ≡ Err e → Stop at ts n s vs e
 unfolding scan
@@ -172,7 +172,7 @@ over_step t ts n s vs e Wrong w below h = cc
 over_step t ts n s vs e (Next m n' s' vs') w below h =
     over_mark t ts n s vs e m n' s' vs' (passed m (bracket ts)) w below h
 
--- where a limit is passed first: some value is read behind the tokens up to that one, itself counted
+-- where a limit is passed first: some value is read after the tokens up to that one, itself counted
 pub over : (ts : List Token) (n : ℕ) (s : List Part) (vs : List Value) (e : ParseError) → passes ts n s vs ≡ Some e
     → Over ts s vs e
 unfolding passes

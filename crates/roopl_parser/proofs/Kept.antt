@@ -1,4 +1,4 @@
--- Where reading passes no limit, the tree keeps them.
+-- If reading passes no limit, the syntax tree keeps them.
 use Rattle.std.specs.Prelude.{◌≡◌, ℕ, suc, ◌+◌, ◌<◌, ◌≤◌, max, Bool, true, false, List, [], ◌∷◌, ◌++◌, length, Option}
 use Rattle.std.specs.Prelude.{Some, None, Result, Ok, All, cond, nat_lt, refl}
 use Rattle.std.proofs.lemmas.List.Elements.{All-cons, All-nil}

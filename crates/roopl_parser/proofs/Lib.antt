@@ -1,3 +1,5 @@
+pub use Rattle.rpp_tree.proofs as rpp_tree_laws
+pub use Rattle.roopl_lexer.proofs as roopl_lexer_laws
 pub mod ReadRows
 pub mod Moves
 pub mod Sound

@@ -1,4 +1,4 @@
--- The parts of a tree are those of its tokens.
+-- The parts of a syntax tree are those of its tokens.
 use Rattle.std.proofs.Common.{◌≡◌, ℕ, suc, ◌+◌, ◌<◌, ◌≤◌, List, [], ◌∷◌, ◌++◌, length, flat_map, refl, sym, ◌∙◌, ap}
 use Rattle.std.proofs.Common.{subst, arith, append_assoc, append-nil, Option, Some, None, Bool, true, false, cond}
 use Rattle.std.proofs.Common.{nat_lt, drop, ltb-false}
@@ -28,7 +28,7 @@ use Rattle.roopl_lexer.specs.declared.token.Token.{Token}
 use Rattle.roopl_lexer.specs.declared.token.TokenKind.{TokenKind}
 use Rattle.roopl_lexer.specs.declared.token.TokenKind.TheVariants.{Word, Name, Number, Sign}
 use Rattle.roopl_lexer.specs.declared.token.Keyword.{Keyword}
-use Rattle.roopl_lexer.specs.Readable.{IsNamed, name_length, AreReadable}
+use Rattle.roopl_lexer.specs.Readable.{IsNamed, name_length}
 use Rattle.roopl_lexer.specs.Tokens.{is_too_large, comment_length, IsCutting, Cut, finish, white, comment, token}
 use Rattle.roopl_lexer.specs.Tokens.{bad_byte, too_large}
 use Rattle.roopl_lexer.specs.declared.error.LexError.{LexError}
@@ -151,7 +151,7 @@ module _ (P : ℕ → Type 0) where
   with {ts = ts} {mid = mid} {rest = rest} {ns = ns} {ms = ms} {ps = ps} {qs = qs} {ws = ws} {n = n} {m = m} a b =
       subst (λ us. Parts P ts rest (ns ++ ms) (ps ++ qs) us (n + m)) (append-nil ws) (seq a b)
 
-  -- a token whose place is in the tree
+  -- a token whose place is in the syntax tree
   mark : {t : Token} {ts rest : List Token} {ns : List Ident} {ps ws : List ℕ} {n : ℕ} → Parts P ts rest ns ps ws n
       → Parts P (t ∷ ts) rest (named t ++ ns) (t.at ∷ ps) (numbered t ++ ws) (1 + n)
   mark {t = t} {rest = rest} {ns = ns} {ws = ws} a = record {
@@ -397,7 +397,7 @@ pub numbers_are : (tokens : List Token) (source : Source) → Derives tokens sou
 numbers_are tokens source derives = (source_parts (λ at. Unit {0}) tokens source derives).numbers
     ∙ append-nil (source_numbers source)
 
--- ---- what is known of tokens
+-- ---- what holds for tokens
 
 places_of : (P : ℕ → Type 0) (ts : List Token) → AllByRecursion (λ (t : Token). P t.at) ts
     → AllByRecursion P (token_places ts)
@@ -449,16 +449,6 @@ few_tokens tokens none =
     (few_where (nat_lt MOST_TOKENS (length tokens)) (Limit limit.Tokens (place_of 0 (drop MOST_TOKENS tokens)))
     (passes tokens 0 (Program 0 ∷ []) (Classes [] ∷ [])) none)
 
--- what the lexer promises of the tokens of a text is what a reader of them may be given
-pub readable_tokens : (tokens : List Token) (bytes : ℕ) → bytes ≤ MOST_BYTES → AreReadable tokens
-    → IsReadable tokens bytes
-readable_tokens tokens bytes small readable = record {
-  places = readable.places;
-  names = readable.names;
-  name_bytes = readable.name_bytes;
-  end = small;
-}
-
 -- ---- the number literals
 
 small_first : (kind : TokenKind) (ws : List ℕ) → is_too_large kind ≡ false → AllByRecursion (λ w. w ≤ MOST_NUMBER) ws
@@ -473,7 +463,7 @@ small_of : (ts : List Token) → AllByRecursion (λ (t : Token). is_too_large t.
 small_of [] h = tt
 small_of (t ∷ ts) h = small_first t.kind (token_numbers ts) h.0 (small_of ts h.1)
 
--- where every number token is small enough, every literal is
+-- if every number token is small enough, every literal is
 pub small_numbers : (tokens : List Token) (source : Source) → Derives tokens source → AreSmall tokens
     → All (λ w. w ≤ MOST_NUMBER) (source_numbers source)
 small_numbers tokens source derives small =
@@ -481,7 +471,7 @@ small_numbers tokens source derives small =
     (subst (AllByRecursion (λ w. w ≤ MOST_NUMBER)) (numbers_are tokens source derives)
     (small_of tokens (recursion_from_All (λ (t : Token). is_too_large t.kind ≡ false) tokens small)))
 
--- ---- what is known of the tree
+-- ---- what holds for the syntax tree
 
 pub within_limits : (tokens : List Token) (source : Source) (bytes : ℕ) → Derives tokens source → IsSmall source
     → length tokens ≤ MOST_TOKENS → IsReadable tokens bytes → AreSmall tokens → IsWithinLimits source

@@ -143,7 +143,7 @@ class_from {t} {rest} {x} h d = let P : List Token → Type 0 = λ r. IsClass (t
 last_from : {a : Span} {b rest : List Token} → b ≡ tok a (Sign sign.RightParen) ∷ rest → IsMoreParams b rest []
 last_from {rest} h = let P : List Token → Type 0 = λ r. IsMoreParams r rest [] in subst P (sym h) last_param
 
--- an expression of level k, and what is behind it
+-- an expression of level k, and what follows it
 abbrev pub Goes : ℕ → List Token → List Part → List Value → Value → Type 0
 Goes k from s vs q = (rest : List Token) × (e : Expression) × IsExpr k from rest e × Gen s (AnExpr e ∷ vs) rest q
 
@@ -220,7 +220,7 @@ spot_sound : (s : List Part) (n : ℕ) (vs : List Value) (a : Span) (kind : Toke
 spot_sound s n vs a (token.Name x) ts q g = (g.0, g.1, place g.2, g.3)
 spot_sound s n vs a _ ts q g = absurd g
 
--- a type, and what is behind it
+-- a type, and what follows it
 abbrev pub Typed : List Token → List Part → List Value → Value → Type 0
 Typed ts s vs q = (rest : List Token) × (k : VarType) × IsType ts rest k × Gen s (AType k ∷ vs) rest q
 
@@ -243,7 +243,7 @@ typed_only : (ts : List Token) (s : List Part) (vs : List Value) (q : Value) →
 typed_only ts s vs q (inl r) = r
 typed_only ts s vs q (inr r) = absurd r
 
--- a variable that is added to those before it, and what is behind it
+-- a variable that is added to those before it, and what follows it
 abbrev pub Added : List Token → List Part → List Value → Value → Type 0
 Added ts s vs q = (rest : List Token) × (v : Var) × IsVar ts rest v
     × Gen s (Vars (as_vars (top vs) ++ v ∷ []) ∷ under vs) rest q
@@ -273,7 +273,7 @@ sized_sound s n vs a other (token.Sign sign.LeftBracket) ts q below g = let h = 
     (h.1, Objects (as_name (top vs)) g.1, many (expr_to h.2 g.2), h.3)
 sized_sound s n vs a other kind ts q below g = (tok a kind ∷ ts, Object (as_name (top vs)), one, below g)
 
--- a statement, and what is behind it
+-- a statement, and what follows it
 abbrev pub Runs : List Token → List Part → List Value → Value → Type 0
 Runs ts s vs q = (rest : List Token) × (x : Statement) × IsStatement ts rest x × Gen s (AStatement x ∷ vs) rest q
 
@@ -407,7 +407,7 @@ name_sound : (kind : TokenKind) (a : Span) (n : ℕ) (s : List Part) (vs : List 
 name_sound (token.Name x) a n s vs ts q g = (a, x, ts, refl, g)
 name_sound _ a n s vs ts q g = absurd g
 
--- two blocks and an expression behind their first keyword
+-- two blocks and an expression after their first keyword
 branches_join : (first second third : Keyword) (d l n : ℕ) (ts : List Token) (s : List Part) (vs : List Value)
     (q : Value) → Gen (AWord first ∷ branch_parts second third d l n s) vs ts q
     → Gen (Branches first second third d l ∷ s) vs ts q
@@ -545,7 +545,7 @@ block_behind : (d l : ℕ) (ts mid : List Token) (x : Statement) (s : List Part)
 block_behind d l ts mid x s vs q r (inl g) = (mid, statements_of (x ∷ []), block r end, g)
 block_behind d l ts mid x s vs q r (inr g) = (g.0, statements_of (x ∷ g.1), block r g.2, g.3)
 
--- the first statement of a block, and what is behind it
+-- the first statement of a block, and what follows it
 block_first : (d l : ℕ) (ts : List Token) (s : List Part) (vs : List Value) (q : Value)
     → Runs ts (block_parts d l s) (Many [] ∷ vs) q → Gen (Block d l ∷ s) vs ts q
 block_first d l ts s vs q r = block_behind d l ts r.0 r.1 s vs q r.2 r.3
@@ -611,7 +611,7 @@ class_join c from ts x s vs q d (inr g) =
     let P : List ClassText → Type 0 = λ l. Gen s (Classes l ∷ under vs) g.0 q in
     inr (g.0, x ∷ g.1, classes d g.2, subst P (append_assoc (as_classes (top vs)) (x ∷ []) g.1) g.3)
 
--- the methods of a class, after its fields, and what is behind it
+-- the methods of a class, after its fields, and what follows them
 abbrev pub Ends_class : List Token → Ident → Option Ident → List Var → List Part → List Value → Value → Type 0
 Ends_class ts name p fs s vs q = (rest : List Token) × (ms : List Procedure) × IsMethods ts rest ms
     × Gen s (Classes (as_classes (top vs) ++ record { name = name; parent = p; fields = fs; methods = ms } ∷ [])

@@ -1,14 +1,12 @@
 -- The steps of reading an expression that count.
-use Rattle.std.specs.Prelude.{◌≡◌, ℕ, suc, pred, ◌+◌, ◌-◌, ◌<◌, ◌≤◌, Bool, true, false, cond, List, ◌∷◌, Result, Err}
+use Rattle.std.specs.Prelude.{◌≡◌, ℕ, suc, pred, ◌+◌, ◌-◌, ◌<◌, Bool, true, false, cond, List, ◌∷◌, Result}
 use Rattle.std.specs.Prelude.{Some, nat_lt, refl}
-use Rattle.std.proofs.Common.{sym, ◌∙◌, ap, lt-ltb, le-ltb, add-one}
+use Rattle.std.proofs.Common.{sym, ◌∙◌, ap, lt-ltb, add-one}
 use Rattle.rpp_tree.specs.declared.tree.BinOp.{BinOp}
-use Rattle.rpp_tree.specs.declared.limits.LimitKind.TheVariants as limit
 use Rattle.rpp_tree.specs.declared.limits.TheConstants.{MOST_NODES, MOST_INDEX_DEPTH, MOST_PARENS}
 use Rattle.roopl_lexer.specs.declared.token.Token.{Token}
 use Rattle.roopl_lexer.specs.declared.token.Symbol.TheVariants as sign
 use Rattle.roopl_parser.specs.declared.error.ParseError.{ParseError}
-use Rattle.roopl_parser.specs.declared.error.ParseError.TheVariants.{Limit}
 use Rattle.roopl_parser.specs.Operators.{operator_at}
 use Rattle.roopl_parser.specs.Reader.{Value, Part, Level, More, Build, MakeBinary, Within, Element, node_mark}
 use Rattle.roopl_parser.specs.Reader.{name_mark, parens_mark, passed, stopped, led, more, here, is_sign, walk, scan}
@@ -33,15 +31,10 @@ by_bracket : (i : ℕ) (b : Bool) (at : ℕ) (next : Result Value ParseError) �
 by_bracket i true at next h = let l : i < MOST_INDEX_DEPTH = h refl in rw (lt-ltb i MOST_INDEX_DEPTH l) refl
 by_bracket i false at next h = by_depth (nat_lt i MOST_INDEX_DEPTH) at next
 
--- a name that may have an index where one stands
+-- a name that may have an index if one is there
 pub name_step : (at n i : ℕ) (b : Bool) (next : Result Value ParseError) → n < MOST_NODES
     → (b ≡ true → i < MOST_INDEX_DEPTH) → stopped at (passed (name_mark n i) b) next ≡ next
 name_step at n i b next h g = rw (lt-ltb n MOST_NODES h) (by_bracket i b at next g)
-
--- a name that may have none where one stands
-pub name_over : (at n i : ℕ) (b : Bool) (next : Result Value ParseError) → n < MOST_NODES → b ≡ true
-    → MOST_INDEX_DEPTH ≤ i → stopped at (passed (name_mark n i) b) next ≡ Err (Limit limit.Nodes at)
-name_over at n i b next h e g = rw (lt-ltb n MOST_NODES h, le-ltb i MOST_INDEX_DEPTH g, e) refl
 
 pub more_step : (end : ℕ) (tokens ts : List Token) (t : Token) (n m k p i : ℕ) (op : BinOp) (s : List Part)
     (vs : List Value) → tokens ≡ t ∷ ts → Some op ≡ operator_at k t.kind → n < MOST_NODES → m ≡ suc n

@@ -1,4 +1,4 @@
--- Statements and blocks that keep the limits where they stand: d statements and l locals are round
+-- Statements and blocks that keep the limits at their depth: d statements and l locals enclose
 -- them.
 use Rattle.std.specs.Prelude.{ℕ, ◌+◌, ◌≤◌}
 use Rattle.rpp_tree.specs.Tree.{Statement, Statements, depth, statement_depth}

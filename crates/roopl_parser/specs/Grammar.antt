@@ -50,7 +50,7 @@ mutual
         → operator_at (suc k) kind ≡ Some op → IsExpr k mid rest r
         → IsExpr (suc k) ts rest (Binary a.at op l r)
 
-  -- what stands behind the name of a place
+  -- what follows the name of a place
   pub data IsIndexed : Ident → List Token → List Token → Lvalue → Type 0 where
     whole : {name : Ident} {rest : List Token} → IsIndexed name rest rest (Whole name)
     item : {name : Ident} {a b : Span} {ts rest : List Token} {e : Expression}
@@ -62,7 +62,7 @@ pub data IsPlace : List Token → List Token → Lvalue → Type 0 where
   place : {a : Span} {name : List ℕ} {ts rest : List Token} {p : Lvalue}
       → IsIndexed (ident a name) ts rest p → IsPlace (tok a (Name name) ∷ ts) rest p
 
--- what stands behind the first token of a type
+-- what follows the first token of a type
 pub data IsBracketed : VarType → List Token → List Token → VarType → Type 0 where
   plain : {k : VarType} {rest : List Token} → IsBracketed k rest rest k
   array : {k : VarType} {a b : Span} {rest : List Token}
@@ -82,7 +82,7 @@ pub data IsVar : List Token → List Token → Var → Type 0 where
       → IsType ts (tok a (Name name) ∷ rest) k
       → IsVar ts rest (record { kind = k; name = ident a name })
 
--- what stands behind the class of what is made
+-- what follows the class of what is made
 pub data IsSized : Ident → List Token → List Token → Creation → Type 0 where
   one : {name : Ident} {rest : List Token} → IsSized name rest rest (Object name)
   sized : {name : Ident} {a b : Span} {ts rest : List Token} {e : Expression}
@@ -97,7 +97,7 @@ pub data IsMade : List Token → List Token → Creation → Type 0 where
   named : {a : Span} {name : List ℕ} {ts rest : List Token} {c : Creation}
       → IsSized (ident a name) ts rest c → IsMade (tok a (Name name) ∷ ts) rest c
 
--- the names behind the first of a call, with the parenthesis
+-- the names after the first of a call, with the parenthesis
 pub data IsMoreNames : List Token → List Token → List Ident → Type 0 where
   close : {a : Span} {rest : List Token} → IsMoreNames (tok a (Sign sign.RightParen) ∷ rest) rest []
   comma : {a b : Span} {name : List ℕ} {ts rest : List Token} {xs : List Ident}
@@ -110,7 +110,7 @@ pub data IsNames : List Token → List Token → List Ident → Type 0 where
   some : {a : Span} {name : List ℕ} {ts rest : List Token} {xs : List Ident}
       → IsMoreNames ts rest xs → IsNames (tok a (Name name) ∷ ts) rest (ident a name ∷ xs)
 
--- what stands behind the first name of a call
+-- what follows the first name of a call
 pub data IsTarget : ℕ → Bool → Ident → List Token → List Token → Statement → Type 0 where
   own : {at : ℕ} {back : Bool} {name : Ident} {a : Span} {ts rest : List Token} {xs : List Ident}
       → IsNames ts rest xs → IsTarget at back name (tok a (Sign sign.LeftParen) ∷ ts) rest
@@ -121,7 +121,7 @@ pub data IsTarget : ℕ → Bool → Ident → List Token → List Token → Sta
       ∷ tok c (Sign sign.LeftParen) ∷ mid) p → IsNames mid rest xs
       → IsTarget at back name ts rest (Call at back (Some p) (ident b method) xs)
 
--- what stands behind the place that a statement begins with
+-- what follows the place that a statement begins with
 pub data IsAssigned : ℕ → Lvalue → List Token → List Token → Statement → Type 0 where
   update : {at : ℕ} {p : Lvalue} {a : Span} {kind : TokenKind} {op : UpdateOp}
       {ts rest : List Token} {e : Expression} → update_operator kind ≡ Some op → IsExpr 9 ts rest e
@@ -169,7 +169,7 @@ mutual
     skip : {a : Span} {rest : List Token} → IsStatement (tok a (Word word.Skip) ∷ rest) rest
         (Skip a.at)
 
-  -- two blocks and an expression, each behind its keyword
+  -- two blocks and an expression, each after its keyword
   pub data IsBranches : Keyword → Keyword → Keyword → List Token → List Token → Statements
       → Statements → Expression → Type 0 where
     branches : {a b c : Span} {first second third : Keyword} {ts us vs rest : List Token}
@@ -177,7 +177,7 @@ mutual
         → IsBlock us (tok c (Word third) ∷ vs) other → IsExpr 9 vs rest e
         → IsBranches first second third (tok a (Word first) ∷ ts) rest taken other e
 
-  -- the statements in which a local stands, and its end
+  -- the statements in the scope of a local, and its end
   pub data IsScope : List Token → List Token → Statements → Var → Expression → Type 0 where
     scope : {a b : Span} {ts us vs rest : List Token} {body : Statements} {w : Var} {e : Expression}
         → IsBlock ts (tok a (Word word.Delocal) ∷ us) body
@@ -192,7 +192,7 @@ mutual
     then : {ts mid rest : List Token} {x : Statement} {xs : List Statement} → IsStatement ts mid x
         → IsStatements mid rest xs → IsStatements ts rest (x ∷ xs)
 
--- the parameters behind the first, with the parenthesis
+-- the parameters after the first, with the parenthesis
 pub data IsMoreParams : List Token → List Token → List Var → Type 0 where
   last_param : {a : Span} {rest : List Token} → IsMoreParams (tok a (Sign sign.RightParen) ∷ rest)
       rest []
@@ -238,6 +238,6 @@ pub data IsClasses : List Token → List Token → List ClassText → Type 0 whe
   classes : {ts mid rest : List Token} {x : ClassText} {xs : List ClassText} → IsClass ts mid x
       → IsClasses mid rest xs → IsClasses ts rest (x ∷ xs)
 
--- the tokens are those of a program, and this is its tree
+-- the tokens are those of a program, and this is its syntax tree
 abbrev pub Derives : List Token → Source → Type 0
 Derives tokens source = IsClasses tokens [] source.classes

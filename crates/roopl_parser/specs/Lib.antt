@@ -1,3 +1,6 @@
+pub use Rattle.roopl_lexer.specs.rpp_words
+pub use Rattle.rpp_tree.specs as rpp_tree
+pub use Rattle.roopl_lexer.specs as roopl_lexer
 pub mod Operators
 pub mod Grammar
 pub mod Reader

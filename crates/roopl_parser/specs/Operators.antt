@@ -1,4 +1,4 @@
--- The operators, and where a token stands.
+-- The operators, and the offset of a token.
 use Rattle.std.specs.Prelude.{ℕ, List, Option, Some, None, nat_eq, cond}
 use Rattle.rpp_tree.specs.declared.tree.Ident.{Ident}
 use Rattle.rpp_tree.specs.declared.tree.BinOp.{BinOp}
@@ -10,16 +10,16 @@ use Rattle.roopl_lexer.specs.declared.token.TokenKind.{TokenKind}
 use Rattle.roopl_lexer.specs.declared.token.TokenKind.TheVariants.{Sign}
 use Rattle.roopl_lexer.specs.declared.token.Symbol.TheVariants as sign
 
--- where a token stands, and how long it is
+-- the offset of a token, and its length
 pub record Span : Type 0 where
   pub at : ℕ
   pub len : ℕ
 
--- the token of a kind that stands there
+-- the token of a kind at that offset
 abbrev pub tok : Span → TokenKind → Token
 tok span kind = record { kind = kind; at = span.at; len = span.len }
 
--- the name that stands there
+-- the name at that offset
 abbrev pub ident : Span → List ℕ → Ident
 ident span text = record { at = span.at; text = text }
 

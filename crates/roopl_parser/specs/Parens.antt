@@ -1,5 +1,5 @@
--- How deep parentheses stand in one another, in the tokens of a tree. Indexes go with the
--- parentheses round them.
+-- How deep parentheses are nested in one another, in the tokens of a syntax tree. Indexes go with
+-- the parentheses around them.
 use Rattle.std.specs.Prelude.{ℕ, suc, max, List}
 use Rattle.rpp_tree.specs.declared.tree.Ident.{Ident}
 use Rattle.rpp_tree.specs.declared.tree.Var.{Var}

@@ -1,4 +1,4 @@
--- The reading of tokens, one at a time: what may still follow stands on a stack.
+-- The reading of tokens, one at a time: a stack has what may still follow.
 use Rattle.std.specs.Prelude.{◌≡◌, ◌≢◌, ℕ, suc, pred, Bool, true, false, List, [], ◌∷◌, ◌++◌}
 use Rattle.std.specs.Prelude.{Option, Some, None, Result, Ok, Err, nat_lt, cond}
 use Rattle.std.proofs.Common.{zero}
@@ -80,10 +80,9 @@ pub data Rule : Type 0 where
   MakeMethod : Rule
   MakeClass : Rule
 
--- what is still to come: a token, a symbol of the grammar with its counts, or a rule.
--- Counts: p open parentheses, i indexes round it, d statements round it, l locals round it, c that
--- stand before it;
--- `Count n` sets the count of nodes.
+-- what is still to come: a token, a symbol of the grammar with its counts, or a rule. Counts: p
+-- open parentheses, i indexes around it, d statements around it, l locals around it, c that come
+-- before it; `Count n` sets the count of nodes.
 pub data Part : Type 0 where
   AWord : Keyword → Part
   ASign : Symbol → Part
@@ -115,8 +114,8 @@ pub data Part : Type 0 where
   Procedures : Part
   Program : (c : ℕ) → Part
 
--- what a token does to the counts: none passes its limit, or one does, or the nodes do where `[`
--- stands behind the token
+-- what a token does to the counts: none passes its limit, or one does, or the nodes do if `[`
+-- follows the token
 pub data Mark : Type 0 where
   Within : Mark
   Past : (which : LimitKind) → Mark
@@ -271,14 +270,14 @@ build MakeClass vs =
     } ∷ [])
     ∷ under (under (under (under (under vs))))
 
--- the limits: a count passes its limit where it stands at it already
+-- the limits: a count passes its limit if it is already equal to it
 abbrev pub at_most : ℕ → ℕ → LimitKind → Mark → Mark
 at_most most count which other = cond (nat_lt count most) other (Past which)
 
 abbrev pub node_mark : ℕ → Mark
 node_mark n = at_most MOST_NODES n limit.Nodes Within
 
--- a name is a node too, and where it stands in too many indexes it may have none itself
+-- a name is a node too, and in too many indexes it may have none itself
 abbrev pub name_mark : (n i : ℕ) → Mark
 name_mark n i = at_most MOST_NODES n limit.Nodes (cond (nat_lt i MOST_INDEX_DEPTH) Within Element)
 
@@ -323,7 +322,7 @@ more k p i s n vs at other None = other
 more k p i s n vs at other (Some op) =
     Next (node_mark n) (suc n) (Level (pred k) p i ∷ Build (MakeBinary at op) ∷ More k p i ∷ s) vs
 
--- an index, or nothing: other goes on behind nothing
+-- an index, or nothing: `other` goes on after nothing
 abbrev pub index : (p i : ℕ) → List Part → ℕ → List Value → Step → TokenKind → Step
 index p i s n vs other (token.Sign sign.LeftBracket) =
     Next Within n (Level 9 p (suc i) ∷ ASign sign.RightBracket ∷ Build MakeElement ∷ s) vs
@@ -384,7 +383,7 @@ starts _ = false
 abbrev pub var_parts : List Part → List Part
 var_parts s = AName ∷ Build MakeVar ∷ s
 
--- the first token of a statement with d statements and l locals round it, or other
+-- the first token of a statement with d statements and l locals around it, or other
 abbrev pub statement : (d l : ℕ) → List Part → List Value → ℕ → Step → TokenKind → Step
 statement d l s vs at other (token.Name x) =
     Next (nesting_mark d) 0 (Index 0 0 ∷ Assign at ∷ Count 0 ∷ s)
@@ -417,7 +416,7 @@ statement d l s vs at other (token.Word word.Skip) =
     Next (nesting_mark d) 0 s (AStatement (Skip at) ∷ vs)
 statement d l s vs at other _ = other
 
--- what stands behind the first statement of a block
+-- what follows the first statement of a block
 abbrev pub more_statements : (d l : ℕ) → List Part → List Part
 more_statements d l s = Build AddStatement ∷ Stmts d l ∷ s
 
@@ -428,7 +427,7 @@ block_parts d l s = more_statements d l (Build MakeBlock ∷ s)
 abbrev pub scope_end : ℕ → List Part → List Part
 scope_end n s = AWord word.Delocal ∷ Kind ∷ var_parts (ASign sign.Equal ∷ Count n ∷ Level 9 0 0 ∷ s)
 
--- what stands behind the place that a statement begins with
+-- what follows the place that a statement begins with
 abbrev pub assigned : (at : ℕ) → List Part → ℕ → List Value → Option UpdateOp → Step → Step
 assigned at s n vs (Some op) other = Next Within n (Level 9 0 0 ∷ Build (MakeUpdate at op) ∷ s) vs
 assigned at s n vs None other = other
@@ -437,7 +436,7 @@ abbrev pub swapped : (at : ℕ) → List Part → ℕ → List Value → TokenKi
 swapped at s n vs (token.Sign sign.Swap) = Next Within n (Spot ∷ Build (MakeSwap at) ∷ s) vs
 swapped at s n vs _ = Wrong
 
--- two blocks and an expression, each behind its keyword
+-- two blocks and an expression, each after its keyword
 abbrev pub branch_parts : (second third : Keyword) (d l n : ℕ) → List Part → List Part
 branch_parts second third d l n s =
     Block (suc d) l ∷ AWord second ∷ Block (suc d) l ∷ AWord third ∷ Count n ∷ Level 9 0 0 ∷ s
@@ -557,11 +556,7 @@ is_sign sign.Comma (token.Sign sign.Comma) = true
 is_sign sign.DoubleColon (token.Sign sign.DoubleColon) = true
 is_sign _ _ = false
 
-abbrev pub is_name : TokenKind → Bool
-is_name (token.Name x) = true
-is_name _ = false
-
--- what stands here
+-- what is here
 abbrev pub here : (TokenKind → Bool) → List Token → Bool
 here is [] = false
 here is (t ∷ ts) = is t.kind
@@ -620,7 +615,7 @@ ends end (Procedures ∷ s) vs = ends end s vs
 ends end (Program c ∷ s) vs = ends end s vs
 ends end (_ ∷ s) vs = Err (Syntax end)
 
--- the limit that a token passes, if a `[` stands behind it or not
+-- the limit that a token passes, if a `[` follows it or not
 abbrev pub passed : Mark → Bool → Option LimitKind
 passed Within bracket = None
 passed (Past which) bracket = Some which
@@ -637,14 +632,14 @@ led strict at bracket next Wrong = Err (Syntax at)
 led strict at bracket next (Next mark n s vs) =
     cond strict (stopped at (passed mark bracket) (next n s vs)) (next n s vs)
 
--- what reading gives: the value, or the first token that is wrong or, where the limits count,
+-- what reading gives: the value, or the first token that is wrong or, if the limits count,
 -- passes one
 unfoldable pub scan : Bool → ℕ → List Token → ℕ → List Part → List Value → Result Value ParseError
 scan strict end [] = λ n s vs. ends end s vs
 scan strict end (t ∷ ts) = λ n s vs. led strict t.at (here (is_sign sign.LeftBracket) ts)
     (scan strict end ts) (walk s n vs t)
 
--- a function that returned this has read what stood at the top of the stack
+-- a function that returned this has read what was at the top of the stack
 abbrev pub Gives : {X : Type 0} → Result X ParseError
     → (List Part → List Value → Result Value ParseError)
     → (X → List Part → List Value → Result Value ParseError) → Type 0

@@ -23,7 +23,7 @@ abbrev pub place_of : ℕ → List Token → ℕ
 place_of end [] = end
 place_of end (t ∷ ts) = t.at
 
--- the tokens from a wrong one on may go on otherwise behind it; the end may not
+-- after a wrong token, the tokens may go on otherwise; the end may not
 abbrev pub Behind : List Token → List Token → Type 0
 Behind [] more = more ≡ []
 Behind (t ∷ ts) more = (others : List Token) × (more ≡ t ∷ others)

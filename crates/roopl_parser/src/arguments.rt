@@ -8,7 +8,7 @@ use roopl_lexer::{Symbol, Token, TokenKind};
 use rpp_tree::Ident;
 use std::alloc::Global;
 
-/// Reads the names of a call, behind its parenthesis.
+/// Reads the names of a call, after its parenthesis.
 #[tactic(auto, unfolding(crate::specs::Reader::scan, crate::specs::Reader::walk, crate::specs::Reader::ends))]
 pub fn args<'a>(
     alloc: Global,

@@ -13,7 +13,7 @@ use roopl_lexer::{Keyword, Symbol, Token, TokenKind};
 use rpp_tree::{Expr, Ident, LimitKind, MOST_INDEX_DEPTH, MOST_NODES, MOST_PARENS, Place};
 use std::alloc::Global;
 
-/// One node more. The error is that the statement has no room for it.
+/// One node more. The error is that the statement has no space for it.
 fn counted(nodes: u32, at: u32) -> Result<u32, ParseError>
     ensures { MatchResult result (λ more. (nodes < MOST_NODES) × (more ≡ suc nodes))
         (λ e. (MOST_NODES ≤ nodes) × (e ≡ Limit limit.Nodes at)) }
@@ -74,7 +74,7 @@ fn operand<'a>(
     }
 }
 
-/// Reads the rest of a place whose value is an operand, behind its name.
+/// Reads the rest of a place whose value is an operand, after its name.
 #[cycle(expression)]
 #[tactic(auto, unfolding(crate::specs::Reader::scan, crate::specs::Reader::walk, crate::specs::Reader::ends))]
 fn read<'a>(
@@ -105,7 +105,7 @@ fn read<'a>(
     Ok((Expr::Read(place), more, rest))
 }
 
-/// Reads an expression in parentheses, behind the first at this place.
+/// Reads an expression in parentheses, after the first one.
 #[cycle(expression)]
 #[tactic(auto, unfolding(crate::specs::Reader::scan, crate::specs::Reader::walk, crate::specs::Reader::ends))]
 fn grouped<'a>(

@@ -13,7 +13,7 @@ use roopl_lexer::{Keyword, Symbol, Token, TokenKind};
 use rpp_tree::{Expr, Ident, Made, Place, Var, VarType};
 use std::alloc::Global;
 
-/// Reads the brackets of an array's type, or nothing: whether they stand here.
+/// Reads the brackets of an array's type, or nothing: whether they are here.
 #[tactic(auto, unfolding(crate::specs::Reader::scan, crate::specs::Reader::walk, crate::specs::Reader::ends), using(crate::proofs::MoveSets::kind_moves))]
 fn brackets<'a>(end: u32, tokens: &'a [Token]) -> Result<(bool, &'a [Token]), ParseError>
     ensures gives { (n : ℕ) (k : VarType)
@@ -80,7 +80,7 @@ pub fn variable<'a>(
     Ok((Var { kind, name }, rest))
 }
 
-/// Reads a place, behind this many nodes: with the number of nodes up to its end.
+/// Reads a place, after this many nodes: with the number of nodes up to its end.
 #[tactic(auto, using(crate::proofs::MoveSets::kind_moves))]
 pub fn place<'a>(
     alloc: Global,

@@ -1,6 +1,6 @@
-//! The parser: the tokens of a text are read as the one tree that the grammar gives them, within the
-//! limits, or refused at the first token with which no program begins or that passes a limit. The
-//! layers above use `parse` and its errors.
+//! The parser of token lists. It reads the tokens of a source as the one syntax tree that the
+//! grammar gives them, within the limits. It refuses the first token with which no program begins
+//! or that passes a limit. The layers above use `parse` and its errors.
 #![tactic(auto)]
 
 mod arguments;

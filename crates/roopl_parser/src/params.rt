@@ -10,7 +10,7 @@ use roopl_lexer::{Symbol, Token, TokenKind};
 use rpp_tree::{LimitKind, MOST_PARAMETERS, Var};
 use std::alloc::Global;
 
-/// Reads a parameter behind this many.
+/// Reads a parameter after this many.
 #[tactic(auto, using(crate::proofs::MoveSets::param_moves))]
 fn param<'a>(
     alloc: Global,
@@ -37,7 +37,7 @@ fn param<'a>(
     }
 }
 
-/// Reads the parameters of a method, behind its parenthesis.
+/// Reads the parameters of a method, after its parenthesis.
 #[tactic(auto, using(crate::proofs::MoveSets::param_moves))]
 pub fn params<'a>(
     alloc: Global,

@@ -18,7 +18,7 @@ use roopl_lexer::Token;
 use rpp_tree::{LimitKind, MOST_TOKENS, Program};
 use std::alloc::Global;
 
-/// The tree of the tokens, read by the machine.
+/// The syntax tree of the tokens, read by the machine.
 #[tactic(auto, unfolding(crate::specs::Reader::scan, crate::specs::Reader::walk, crate::specs::Reader::ends))]
 fn whole(alloc: Global, tokens: &[Token], end: u32) -> Result<Program, ParseError>
     ensures reads { MatchResult result (λ b. reading end tokens.now
@@ -38,16 +38,16 @@ fn whole(alloc: Global, tokens: &[Token], end: u32) -> Result<Program, ParseErro
     }
 }
 
-/// The tree of the tokens of a text that has `end` bytes.
+/// The syntax tree of the tokens of a text that has `end` bytes.
 pub fn parse(alloc: Global, tokens: &[Token], end: u32) -> Result<Program, ParseError>
     requires { IsReadable tokens.now end }
-    // What is read is the tree that the grammar gives, and no token passes a limit.
+    // What is read is the syntax tree that the grammar gives, and no token passes a limit.
     ensures tree { IfOk result (λ b. Derives tokens.now (source_of b) × (first_limit tokens.now ≡ None)) }
-    // The tree keeps the limits that a tree shows, where the lexer lets the numbers of the tokens
-    // through.
+    // The syntax tree keeps the limits that a syntax tree shows, if the lexer lets the numbers of
+    // the tokens through.
     ensures limits { AreSmall tokens.now → IfOk result (λ b. IsWithinLimits (source_of b)) }
-    // What the grammar derives and passes no limit is read, unless memory runs out, and as this
-    // tree alone.
+    // What the grammar derives and passes no limit is read, unless memory runs out, and only as
+    // this syntax tree.
     ensures only { (x : Source) → Derives tokens.now x → first_limit tokens.now ≡ None
         → MatchResult result (λ b. source_of b ≡ x) (λ e. e ≡ ParseError.NoMemory) }
     // A syntax error is at the first token with which no program's tokens begin so, and no token

@@ -1,4 +1,4 @@
-// Statements without statements inside them, behind their first token.
+// Statements without statements inside them, after their first token.
 ghost use Rattle.std.specs.Prelude.{◌≡◌, ◌≤◌, ◌<◌, ◌∷◌, ℕ, true, length, IfOk};
 ghost use Rattle.rpp_tree.specs.Views.{statement_of, lvalue_of, creation_of};
 ghost use Rattle.roopl_lexer.specs.declared.token.Symbol.TheVariants as sign;
@@ -13,7 +13,7 @@ use roopl_lexer::{Symbol, Token, TokenKind};
 use rpp_tree::{Ident, LimitKind, MOST_LOCALS, Made, Place, Stmt, VarType};
 use std::alloc::Global;
 
-/// Reads an update or a swap, behind its first name.
+/// Reads an update or a swap, after its first name.
 #[tactic(auto, unfolding(crate::specs::Reader::scan, crate::specs::Reader::walk, crate::specs::Reader::ends), using(crate::proofs::MoveSets::simple_moves))]
 pub fn assignment<'a>(
     alloc: Global,
@@ -31,7 +31,7 @@ pub fn assignment<'a>(
     assigned(alloc, end, rest, nodes, at, left)
 }
 
-/// Reads an update or a swap, behind its first place.
+/// Reads an update or a swap, after its first place.
 #[tactic(auto, unfolding(crate::specs::Reader::scan, crate::specs::Reader::walk, crate::specs::Reader::ends), using(crate::proofs::MoveSets::simple_moves))]
 fn assigned<'a>(
     alloc: Global,
@@ -87,7 +87,7 @@ fn creation<'a>(
     Ok((made, place, nodes, rest))
 }
 
-/// Reads a `new`, behind its keyword.
+/// Reads a `new`, after its keyword.
 #[tactic(auto, using(crate::proofs::MoveSets::simple_moves))]
 pub fn make<'a>(
     alloc: Global,
@@ -104,7 +104,7 @@ pub fn make<'a>(
     Ok((Stmt::New { at, made, place }, rest))
 }
 
-/// Reads a `delete`, behind its keyword.
+/// Reads a `delete`, after its keyword.
 #[tactic(auto, using(crate::proofs::MoveSets::simple_moves))]
 pub fn delete<'a>(
     alloc: Global,
@@ -139,7 +139,7 @@ fn copying<'a>(
     Ok((kind, source, target, nodes, rest))
 }
 
-/// Reads a `copy`, behind its keyword.
+/// Reads a `copy`, after its keyword.
 #[tactic(auto, using(crate::proofs::MoveSets::simple_moves))]
 pub fn copy<'a>(
     alloc: Global,
@@ -162,7 +162,7 @@ pub fn copy<'a>(
     Ok((stmt, rest))
 }
 
-/// Reads an `uncopy`, behind its keyword.
+/// Reads an `uncopy`, after its keyword.
 #[tactic(auto, using(crate::proofs::MoveSets::simple_moves))]
 pub fn uncopy<'a>(
     alloc: Global,
@@ -185,7 +185,7 @@ pub fn uncopy<'a>(
     Ok((stmt, rest))
 }
 
-/// Reads a call on a receiver, behind its first name.
+/// Reads a call on a receiver, after its first name.
 #[tactic(auto, using(crate::proofs::MoveSets::simple_moves))]
 fn send<'a>(
     alloc: Global,
@@ -216,7 +216,7 @@ fn send<'a>(
     Ok((stmt, rest))
 }
 
-/// Reads a call, or a call back, behind its keyword.
+/// Reads a `call`, or an `uncall`, after its keyword.
 #[tactic(auto, unfolding(crate::specs::Reader::scan, crate::specs::Reader::walk, crate::specs::Reader::ends), using(crate::proofs::MoveSets::simple_moves))]
 pub fn call<'a>(
     alloc: Global,
@@ -235,7 +235,7 @@ pub fn call<'a>(
     target(alloc, end, rest, at, back, locals, first)
 }
 
-/// Reads a call behind its first name.
+/// Reads a call after its first name.
 #[tactic(auto, unfolding(crate::specs::Reader::scan, crate::specs::Reader::walk, crate::specs::Reader::ends), using(crate::proofs::MoveSets::simple_moves))]
 fn target<'a>(
     alloc: Global,
@@ -271,7 +271,7 @@ fn target<'a>(
     }
 }
 
-/// Reads a call on the same object, behind its parenthesis.
+/// Reads a call on the same object, after its parenthesis.
 #[tactic(auto, using(crate::proofs::MoveSets::simple_moves))]
 fn own_call<'a>(
     alloc: Global,

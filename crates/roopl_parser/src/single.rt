@@ -21,7 +21,7 @@ pub fn next(tokens: &[Token]) -> Option<(&Token, &[Token])>
     }
 }
 
-/// Reads a sign.
+/// Reads a symbol.
 #[tactic(auto, unfolding(crate::specs::Reader::scan, crate::specs::Reader::walk, crate::specs::Reader::ends))]
 pub fn sign<'a>(end: u32, tokens: &'a [Token], wanted: Symbol) -> Result<&'a [Token], ParseError>
     ensures gives { (n : ℕ) → Gives result
@@ -181,7 +181,7 @@ pub fn update_operator(kind: &TokenKind) -> Option<UpdateOp>
     }
 }
 
-/// Whether a `[` stands here.
+/// Whether a `[` is here.
 pub fn bracket_here(tokens: &[Token]) -> bool
     ensures { result ≡ here (is_sign sign.LeftBracket) tokens.now }
 {
@@ -191,7 +191,7 @@ pub fn bracket_here(tokens: &[Token]) -> bool
     }
 }
 
-/// Whether a `)` stands here.
+/// Whether a `)` is here.
 pub fn paren_here(tokens: &[Token]) -> bool
     ensures { result ≡ here (is_sign sign.RightParen) tokens.now }
 {
@@ -201,7 +201,7 @@ pub fn paren_here(tokens: &[Token]) -> bool
     }
 }
 
-/// Whether this keyword stands here.
+/// Whether this keyword is here.
 pub fn word_here(tokens: &[Token], wanted: Keyword) -> bool
     ensures { result ≡ here (is_word wanted) tokens.now }
 {

@@ -15,7 +15,7 @@ use roopl_lexer::{Keyword, Symbol, Token, TokenKind};
 use rpp_tree::{Block, Expr, Ident, LimitKind, MOST_LOCALS, MOST_NESTING, Stmt, Var};
 use std::alloc::Global;
 
-/// The first token of a statement and the others, where it passes no limit.
+/// The first token of a statement and the others, if it passes no limit.
 #[tactic(auto, unfolding(crate::specs::Reader::scan, crate::specs::Reader::walk, crate::specs::Reader::ends), using(crate::proofs::MoveSets::statement_moves))]
 fn beginning<'a>(
     end: u32,
@@ -55,7 +55,7 @@ fn beginning<'a>(
     }
 }
 
-/// Reads a statement with this many statements and locals round it.
+/// Reads a statement with this many statements and locals around it.
 #[cycle(statement)]
 #[tactic(auto, unfolding(crate::specs::Reader::scan, crate::specs::Reader::walk, crate::specs::Reader::ends), using(crate::proofs::MoveSets::statement_moves))]
 fn single<'a>(
@@ -92,7 +92,7 @@ fn single<'a>(
     }
 }
 
-/// Reads two blocks and an expression, each behind its keyword: behind this many nodes.
+/// Reads two blocks and an expression, each after its keyword: after this many nodes.
 #[cycle(statement)]
 #[tactic(auto, using(crate::proofs::MoveSets::statement_moves))]
 fn branches<'a>(
@@ -122,7 +122,7 @@ fn branches<'a>(
     Ok((taken, other, after, nodes, rest))
 }
 
-/// Reads a conditional, behind its `if`.
+/// Reads a conditional, after its `if`.
 #[cycle(statement)]
 #[tactic(auto, using(crate::proofs::MoveSets::statement_moves))]
 fn conditional<'a>(
@@ -162,7 +162,7 @@ fn conditional<'a>(
     Ok((stmt, rest))
 }
 
-/// Reads a repetition, behind its `from`.
+/// Reads a loop, after its `from`.
 #[cycle(statement)]
 #[tactic(auto, using(crate::proofs::MoveSets::statement_moves))]
 fn repeated<'a>(
@@ -202,7 +202,7 @@ fn repeated<'a>(
     Ok((stmt, rest))
 }
 
-/// Reads the making of an object for a block, behind its `construct`.
+/// Reads the making of an object for a block, after its `construct`.
 #[cycle(statement)]
 #[tactic(auto, using(crate::proofs::MoveSets::statement_moves))]
 fn construct<'a>(
@@ -236,7 +236,7 @@ fn construct<'a>(
     Ok((stmt, rest))
 }
 
-/// Reads the block in which a local stands and the local's end, behind this many nodes.
+/// Reads the block in the scope of a local and the local's end, after this many nodes.
 #[cycle(statement)]
 #[tactic(auto, using(crate::proofs::MoveSets::statement_moves))]
 fn scope<'a>(
@@ -262,7 +262,7 @@ fn scope<'a>(
     Ok((body, end_var, end_value, nodes, rest))
 }
 
-/// Reads a local for a block, behind its `local`.
+/// Reads a local for a block, after its `local`.
 #[cycle(statement)]
 #[tactic(auto, using(crate::proofs::MoveSets::statement_moves))]
 fn local<'a>(
@@ -296,7 +296,7 @@ fn local<'a>(
     Ok((stmt, rest))
 }
 
-/// Reads a block with this many statements and locals round it.
+/// Reads a block with this many statements and locals around it.
 #[cycle(statement)]
 #[tactic(auto, using(crate::proofs::MoveSets::statement_moves))]
 pub fn block<'a>(

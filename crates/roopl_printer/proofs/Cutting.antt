@@ -10,19 +10,19 @@ use Rattle.std.proofs.lemmas.Fmt.{decimal_by_steps}
 use Rattle.std.proofs.lemmas.List.{take_at, drop_at, get_or_at}
 use Rattle.rpp_tree.specs.Tree.{Source}
 use Rattle.rpp_tree.specs.Names.{IsName}
-use Rattle.roopl_lexer.specs.declared.token.Keyword.{Keyword}
-use Rattle.roopl_lexer.specs.declared.token.Keyword.TheVariants as word
-use Rattle.roopl_lexer.specs.declared.token.Symbol.{Symbol}
-use Rattle.roopl_lexer.specs.declared.token.Symbol.TheVariants as sign
-use Rattle.roopl_lexer.specs.declared.token.Token.{Token}
-use Rattle.roopl_lexer.specs.declared.token.TokenKind.{TokenKind}
-use Rattle.roopl_lexer.specs.declared.token.TokenKind.TheVariants.{Word, Name, Number, Sign}
+use Rattle.roopl_parser.specs.roopl_lexer.declared.token.Keyword.{Keyword}
+use Rattle.roopl_parser.specs.roopl_lexer.declared.token.Keyword.TheVariants as word
+use Rattle.roopl_parser.specs.roopl_lexer.declared.token.Symbol.{Symbol}
+use Rattle.roopl_parser.specs.roopl_lexer.declared.token.Symbol.TheVariants as sign
+use Rattle.roopl_parser.specs.roopl_lexer.declared.token.Token.{Token}
+use Rattle.roopl_parser.specs.roopl_lexer.declared.token.TokenKind.{TokenKind}
+use Rattle.roopl_parser.specs.roopl_lexer.declared.token.TokenKind.TheVariants.{Word, Name, Number, Sign}
 use Rattle.rpp_tree.specs.declared.limits.TheConstants.{MOST_NUMBER}
-use Rattle.roopl_lexer.specs.Signs.{keyword_bytes, sign_bytes}
-use Rattle.roopl_lexer.specs.Tokens.{is_white, begins_comment, Spells, IsLongest, is_too_large, Cut, finish, white}
-use Rattle.roopl_lexer.specs.Tokens.{token, IsCutting}
-use Rattle.rpp_words.specs.Texts.{decimal_from}
-use Rattle.rpp_words.specs.Names.{is_name_byte}
+use Rattle.roopl_parser.specs.roopl_lexer.Signs.{keyword_bytes, sign_bytes}
+use Rattle.roopl_parser.specs.roopl_lexer.Tokens.{is_white, begins_comment, Spells, IsLongest, is_too_large, Cut, finish, white}
+use Rattle.roopl_parser.specs.roopl_lexer.Tokens.{token, IsCutting}
+use Rattle.roopl_parser.specs.rpp_words.Texts.{decimal_from}
+use Rattle.roopl_parser.specs.rpp_words.Names.{is_name_byte}
 use Rattle.roopl_printer.specs.Printable.{IsPrintable}
 use Rattle.roopl_printer.specs.Printed.{Printed, kind_bytes, gap, with_gaps, text_of}
 use Rattle.roopl_printer.specs.Spelled.{spelled, printed}
@@ -35,9 +35,6 @@ visible_no_white b h = grind (arith, nat_tests)
 
 digit_no_white : (b : ℕ) → is_ascii_digit b ≡ true → is_white b ≡ false
 digit_no_white b h = grind (arith, nat_tests)
-
-letter_no_white : (b : ℕ) → is_ascii_alphabetic b ≡ true → is_white b ≡ false
-letter_no_white b h = grind (arith, nat_tests)
 
 name_no_white : (b : ℕ) → is_name_byte b ≡ true → is_white b ≡ false
 name_no_white b h = grind (arith, nat_tests)
@@ -150,7 +147,7 @@ module _ (w : ℕ) (more : List ℕ) (blank : is_white w ≡ true) where
 
 -- ---- the tokens of a text
 
--- the tokens where they stand: one byte is between two of them
+-- the tokens at their offsets: one byte is between two of them
 abbrev pub laid : ℕ → List Printed → List Token
 laid at [] = []
 laid at (t ∷ ts) = record { kind = t.kind; at = at; len = length (kind_bytes t.kind) }
@@ -171,7 +168,7 @@ gap_white false = refl
 abbrev Printables : List Printed → Type 0
 Printables ts = AllByRecursion (λ t. IsPrintable t.kind) ts
 
--- what stands behind a token begins with white space
+-- what follows a token begins with white space
 abbrev BeginsWhite : List ℕ → Type 0
 BeginsWhite bytes = (w : ℕ) × (more : List ℕ) × (bytes ≡ w ∷ more) × (is_white w ≡ true)
 

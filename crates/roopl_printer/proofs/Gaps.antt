@@ -1,4 +1,4 @@
--- The bytes of tokens that stand one behind the other.
+-- The bytes of tokens that come one after the other.
 use Rattle.std.proofs.Common.{◌≡◌, ℕ, List, [], ◌∷◌, ◌++◌, refl, sym, ap, ◌∙◌, append_assoc, codes}
 use Rattle.std.specs.List.{flat_map}
 use Rattle.std.proofs.lemmas.List.{append-nil}
@@ -28,7 +28,7 @@ both {a} {xs = xs} {ys = ys} first then = record {
       ∙ ap (λ l. a ++ l) (sym (with_gaps-append xs ys));
 }
 
--- a statement's tokens are added where those of its plain statement are
+-- a statement's tokens are added if those of its plain statement are
 pub adds_statement : {a b : List ℕ} {plain : Statement} (s : Stmt) → statement_of s ≡ plain
     → Adds a (spelled_statement plain) b → b ≡ a ++ with_gaps (spelled_statement (statement_of s))
 adds_statement {a} s same added = added.by ∙ ap (λ p. a ++ with_gaps (spelled_statement p)) (sym same)
@@ -36,12 +36,13 @@ adds_statement {a} s same added = added.by ∙ ap (λ p. a ++ with_gaps (spelled
 line_by_line : (k g f s : List ℕ) → 10 ∷ f ≡ s ++ 10 ∷ [] → k ++ g ++ 10 ∷ [] ++ f ≡ k ++ (g ++ s) ++ 10 ∷ []
 line_by_line k g f s h = simp append_assoc (ap (λ l. k ++ (g ++ l)) h)
 
--- the tokens of a class behind its first word
+-- the tokens of a class after its first word
 abbrev class_rest : ClassText → List Printed
 class_rest class = a_name class.name ∷ spelled_parent class.parent ++ flat_map spelled_var class.fields
     ++ flat_map spelled_method class.methods
 
--- a line feed, and the texts of classes, are their tokens with what stands before each, and a line feed
+-- a line feed, and the texts of classes, are their tokens with what comes before each, and a line
+-- feed
 fresh_classes : (classes : List ClassText) → 10 ∷ flat_map (λ class. text_of (spelled_class class)) classes
     ≡ with_gaps (flat_map spelled_class classes) ++ 10 ∷ []
 fresh_classes [] = refl

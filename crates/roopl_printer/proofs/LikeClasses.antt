@@ -8,8 +8,8 @@ use Rattle.rpp_tree.specs.declared.limits.TheConstants.{MOST_NODES}
 use Rattle.rpp_tree.specs.Tree.{Procedure, ClassText}
 use Rattle.rpp_tree.specs.Bare.{bare_var, bare_procedure, bare_parent, bare_class}
 use Rattle.rpp_tree.specs.Limits.{IsSmallMethod}
-use Rattle.roopl_lexer.specs.declared.token.Token.{Token}
-use Rattle.roopl_lexer.specs.declared.token.Symbol.TheVariants as sign
+use Rattle.roopl_parser.specs.roopl_lexer.declared.token.Token.{Token}
+use Rattle.roopl_parser.specs.roopl_lexer.declared.token.Symbol.TheVariants as sign
 use Rattle.roopl_parser.specs.Operators.{ident}
 use Rattle.roopl_parser.specs.Grammar as grammar
 use Rattle.roopl_parser.specs.Grammar.{IsMethod, IsMethods, IsFields, IsParent, IsClass, IsClasses}

@@ -7,9 +7,9 @@ use Rattle.rpp_tree.specs.declared.tree.BinOp.TheVariants as op
 use Rattle.rpp_tree.specs.Tree.{Expression, Number, Null, Variable, Element, Binary, Lvalue, Whole, Item, nodes}
 use Rattle.rpp_tree.specs.Tree.{index_nodes}
 use Rattle.rpp_tree.specs.Bare.{bare_name, bare_expression, bare_lvalue}
-use Rattle.roopl_lexer.specs.declared.token.Token.{Token}
-use Rattle.roopl_lexer.specs.declared.token.TokenKind.TheVariants as token
-use Rattle.roopl_lexer.specs.declared.token.Symbol.TheVariants as sign
+use Rattle.roopl_parser.specs.roopl_lexer.declared.token.Token.{Token}
+use Rattle.roopl_parser.specs.roopl_lexer.declared.token.TokenKind.TheVariants as token
+use Rattle.roopl_parser.specs.roopl_lexer.declared.token.Symbol.TheVariants as sign
 use Rattle.roopl_parser.specs.Operators.{Span, tok, ident, operator_at}
 use Rattle.roopl_parser.specs.Grammar.{IsExpr, number, null, read, parens, weaker, binary, IsIndexed, whole, item}
 use Rattle.roopl_parser.specs.Grammar.{IsPlace, place}
@@ -163,7 +163,7 @@ element_like name index inner _ rest (next {a = a} {ts = ts} looks) =
       flat = omega arith;
     }
 
--- the operator and what stands behind it
+-- the operator and what follows it
 operator_like : (at : ℕ) (op : BinOp) (l r : Expression) → Operand r → (ts mid rest : List Token)
     → LikeExpr 0 l (1 + nodes l) ts mid → Looks (a_sign (operator op) ∷ operand r (spelled_expression r)) mid rest
     → LikeExpr 9 (Binary at op l r) (nodes (Binary at op l r)) ts rest
@@ -232,7 +232,7 @@ expression_like e = (both_like e).1
 
 -- ---- places
 
--- what stands behind the name of a place
+-- what follows the name of a place
 pub record LikeIndexed (found : Ident) (p : Lvalue) (ts rest : List Token) : Type 0 where
   pub tree : Lvalue
   pub derived : IsIndexed found ts rest tree

@@ -7,10 +7,10 @@ use Rattle.rpp_tree.specs.declared.tree.VarType.{VarType}
 use Rattle.rpp_tree.specs.declared.tree.VarType.TheVariants as type
 use Rattle.rpp_tree.specs.Tree.{Expression, Creation, Object, Ints, Objects, nodes, creation_nodes}
 use Rattle.rpp_tree.specs.Bare.{bare_name, bare_type, bare_var, bare_creation}
-use Rattle.roopl_lexer.specs.declared.token.Token.{Token}
-use Rattle.roopl_lexer.specs.declared.token.TokenKind.TheVariants as token
-use Rattle.roopl_lexer.specs.declared.token.Keyword.TheVariants as word
-use Rattle.roopl_lexer.specs.declared.token.Symbol.TheVariants as sign
+use Rattle.roopl_parser.specs.roopl_lexer.declared.token.Token.{Token}
+use Rattle.roopl_parser.specs.roopl_lexer.declared.token.TokenKind.TheVariants as token
+use Rattle.roopl_parser.specs.roopl_lexer.declared.token.Keyword.TheVariants as word
+use Rattle.roopl_parser.specs.roopl_lexer.declared.token.Symbol.TheVariants as sign
 use Rattle.roopl_parser.specs.Operators.{Span, tok, ident}
 use Rattle.roopl_parser.specs.Grammar.{IsType, ints, objects, plain, array, IsVar, var, IsMade, words, named, one}
 use Rattle.roopl_parser.specs.Grammar.{sized, IsMoreNames, close, comma, IsNames, none as no_names, some, IsMoreParams}
@@ -94,7 +94,7 @@ made_like (Objects class length) _ rest (next {a = a} (next {a = b} {ts = ts} lo
     let p = parted (spelled_expression length) (a_sign sign.RightBracket ∷ []) looks in
     objects_made class length a b ts p.mid rest (expression_like length ts p.mid p.front) p.back
 
--- ---- names, with the parenthesis behind them
+-- ---- names, with the parenthesis after them
 
 record LikeMoreNames (names : List Ident) (ts rest : List Token) : Type 0 where
   trees : List Ident
@@ -129,7 +129,7 @@ names_like (name ∷ names) _ rest (next {a = a} {ts = ts} looks) =
       alike = ap (λ l. bare_name name ∷ l) like.alike;
     }
 
--- ---- parameters, with the parenthesis behind them
+-- ---- parameters, with the parenthesis after them
 
 record LikeMoreParams (vars : List Var) (ts rest : List Token) : Type 0 where
   trees : List Var

@@ -11,11 +11,11 @@ use Rattle.rpp_tree.specs.Tree.{New, Delete, Copy, Uncopy, Call, Skip, End, Then
 use Rattle.rpp_tree.specs.Bare.{bare_name, bare_var, bare_expression, bare_statement, bare}
 use Rattle.rpp_tree.specs.Limits.{IsSmallStatement, AreSmall, AreInnerSmall}
 use Rattle.rpp_tree.specs.Views.{statements_of}
-use Rattle.roopl_lexer.specs.declared.token.Token.{Token}
-use Rattle.roopl_lexer.specs.declared.token.TokenKind.TheVariants as token
-use Rattle.roopl_lexer.specs.declared.token.Keyword.{Keyword}
-use Rattle.roopl_lexer.specs.declared.token.Keyword.TheVariants as word
-use Rattle.roopl_lexer.specs.declared.token.Symbol.TheVariants as sign
+use Rattle.roopl_parser.specs.roopl_lexer.declared.token.Token.{Token}
+use Rattle.roopl_parser.specs.roopl_lexer.declared.token.TokenKind.TheVariants as token
+use Rattle.roopl_parser.specs.roopl_lexer.declared.token.Keyword.{Keyword}
+use Rattle.roopl_parser.specs.roopl_lexer.declared.token.Keyword.TheVariants as word
+use Rattle.roopl_parser.specs.roopl_lexer.declared.token.Symbol.TheVariants as sign
 use Rattle.roopl_parser.specs.Operators.{Span, tok, ident, update_operator}
 use Rattle.roopl_parser.specs.Grammar as grammar
 use Rattle.roopl_parser.specs.Grammar.{IsExpr, IsVar, IsStatement, IsBranches, IsBlock, IsStatements}

@@ -1,17 +1,17 @@
 -- Tokens that look like printed ones.
 use Rattle.std.proofs.Common.{ℕ, ◌+◌, List, [], ◌∷◌, ◌++◌, length, subst, append_assoc}
-use Rattle.roopl_lexer.specs.declared.token.Token.{Token}
+use Rattle.roopl_parser.specs.roopl_lexer.declared.token.Token.{Token}
 use Rattle.roopl_parser.specs.Operators.{Span, tok}
 use Rattle.roopl_printer.specs.Printed.{Printed, kind_bytes}
 use Rattle.roopl_printer.proofs.Cutting.{laid}
 
--- the tokens are of the kinds of these printed ones, and then the rest stands
+-- the tokens are of the kinds of these printed ones, and then the rest follows
 pub data Looks : List Printed → List Token → List Token → Type 0 where
   none : {rest : List Token} → Looks [] rest rest
   next : {p : Printed} {ps : List Printed} {a : Span} {ts rest : List Token} → Looks ps ts rest
       → Looks (p ∷ ps) (tok a p.kind ∷ ts) rest
 
--- what looks like two lists, one behind the other
+-- what looks like two lists, one after the other
 pub record Parted (xs ys : List Printed) (ts rest : List Token) : Type 0 where
   pub mid : List Token
   pub front : Looks xs ts mid

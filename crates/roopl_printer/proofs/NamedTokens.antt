@@ -1,4 +1,5 @@
--- What holds of the words, the signs, the numbers and the names of a program holds of its printed tokens.
+-- What holds for the words, the signs, the numbers and the names of a program holds for its printed
+-- tokens.
 use Rattle.std.proofs.Common.{ℕ, List, [], ◌∷◌, ◌++◌, Option, Some, None}
 use Rattle.std.specs.List.{flat_map, AllByRecursion}
 use Rattle.rpp_tree.specs.declared.tree.Ident.{Ident}
@@ -10,12 +11,12 @@ use Rattle.rpp_tree.specs.Tree.{Object, Ints, Objects, Statement, Statements, Up
 use Rattle.rpp_tree.specs.Tree.{New, Delete, Copy, Uncopy, Call, Skip, End, Then, Procedure, ClassText, Source}
 use Rattle.rpp_tree.specs.Parts.{expression_names, lvalue_names, receiver_names, creation_names, type_names, var_names}
 use Rattle.rpp_tree.specs.Parts.{statement_names, block_names, procedure_names, parent_names, class_names, source_names}
-use Rattle.roopl_lexer.specs.declared.token.Keyword.{Keyword}
-use Rattle.roopl_lexer.specs.declared.token.Keyword.TheVariants as word
-use Rattle.roopl_lexer.specs.declared.token.Symbol.{Symbol}
-use Rattle.roopl_lexer.specs.declared.token.Symbol.TheVariants as sign
-use Rattle.roopl_lexer.specs.declared.token.TokenKind.{TokenKind}
-use Rattle.roopl_lexer.specs.declared.token.TokenKind.TheVariants as token
+use Rattle.roopl_parser.specs.roopl_lexer.declared.token.Keyword.{Keyword}
+use Rattle.roopl_parser.specs.roopl_lexer.declared.token.Keyword.TheVariants as word
+use Rattle.roopl_parser.specs.roopl_lexer.declared.token.Symbol.{Symbol}
+use Rattle.roopl_parser.specs.roopl_lexer.declared.token.Symbol.TheVariants as sign
+use Rattle.roopl_parser.specs.roopl_lexer.declared.token.TokenKind.{TokenKind}
+use Rattle.roopl_parser.specs.roopl_lexer.declared.token.TokenKind.TheVariants as token
 use Rattle.roopl_printer.specs.Printed.{Printed, a_name, a_sign, a_word}
 use Rattle.roopl_printer.specs.Spelled.{first_word, operator, update_sign, opening, closing, operand}
 use Rattle.roopl_printer.specs.Spelled.{spelled_expression, in_parentheses, in_brackets, spelled_index, spelled_place}
@@ -162,7 +163,7 @@ module _ (P : TokenKind → Type 0) (words : (k : Keyword) → P (token.Word k))
       let s = split (creation_names m) (lvalue_names p) h in
       join (spelled_creation m) (spelled_place p) (creation m s.0) (place p s.1)
 
-  -- a word and what stands behind it, four times
+  -- a word and what follows it, four times
   four : (a b c d : List Printed) (first : Printed) (x y z : Keyword) → P first.kind → Holds a → Holds b → Holds c
       → Holds d → Holds (first ∷ a ++ a_word x ∷ b ++ a_word y ∷ c ++ a_word z ∷ d)
   four a b c d first x y z f ha hb hc hd = (

@@ -1,4 +1,4 @@
--- A printed text is read back as a tree like the one that was printed.
+-- A printed text is read back as a syntax tree like the one that was printed.
 use Rattle.std.proofs.Common.{◌≡◌, ℕ, ◌≤◌, List, [], ◌∷◌, length, Some, None, sym, ◌∙◌, ap, subst, arith}
 use Rattle.std.specs.List.{AllByRecursion}
 use Rattle.std.proofs.lemmas.List.Elements.{recursion_from_All}
@@ -7,12 +7,12 @@ use Rattle.rpp_tree.specs.Names.{IsName}
 use Rattle.rpp_tree.specs.Parts.{source_names}
 use Rattle.rpp_tree.specs.Tree.{ClassText, Source}
 use Rattle.rpp_tree.specs.Limits.{IsWithinLimits}
-use Rattle.roopl_lexer.specs.declared.token.TokenKind.{TokenKind}
-use Rattle.roopl_lexer.specs.declared.token.TokenKind.TheVariants.{Word, Name, Number, Sign}
-use Rattle.roopl_lexer.specs.declared.token.Token.{Token}
-use Rattle.roopl_lexer.specs.declared.error.LexError.{LexError}
-use Rattle.roopl_lexer.specs.Tokens.{IsCutting, IsFirstRefusal}
-use Rattle.roopl_lexer.proofs.Unique.{one_cut}
+use Rattle.roopl_parser.specs.roopl_lexer.declared.token.TokenKind.{TokenKind}
+use Rattle.roopl_parser.specs.roopl_lexer.declared.token.TokenKind.TheVariants.{Word, Name, Number, Sign}
+use Rattle.roopl_parser.specs.roopl_lexer.declared.token.Token.{Token}
+use Rattle.roopl_parser.specs.roopl_lexer.declared.error.LexError.{LexError}
+use Rattle.roopl_parser.specs.roopl_lexer.Tokens.{IsCutting, IsFirstRefusal}
+use Rattle.roopl_parser.proofs.roopl_lexer_laws.Unique.{one_cut}
 use Rattle.roopl_parser.specs.Grammar.{Derives}
 use Rattle.roopl_parser.specs.Viable.{IsSmall, first_limit}
 use Rattle.roopl_parser.proofs.Exact.{within}
@@ -68,7 +68,7 @@ read_back p grammatical within_limits few =
       alike = ap (λ (cs : List ClassText). record { classes = cs }) like.alike;
     }
 
--- the tokens of a printed text are those of the tree that is read back, and pass no limit
+-- the tokens of a printed text are those of the syntax tree that is read back, and pass no limit
 pub reads_tree : (p : Source) (back : IsReadBack p) (text : List ℕ) (cut tokens : List Token) → text ≡ printed p
     → IsCutting text cut → tokens ≡ cut → Derives tokens back.tree × (first_limit tokens ≡ None)
 reads_tree p back text cut tokens same cutting are =

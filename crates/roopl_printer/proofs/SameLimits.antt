@@ -1,4 +1,4 @@
--- A tree that is equal but for places keeps the same limits.
+-- A syntax tree that is equal up to offsets keeps the same limits.
 use Rattle.std.proofs.lemmas.List.{length-map}
 use Rattle.std.proofs.Common.{◌≡◌, ◌↔◌, ℕ, ◌+◌, ◌≤◌, max, List, map, length, Option, Some, None, refl, sym, ◌∙◌, ap}
 use Rattle.std.proofs.Common.{subst}
@@ -145,7 +145,7 @@ all_small_bare b = block_bare blind_small b
 same_count : (xs ys : List Var) → map bare_var xs ≡ map bare_var ys → length xs ≡ length ys
 same_count xs ys same = sym (length-map xs bare_var) ∙ ap length same ∙ length-map ys bare_var
 
--- a method that is equal but for places keeps the limits too
+-- a method that is equal up to offsets keeps the limits too
 pub small_method : (tree method : Procedure) → bare_procedure tree ≡ bare_procedure method → IsSmallMethod method
     → IsSmallMethod tree
 small_method tree method same small =

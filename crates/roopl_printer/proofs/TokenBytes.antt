@@ -12,11 +12,11 @@ use Rattle.std.proofs.lemmas.List.Elements.{All-cons, All-weaker, recursion_from
 use Rattle.std.proofs.lemmas.List.Sums.{AllPass-from_list_all}
 use Rattle.rpp_tree.specs.Tree.{Source}
 use Rattle.rpp_tree.specs.Parts.{source_names}
-use Rattle.roopl_lexer.specs.declared.token.Keyword.{Keyword}
-use Rattle.roopl_lexer.specs.declared.token.Keyword.TheVariants as word
-use Rattle.roopl_lexer.specs.declared.token.Symbol.{Symbol}
-use Rattle.roopl_lexer.specs.declared.token.Symbol.TheVariants as sign
-use Rattle.roopl_lexer.specs.Signs.{keyword_bytes, sign_bytes}
+use Rattle.roopl_parser.specs.roopl_lexer.declared.token.Keyword.{Keyword}
+use Rattle.roopl_parser.specs.roopl_lexer.declared.token.Keyword.TheVariants as word
+use Rattle.roopl_parser.specs.roopl_lexer.declared.token.Symbol.{Symbol}
+use Rattle.roopl_parser.specs.roopl_lexer.declared.token.Symbol.TheVariants as sign
+use Rattle.roopl_parser.specs.roopl_lexer.Signs.{keyword_bytes, sign_bytes}
 use Rattle.roopl_printer.specs.Printed.{Printed, kind_bytes, with_gaps, with_gap, gap, text_of}
 use Rattle.roopl_printer.specs.Spelled.{spelled, printed}
 use Rattle.roopl_printer.proofs.NamedTokens.{each_token}

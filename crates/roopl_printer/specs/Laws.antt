@@ -4,8 +4,8 @@ use Rattle.rpp_tree.specs.declared.limits.TheConstants.{MOST_TOKENS}
 use Rattle.rpp_tree.specs.Tree.{Source}
 use Rattle.rpp_tree.specs.Bare.{bare_source}
 use Rattle.rpp_tree.specs.Limits.{IsWithinLimits}
-use Rattle.roopl_lexer.specs.declared.token.Token.{Token}
-use Rattle.roopl_lexer.specs.Tokens.{IsCutting}
+use Rattle.roopl_parser.specs.roopl_lexer.declared.token.Token.{Token}
+use Rattle.roopl_parser.specs.roopl_lexer.Tokens.{IsCutting}
 use Rattle.roopl_parser.specs.Grammar.{Derives}
 use Rattle.roopl_parser.specs.Viable.{first_limit}
 use Rattle.roopl_printer.specs.Printable.{IsPrintable, IsOfGrammar}
@@ -21,7 +21,8 @@ abbrev pub CutsAgain : Type 0
 CutsAgain = (program : Source) → All (λ token. IsPrintable token.kind) (spelled program)
     → IsCutAgain program
 
--- the tokens of a printed text are those of a tree that is equal but for places, and pass no limit
+-- the tokens of a printed text are those of a syntax tree that is equal up to offsets, and pass no
+-- limit
 pub record IsReadBack (program : Source) : Type 0 where
   pub tokens : List Token
   pub cutting : IsCutting (printed program) tokens

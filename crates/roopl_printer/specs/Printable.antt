@@ -1,9 +1,9 @@
--- Tokens that a source may hold, and trees of the grammar.
+-- Tokens that a source may hold, and syntax trees of the grammar.
 use Rattle.std.specs.Prelude.{◌≤◌, All}
 use Rattle.rpp_tree.specs.Names.{IsName}
 use Rattle.rpp_tree.specs.Tree.{Statement, Statements, Source, Walk, walk, walk_block}
-use Rattle.roopl_lexer.specs.declared.token.TokenKind.{TokenKind}
-use Rattle.roopl_lexer.specs.declared.token.TokenKind.TheVariants.{Word, Name, Number, Sign}
+use Rattle.roopl_parser.specs.roopl_lexer.declared.token.TokenKind.{TokenKind}
+use Rattle.roopl_parser.specs.roopl_lexer.declared.token.TokenKind.TheVariants.{Word, Name, Number, Sign}
 use Rattle.rpp_tree.specs.declared.limits.TheConstants.{MOST_NUMBER}
 use Rattle.roopl_printer.specs.Spelled.{spelled}
 
@@ -45,7 +45,8 @@ HasFullBlocks s = (walk fullness s).1
 abbrev pub AreFull : Statements → Type 0
 AreFull body = (walk_block fullness body).1
 
--- a tree of the grammar: each block has a statement, and each number is one that a source may hold
+-- a syntax tree of the grammar: each block has a statement, and each number is one that a source
+-- may hold
 pub record IsOfGrammar (program : Source) : Type 0 where
   pub blocks : All (λ class. All (λ method. HasStatement method.body × AreFull method.body)
       class.methods) program.classes

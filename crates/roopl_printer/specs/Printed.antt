@@ -2,11 +2,11 @@
 use Rattle.std.specs.Prelude.{ℕ, Bool, true, false, List, [], ◌∷◌, ◌++◌, decimal}
 use Rattle.std.specs.List.{flat_map}
 use Rattle.rpp_tree.specs.declared.tree.Ident.{Ident}
-use Rattle.roopl_lexer.specs.declared.token.Keyword.{Keyword}
-use Rattle.roopl_lexer.specs.declared.token.Symbol.{Symbol}
-use Rattle.roopl_lexer.specs.declared.token.TokenKind.{TokenKind}
-use Rattle.roopl_lexer.specs.declared.token.TokenKind.TheVariants.{Word, Name, Number, Sign}
-use Rattle.roopl_lexer.specs.Signs.{keyword_bytes, sign_bytes}
+use Rattle.roopl_parser.specs.roopl_lexer.declared.token.Keyword.{Keyword}
+use Rattle.roopl_parser.specs.roopl_lexer.declared.token.Symbol.{Symbol}
+use Rattle.roopl_parser.specs.roopl_lexer.declared.token.TokenKind.{TokenKind}
+use Rattle.roopl_parser.specs.roopl_lexer.declared.token.TokenKind.TheVariants.{Word, Name, Number, Sign}
+use Rattle.roopl_parser.specs.roopl_lexer.Signs.{keyword_bytes, sign_bytes}
 
 -- a printed token, and whether it begins a line
 pub record Printed : Type 0 where
@@ -17,7 +17,7 @@ pub record Printed : Type 0 where
 abbrev pub first : TokenKind → Printed
 first kind = record { kind = kind; fresh = true }
 
--- a token behind others on its line
+-- a token after others on its line
 abbrev pub behind : TokenKind → Printed
 behind kind = record { kind = kind; fresh = false }
 
@@ -37,20 +37,20 @@ kind_bytes (Name text) = text
 kind_bytes (Number n) = decimal n
 kind_bytes (Sign sign) = sign_bytes sign
 
--- what stands before a token that is not the first of the text: a line feed or a space
+-- what comes before a token that is not the first of the text: a line feed or a space
 abbrev pub gap : Bool → ℕ
 gap true = 10
 gap false = 32
 
--- a token with what stands before it
+-- a token with what comes before it
 abbrev pub with_gap : Printed → List ℕ
 with_gap token = gap token.fresh ∷ kind_bytes token.kind
 
--- tokens with what stands before each
+-- tokens with what comes before each
 abbrev pub with_gaps : List Printed → List ℕ
 with_gaps tokens = flat_map with_gap tokens
 
--- the text of tokens: nothing stands before the first, and a line feed behind the last
+-- the text of tokens: nothing comes before the first, and a line feed after the last
 abbrev pub text_of : List Printed → List ℕ
 text_of [] = []
 text_of (token ∷ tokens) = kind_bytes token.kind ++ with_gaps tokens ++ 10 ∷ []

@@ -1,4 +1,4 @@
--- The printed tokens of a tree, in the order of the grammar.
+-- The printed tokens of a syntax tree, in the order of the grammar.
 use Rattle.std.specs.Prelude.{ℕ, Bool, true, false, List, [], ◌∷◌, ◌++◌, Option, Some, None}
 use Rattle.std.specs.List.{flat_map}
 use Rattle.rpp_tree.specs.declared.tree.Ident.{Ident}
@@ -14,11 +14,11 @@ use Rattle.rpp_tree.specs.Tree.{Item, Creation, Object, Ints, Objects, Statement
 use Rattle.rpp_tree.specs.Tree.{Update, Swap, If, From, Construct, Local, New, Delete, Copy, Uncopy}
 use Rattle.rpp_tree.specs.Tree.{Call, Skip, End, Then, Procedure, ClassText, Source}
 use Rattle.rpp_tree.specs.Places.{place_name}
-use Rattle.roopl_lexer.specs.declared.token.Keyword.{Keyword}
-use Rattle.roopl_lexer.specs.declared.token.Keyword.TheVariants as word
-use Rattle.roopl_lexer.specs.declared.token.Symbol.{Symbol}
-use Rattle.roopl_lexer.specs.declared.token.Symbol.TheVariants as sign
-use Rattle.roopl_lexer.specs.declared.token.TokenKind.TheVariants as token
+use Rattle.roopl_parser.specs.roopl_lexer.declared.token.Keyword.{Keyword}
+use Rattle.roopl_parser.specs.roopl_lexer.declared.token.Keyword.TheVariants as word
+use Rattle.roopl_parser.specs.roopl_lexer.declared.token.Symbol.{Symbol}
+use Rattle.roopl_parser.specs.roopl_lexer.declared.token.Symbol.TheVariants as sign
+use Rattle.roopl_parser.specs.roopl_lexer.declared.token.TokenKind.TheVariants as token
 use Rattle.roopl_printer.specs.Printed.{Printed, first, behind, a_word, a_name, a_sign, text_of}
 
 -- the sign of an operator
@@ -79,7 +79,7 @@ spelled_expression (Binary at op left right) =
     operand left (spelled_expression left) ++ a_sign (operator op)
     ∷ operand right (spelled_expression right)
 
--- what stands behind the name of a place
+-- what follows the name of a place
 abbrev pub spelled_index : Lvalue → List Printed
 spelled_index (Whole name) = []
 spelled_index (Item name index) = in_brackets (spelled_expression index)

@@ -14,7 +14,7 @@ use rpp_words::NoMemory;
 use std::alloc::Global;
 
 /// The program that `lex` and `parse` read from the printed text of a program of the grammar within
-/// the limits: it is equal but for places. The only error is that memory ran out.
+/// the limits: it is equal up to offsets. The only error is that memory ran out.
 pub fn reread(alloc: Global, program: &Program) -> Result<Program, NoMemory>
     requires grammar { IsOfGrammar (source_of program.now) }
     requires limits { IsWithinLimits (source_of program.now) }

@@ -6,7 +6,7 @@ pub fn cuts_again()
     ensures { CutsAgain }
 {}
 
-/// The parser reads the tokens of a printed text as a tree like the one that was printed.
+/// The parser reads the tokens of a printed text as a syntax tree like the one that was printed.
 pub fn reads_back()
     ensures { ReadsBack }
 {}

@@ -22,7 +22,7 @@ pub(crate) fn put_names(out: &mut Vec<u8>, names: &[Ident]) -> Result<(), NoMemo
     }
 }
 
-/// Adds names, each behind a comma.
+/// Adds names, each after a comma.
 fn put_more_names(out: &mut Vec<u8>, names: &[Ident]) -> Result<(), NoMemory>
     ensures { OnOk result (out.new.items ≡ out.old.items
         ++ with_gaps (flat_map (after_comma name_alone) names.now)) }
@@ -47,7 +47,7 @@ pub(crate) fn put_vars(out: &mut Vec<u8>, vars: &[Var]) -> Result<(), NoMemory>
     }
 }
 
-/// Adds variables with their types, each behind a comma.
+/// Adds variables with their types, each after a comma.
 fn put_more_vars(out: &mut Vec<u8>, vars: &[Var]) -> Result<(), NoMemory>
     ensures { OnOk result (out.new.items ≡ out.old.items
         ++ with_gaps (flat_map (after_comma spelled_var) vars.now)) }
@@ -59,7 +59,7 @@ fn put_more_vars(out: &mut Vec<u8>, vars: &[Var]) -> Result<(), NoMemory>
     Ok(())
 }
 
-/// Adds variables with their types, one behind the other.
+/// Adds variables with their types, one after the other.
 pub(crate) fn put_fields(out: &mut Vec<u8>, fields: &[Var]) -> Result<(), NoMemory>
     ensures { OnOk result (out.new.items ≡ out.old.items ++ with_gaps (flat_map spelled_var fields.now)) }
 {

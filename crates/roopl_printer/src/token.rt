@@ -2,7 +2,7 @@
 ghost use Rattle.std.specs.Prelude.{◌≡◌, ◌∷◌, ◌++◌, [], OnOk, decimal};
 ghost use Rattle.roopl_printer.specs.Printed.{with_gap, a_name, a_sign, behind, first};
 ghost use Rattle.roopl_printer.specs.Spelled.{operator, update_sign};
-ghost use Rattle.roopl_lexer.specs.declared.token.TokenKind.TheVariants.{Name, Number};
+ghost use Rattle.roopl_parser.specs.roopl_lexer.declared.token.TokenKind.TheVariants.{Name, Number};
 
 use itoa::Buffer;
 use rpp_tree::tree::{BinOp, Ident, UpdateOp};
@@ -15,7 +15,7 @@ pub(crate) fn put(out: &mut Vec<u8>, bytes: &[u8]) -> Result<(), NoMemory>
     Ok(out.extend_from_slice(bytes)?)
 }
 
-/// Adds a name behind others on its line.
+/// Adds a name after others on its line.
 pub(crate) fn put_name(out: &mut Vec<u8>, name: &Ident) -> Result<(), NoMemory>
     ensures { OnOk result (out.new.items ≡ out.old.items ++ with_gap (a_name name.now)) }
 {

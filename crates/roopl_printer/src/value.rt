@@ -35,7 +35,7 @@ pub(crate) fn put_expr(out: &mut Vec<u8>, e: &Expr) -> Result<(), NoMemory>
     }
 }
 
-/// Adds a place behind other tokens on its line.
+/// Adds a place after other tokens on its line.
 #[cycle(put_values)]
 pub(crate) fn put_place(out: &mut Vec<u8>, place: &Place) -> Result<(), NoMemory>
     ensures { OnOk result (out.new.items ≡ out.old.items
@@ -68,7 +68,7 @@ pub(crate) fn put_first_place(out: &mut Vec<u8>, place: &Place) -> Result<(), No
     }
 }
 
-/// Adds the parenthesis before an operand, where it has one.
+/// Adds the parenthesis before an operand, if it has one.
 fn put_opening(out: &mut Vec<u8>, e: &Expr) -> Result<(), NoMemory>
     ensures { OnOk result (out.new.items ≡ out.old.items ++ with_gaps (opening (expression_of e.now))) }
 {
@@ -78,7 +78,7 @@ fn put_opening(out: &mut Vec<u8>, e: &Expr) -> Result<(), NoMemory>
     }
 }
 
-/// Adds the parenthesis behind an operand, where it has one.
+/// Adds the parenthesis after an operand, if it has one.
 fn put_closing(out: &mut Vec<u8>, e: &Expr) -> Result<(), NoMemory>
     ensures { OnOk result (out.new.items ≡ out.old.items ++ with_gaps (closing (expression_of e.now))) }
 {
@@ -109,7 +109,7 @@ pub(crate) fn put_made(out: &mut Vec<u8>, made: &Made) -> Result<(), NoMemory>
     }
 }
 
-/// Adds the receiver of a call, where it has one.
+/// Adds the receiver of a call, if it has one.
 pub(crate) fn put_receiver(out: &mut Vec<u8>, receiver: &Option<Place>) -> Result<(), NoMemory>
     ensures { OnOk result (out.new.items ≡ out.old.items
         ++ with_gaps (spelled_receiver (optional_lvalue_of receiver.now))) }

@@ -14,10 +14,11 @@ use rpp_tree::tree::{Class, Ident, Method, Program};
 use rpp_words::NoMemory;
 use std::alloc::Global;
 
-/// The text of a program: its tokens in the order of the grammar, with one space between two of them, and
-/// in place of that space a line feed before `class`, before `method` and before each statement. Only a
-/// binary operand of a binary expression stands in parentheses. A line feed ends the text; the text of no
-/// class is empty. Names are ASCII, as names by the rule are. The only error is that memory ran out.
+/// The text of a program: its tokens in the order of the grammar, with one space between two of
+/// them. Before `class`, before `method` and before each statement there is a line feed instead of
+/// the space. Only a binary operand of a binary expression is in parentheses. A line feed ends the
+/// text; the text of no class is empty. Names are ASCII, as names by the rule are. The only error
+/// is that memory ran out.
 pub fn print(alloc: Global, program: &Program) -> Result<String, NoMemory>
     requires names { All (λ name. IsAscii name.text) (source_names (source_of program.now)) }
     ensures text { IfOk result (λ text. string_bytes text ≡ printed (source_of program.now)) }

@@ -2,15 +2,15 @@
 use Rattle.std.specs.Prelude.{◌≡◌, true, false, [], ◌∷◌, Some, None, codes}
 use Rattle.std.specs.Fmt.{digits}
 use Rattle.std.proofs.Common.{refl}
-use Rattle.rpp_tree.specs.declared.tree.VarType.TheVariants as kind
-use Rattle.rpp_tree.specs.declared.tree.BinOp.TheVariants as op
-use Rattle.rpp_tree.specs.declared.tree.UpdateOp.TheVariants as update
-use Rattle.rpp_tree.specs.Tree.{Number, Binary, Whole, Item, Object as AnObject, Ints, Objects, Update, Swap, New}
-use Rattle.rpp_tree.specs.Tree.{Delete, Call, Source}
+use Rattle.stmt_inverter.specs.rpp_tree.declared.tree.VarType.TheVariants as kind
+use Rattle.stmt_inverter.specs.rpp_tree.declared.tree.BinOp.TheVariants as op
+use Rattle.stmt_inverter.specs.rpp_tree.declared.tree.UpdateOp.TheVariants as update
+use Rattle.stmt_inverter.specs.rpp_tree.Tree.{Number, Binary, Whole, Item, Object as AnObject, Ints, Objects, Update, Swap, New}
+use Rattle.stmt_inverter.specs.rpp_tree.Tree.{Delete, Call, Source}
 use Rattle.roopl_semantics.proofs.Testing.{named, var, procedure, class_text, block, program, Finished, Faulted, lines}
 use Rattle.roopl_semantics.proofs.Testing.{ending}
 
--- class P int[] a method main() new int[3] a a[3] += 1
+-- `class P int[] a method main() new int[3] a a[3] += 1`
 abbrev pub index-past_end-text : Source
 index-past_end-text = program (class_text (named 6 (codes "P")) None ((var kind.IntArray (named 14 (codes "a"))) ∷ [])
     (procedure (named 23 (codes "main")) [] (block ((New 30 (Ints (Number 38 3)) (Whole (named 41 (codes "a"))))
@@ -19,7 +19,7 @@ index-past_end-text = program (class_text (named 6 (codes "P")) None ((var kind.
 index-past_end : ending index-past_end-text 3 1 [] 1000 ≡ Faulted 9 11
 index-past_end = refl
 
--- class P int[] a method main() new int[3] a a[0 - 1] += 1
+-- `class P int[] a method main() new int[3] a a[0 - 1] += 1`
 abbrev pub index-negative-text : Source
 index-negative-text = program (class_text (named 6 (codes "P")) None ((var kind.IntArray (named 14 (codes "a"))) ∷ [])
     (procedure (named 23 (codes "main")) [] (block ((New 30 (Ints (Number 38 3)) (Whole (named 41 (codes "a"))))
@@ -29,7 +29,7 @@ index-negative-text = program (class_text (named 6 (codes "P")) None ((var kind.
 index-negative : ending index-negative-text 3 1 [] 1000 ≡ Faulted 9 13
 index-negative = refl
 
--- class P int[] a method main() new int[0] a
+-- `class P int[] a method main() new int[0] a`
 abbrev pub array-no_length-text : Source
 array-no_length-text = program (class_text (named 6 (codes "P")) None ((var kind.IntArray (named 14 (codes "a"))) ∷ [])
     (procedure (named 23 (codes "main")) [] (block ((New 30 (Ints (Number 38 0)) (Whole (named 41 (codes "a"))))
@@ -38,7 +38,7 @@ array-no_length-text = program (class_text (named 6 (codes "P")) None ((var kind
 array-no_length : ending array-no_length-text 3 1 [] 1000 ≡ Faulted 13 2
 array-no_length = refl
 
--- class P int[] a method main() new int[7] a
+-- `class P int[] a method main() new int[7] a`
 abbrev pub array-no_block-text : Source
 array-no_block-text = program (class_text (named 6 (codes "P")) None ((var kind.IntArray (named 14 (codes "a"))) ∷ [])
     (procedure (named 23 (codes "main")) [] (block ((New 30 (Ints (Number 38 7)) (Whole (named 41 (codes "a"))))
@@ -47,7 +47,7 @@ array-no_block-text = program (class_text (named 6 (codes "P")) None ((var kind.
 array-no_block : ending array-no_block-text 3 1 [] 1000 ≡ Faulted 8 6
 array-no_block = refl
 
--- class P int[] a method main() new int[3] a delete int[2] a
+-- `class P int[] a method main() new int[3] a delete int[2] a`
 abbrev pub array-other_length-text : Source
 array-other_length-text = program (class_text (named 6 (codes "P")) None
     ((var kind.IntArray (named 14 (codes "a"))) ∷ []) (procedure (named 23 (codes "main")) []
@@ -57,7 +57,7 @@ array-other_length-text = program (class_text (named 6 (codes "P")) None
 array-other_length : ending array-other_length-text 3 1 [] 1000 ≡ Faulted 12 11
 array-other_length = refl
 
--- class P int[] a method main() new int[3] a a[1] <=> a[1]
+-- `class P int[] a method main() new int[3] a a[1] <=> a[1]`
 abbrev pub element-swapped_with_itself-text : Source
 element-swapped_with_itself-text = program (class_text (named 6 (codes "P")) None
     ((var kind.IntArray (named 14 (codes "a"))) ∷ []) (procedure (named 23 (codes "main")) []
@@ -71,8 +71,8 @@ element-swapped_with_itself : ending element-swapped_with_itself-text 3 1 [] 100
 unfolding digits
 element-swapped_with_itself = refl
 
--- class P Q[] qs int n method main() new Q[2] qs new Q qs[1] call qs[1]::inc(n) uncall
--- qs[1]::inc(n) delete Q qs[1] delete Q[2] qs class Q int f method inc(int m) f += 7 m += 3
+-- `class P Q[] qs int n method main() new Q[2] qs new Q qs[1] call qs[1]::inc(n) uncall
+-- qs[1]::inc(n) delete Q qs[1] delete Q[2] qs class Q int f method inc(int m) f += 7 m += 3`
 abbrev element-text : Source
 element-text = program (class_text (named 6 (codes "P")) None
     ((var (kind.ClassArray (named 8 (codes "Q"))) (named 12 (codes "qs"))) ∷ (var kind.Int (named 19 (codes "n")))

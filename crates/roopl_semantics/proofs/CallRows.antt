@@ -2,17 +2,17 @@
 use Rattle.std.specs.Prelude.{◌≡◌, true, false, [], ◌∷◌, Some, None, codes}
 use Rattle.std.specs.Fmt.{digits}
 use Rattle.std.proofs.Common.{refl}
-use Rattle.rpp_tree.specs.declared.tree.VarType.TheVariants as kind
-use Rattle.rpp_tree.specs.declared.tree.BinOp.TheVariants as op
-use Rattle.rpp_tree.specs.declared.tree.UpdateOp.TheVariants as update
-use Rattle.rpp_tree.specs.Tree.{Number, Variable, Binary, Whole, Object as AnObject, Update, Swap, If, Construct, New}
-use Rattle.rpp_tree.specs.Tree.{Copy, Call, Skip, Source}
+use Rattle.stmt_inverter.specs.rpp_tree.declared.tree.VarType.TheVariants as kind
+use Rattle.stmt_inverter.specs.rpp_tree.declared.tree.BinOp.TheVariants as op
+use Rattle.stmt_inverter.specs.rpp_tree.declared.tree.UpdateOp.TheVariants as update
+use Rattle.stmt_inverter.specs.rpp_tree.Tree.{Number, Variable, Binary, Whole, Object as AnObject, Update, Swap, If, Construct, New}
+use Rattle.stmt_inverter.specs.rpp_tree.Tree.{Copy, Call, Skip, Source}
 use Rattle.roopl_semantics.proofs.Testing.{named, var, procedure, class_text, block, program, Finished, Faulted, lines}
 use Rattle.roopl_semantics.proofs.Testing.{ending}
 
--- class P int a int b int n method main() n += 4 construct Fib f call f::fib(n) call f::get(a, b)
+-- `class P int a int b int n method main() n += 4 construct Fib f call f::fib(n) call f::get(a, b)
 -- uncall f::fib(n) destruct f class Fib int x1 int x2 method fib(int n) if n = 0 then x1 += 1 x2 +=
--- 1 else n -= 1 call fib(n) x1 += x2 x1 <=> x2 fi x1 = x2 method get(int u, int v) u += x1 v += x2
+-- 1 else n -= 1 call fib(n) x1 += x2 x1 <=> x2 fi x1 = x2 method get(int u, int v) u += x1 v += x2`
 abbrev pub fibonacci-text : Source
 fibonacci-text = program (class_text (named 6 (codes "P")) None
     ((var kind.Int (named 12 (codes "a"))) ∷ (var kind.Int (named 18 (codes "b")))
@@ -49,7 +49,7 @@ fibonacci = refl
 fibonacci-too_deep : ending fibonacci-text 2 5 [] 1000 ≡ Faulted 14 42
 fibonacci-too_deep = refl
 
--- class P method main() call q() method q() call q()
+-- `class P method main() call q() method q() call q()`
 abbrev pub calls_without_end-text : Source
 calls_without_end-text = program (class_text (named 6 (codes "P")) None []
     (procedure (named 15 (codes "main")) [] (block ((Call 22 false None (named 27 (codes "q")) []) ∷ []))
@@ -58,8 +58,8 @@ calls_without_end-text = program (class_text (named 6 (codes "P")) None []
 calls_without_end : ending calls_without_end-text 1 3 [] 1000 ≡ Faulted 14 3
 calls_without_end = refl
 
--- class P Base b int r int s method main() new Sub b call b::q(r) s += r uncall b::q(r) class Base
--- int f method q(int o) o += 1 class Sub inherits Base method q(int o) o += 2 f += 1
+-- `class P Base b int r int s method main() new Sub b call b::q(r) s += r uncall b::q(r) class Base
+-- int f method q(int o) o += 1 class Sub inherits Base method q(int o) o += 2 f += 1`
 abbrev pub overrides-text : Source
 overrides-text = program (class_text (named 6 (codes "P")) None
     ((var (kind.Class (named 8 (codes "Base"))) (named 13 (codes "b"))) ∷ (var kind.Int (named 19 (codes "r")))
@@ -82,7 +82,7 @@ overrides : ending overrides-text 2 2 [] 1000 ≡ Finished
 unfolding digits
 overrides = refl
 
--- class P int x method main() uncall q() method q() if x = 0 then x += 1 else skip fi x = 1
+-- `class P int x method main() uncall q() method q() if x = 0 then x += 1 else skip fi x = 1`
 abbrev pub uncalled-fault-text : Source
 uncalled-fault-text = program (class_text (named 6 (codes "P")) None ((var kind.Int (named 12 (codes "x"))) ∷ [])
     (procedure (named 21 (codes "main")) [] (block ((Call 28 true None (named 35 (codes "q")) []) ∷ []))
@@ -95,7 +95,7 @@ uncalled-fault-text = program (class_text (named 6 (codes "P")) None ((var kind.
 uncalled-fault : ending uncalled-fault-text 1 2 [] 1000 ≡ Faulted 1 9
 uncalled-fault = refl
 
--- class P int x method main() call q() method q() if x = 1 then x -= 1 else skip fi x = 0
+-- `class P int x method main() call q() method q() if x = 1 then x -= 1 else skip fi x = 0`
 abbrev pub called-fault-text : Source
 called-fault-text = program (class_text (named 6 (codes "P")) None ((var kind.Int (named 12 (codes "x"))) ∷ [])
     (procedure (named 21 (codes "main")) [] (block ((Call 28 false None (named 33 (codes "q")) []) ∷ []))
@@ -108,9 +108,9 @@ called-fault-text = program (class_text (named 6 (codes "P")) None ((var kind.In
 called-fault : ending called-fault-text 1 2 [] 1000 ≡ Faulted 1 9
 called-fault = refl
 
--- class P A a B b method main() new A a new B b call b::link(a) call a::m(b) class A int f method
+-- `class P A a B b method main() new A a new B b call b::link(a) call a::m(b) class A int f method
 -- m(B o) call o::q(f) method set() f += 1 class B A back method link(A o) copy A o back method
--- q(int v) call back::set()
+-- q(int v) call back::set()`
 abbrev pub called_again_through_a_copy-text : Source
 called_again_through_a_copy-text = program (class_text (named 6 (codes "P")) None
     ((var (kind.Class (named 8 (codes "A"))) (named 10 (codes "a")))

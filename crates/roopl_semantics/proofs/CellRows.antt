@@ -1,11 +1,11 @@
 -- Worked memories cell by cell: references, counts, the heads of free lists and their links.
 use Rattle.std.specs.Prelude.{◌≡◌, ℕ, ◌-◌, ◌*◌, false, List, [], ◌∷◌, Some, None, codes, length, take, drop, replicate}
 use Rattle.std.proofs.Common.{refl}
-use Rattle.rpp_words.specs.declared.input.Limits.{Limits}
-use Rattle.rpp_tree.specs.declared.tree.VarType.TheVariants as kind
-use Rattle.rpp_tree.specs.declared.tree.UpdateOp.TheVariants as update
-use Rattle.rpp_tree.specs.Tree.{Number, Whole, Item, Object as AnObject, Ints, Objects, Update, New, Delete, Copy}
-use Rattle.rpp_tree.specs.Tree.{Uncopy, Call, Skip, Source}
+use Rattle.buddy_book.specs.rpp_words.declared.input.Limits.{Limits}
+use Rattle.stmt_inverter.specs.rpp_tree.declared.tree.VarType.TheVariants as kind
+use Rattle.stmt_inverter.specs.rpp_tree.declared.tree.UpdateOp.TheVariants as update
+use Rattle.stmt_inverter.specs.rpp_tree.Tree.{Number, Whole, Item, Object as AnObject, Ints, Objects, Update, New, Delete, Copy}
+use Rattle.stmt_inverter.specs.rpp_tree.Tree.{Uncopy, Call, Skip, Source}
 use Rattle.roopl_semantics.specs.Run.{Run, Done}
 use Rattle.roopl_semantics.specs.Store.{State}
 use Rattle.roopl_semantics.specs.Source.{source}
@@ -31,9 +31,9 @@ up_to_heap deep cells = take (length cells - 512 * deep) cells
 abbrev stack : ℕ → List ℕ → List ℕ
 stack deep cells = drop (length cells - 512 * deep) cells
 
--- class P Node a Node b method main() new Node a new Node b call a::link(b) call b::link(a) call
+-- `class P Node a Node b method main() new Node a new Node b call a::link(b) call b::link(a) call
 --   a::drop(b) class Node Node next method link(Node o) copy Node o next method drop(Node o)
---   uncopy Node next o
+--   uncopy Node next o`
 abbrev ring-text : Source
 ring-text = program (class_text (named 0 (codes "P")) None ((var (kind.Class (named 0
     (codes "Node"))) (named 0 (codes "a")))
@@ -68,9 +68,9 @@ ring-stack : stack 2 (memory ring-text 3 2 (44 ∷ 1 ∷ 0 ∷ 0 ∷ 1 ∷ 5 ∷
     ∷ [])) ≡ replicate 1024 0
 ring-stack = refl
 
--- class P B a B b S s S t int[] d method main() new B a new B b new S s new S t new int[3] d d[1]
+-- `class P B a B b S s S t int[] d method main() new B a new B b new S s new S t new int[3] d d[1]
 --   -= 2 delete B a delete B b delete S s delete S t class B int f int g method q() skip class S
---   method q() skip
+--   method q() skip`
 abbrev unmerged-text : Source
 unmerged-text = program (class_text (named 0 (codes "P")) None ((var (kind.Class (named 0
     (codes "B"))) (named 0 (codes "a")))
@@ -107,8 +107,8 @@ unmerged-stack : stack 1 (memory unmerged-text 5 1 (47 ∷ 1 ∷ 0 ∷ 0 ∷ 0 �
     ∷ 7 ∷ 3 ∷ 9 ∷ [])) ≡ replicate 512 0
 unmerged-stack = refl
 
--- class P inherits Q C[] c int x method main() x -= 1 f += 7 new C[2] c new C c[1] class Q int f
---   method q() skip class C inherits Q int g method r() skip method q() skip
+-- `class P inherits Q C[] c int x method main() x -= 1 f += 7 new C[2] c new C c[1] class Q int f
+--   method q() skip class C inherits Q int g method r() skip method q() skip`
 abbrev inherited-text : Source
 inherited-text = program (class_text (named 0 (codes "P")) (Some (named 0 (codes "Q"))) ((var
     (kind.ClassArray (named 0 (codes "C"))) (named 0 (codes "c")))

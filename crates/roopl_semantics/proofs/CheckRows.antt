@@ -1,15 +1,15 @@
--- Worked programs for the order of checks and for costs, where the receiver of a call moves, and
+-- Worked programs for the order of checks and for costs, if the receiver of a call moves, and
 -- for what a local hides.
 use Rattle.std.specs.Prelude.{◌≡◌, List, true, false, [], ◌∷◌, Some, None, codes}
 use Rattle.std.specs.Fmt.{digits}
 use Rattle.std.proofs.Common.{refl}
-use Rattle.rpp_tree.specs.declared.tree.VarType.TheVariants as kind
-use Rattle.rpp_tree.specs.declared.tree.UpdateOp.TheVariants as update
-use Rattle.rpp_tree.specs.declared.tree.BinOp.TheVariants as op
-use Rattle.rpp_tree.specs.declared.tree.Ident.{Ident}
-use Rattle.rpp_tree.specs.Tree.{Statement, Number, Variable, Element, Binary, Whole, Item, Object as AnObject, Ints}
-use Rattle.rpp_tree.specs.Tree.{Objects, Update, Swap, From, Construct, Local, New, Delete, Copy, Uncopy, Call, Skip}
-use Rattle.rpp_tree.specs.Tree.{Source}
+use Rattle.stmt_inverter.specs.rpp_tree.declared.tree.VarType.TheVariants as kind
+use Rattle.stmt_inverter.specs.rpp_tree.declared.tree.UpdateOp.TheVariants as update
+use Rattle.stmt_inverter.specs.rpp_tree.declared.tree.BinOp.TheVariants as op
+use Rattle.stmt_inverter.specs.rpp_tree.declared.tree.Ident.{Ident}
+use Rattle.stmt_inverter.specs.rpp_tree.Tree.{Statement, Number, Variable, Element, Binary, Whole, Item, Object as AnObject, Ints}
+use Rattle.stmt_inverter.specs.rpp_tree.Tree.{Objects, Update, Swap, From, Construct, Local, New, Delete, Copy, Uncopy, Call, Skip}
+use Rattle.stmt_inverter.specs.rpp_tree.Tree.{Source}
 use Rattle.roopl_semantics.proofs.Testing.{named, var, procedure, class_text, block, program, word_for, Finished}
 use Rattle.roopl_semantics.proofs.Testing.{Faulted, Unfinished, lines, ending}
 
@@ -119,7 +119,7 @@ n_z = named 0 (codes "z")
 
 -- ---- a program of nodes, with this body of `main`
 --
--- class P
+-- `class P
 --   Node a  Node b  int[] c  Node[] e  Node[] g  int x  int[] f
 --   method main() ..
 -- class Node
@@ -129,7 +129,7 @@ n_z = named 0 (codes "z")
 --   method join(Node o) copy Node o back
 --   method go() call next::probe()
 --   method probe() call back::fill()
---   method fill() new Node next
+--   method fill() new Node next`
 abbrev with_nodes : List Statement → Source
 with_nodes body = program (class_text n_P None ((var (kind.Class n_Node) n_a)
     ∷ (var (kind.Class n_Node) n_b) ∷ (var kind.IntArray n_c)
@@ -192,9 +192,9 @@ past_the_heap-text = with_nodes ((New 0 (Ints (Number 0 15)) (Whole n_c)) ∷ []
 past_the_heap : ending past_the_heap-text 4 4 [] 2000 ≡ Faulted 8 7
 past_the_heap = refl
 
--- class P B b C c method main() new C c copy C c b delete B b class B int f method q(int o) o += 1
+-- `class P B b C c method main() new C c copy C c b delete B b class B int f method q(int o) o += 1
 --   call r() method r() f += 1 class C inherits B int g method r() g += 10 f -= 1 method s() call
---   r()
+--   r()`
 abbrev other_class-before-count-text : Source
 other_class-before-count-text = program (class_text n_P None ((var (kind.Class n_B) n_b)
     ∷ (var (kind.Class n_C) n_c)
@@ -401,8 +401,8 @@ place-before-value-text = with_nodes ((Update 0 update.Add (Item n_c (Number 0 0
 place-before-value : ending place-before-value-text 4 4 [] 2000 ≡ Faulted 5 2
 place-before-value = refl
 
--- class P A[] a int i method main() new A[2] a new A a[0] call a[i]::next(i) class A int v method
---   next(int i) i += 1
+-- `class P A[] a int i method main() new A[2] a new A a[0] call a[i]::next(i) class A int v method
+--   next(int i) i += 1`
 abbrev element_call-moved_index-text : Source
 element_call-moved_index-text = program (class_text n_P None ((var (kind.ClassArray n_A) n_a)
     ∷ (var kind.Int n_i)
@@ -418,8 +418,8 @@ element_call-moved_index : ending element_call-moved_index-text 4 4 [] 2000 ≡ 
 unfolding digits
 element_call-moved_index = refl
 
--- class P A[] a int i method main() new A[2] a new A a[1] i += 1 call a[i]::next(i) class A int v
---   method next(int i) i += 1
+-- `class P A[] a int i method main() new A[2] a new A a[1] i += 1 call a[i]::next(i) class A int v
+--   method next(int i) i += 1`
 abbrev element_call-lost_index-text : Source
 element_call-lost_index-text = program (class_text n_P None ((var (kind.ClassArray n_A) n_a)
     ∷ (var kind.Int n_i)
@@ -433,8 +433,8 @@ element_call-lost_index-text = program (class_text n_P None ((var (kind.ClassArr
 element_call-lost_index : ending element_call-lost_index-text 4 4 [] 2000 ≡ Faulted 9 28
 element_call-lost_index = refl
 
--- class P A[] a int i method main() new A[2] a new A a[1] i += 1 uncall a[i]::next(i) class A int
---   v method next(int i) i += 1
+-- `class P A[] a int i method main() new A[2] a new A a[1] i += 1 uncall a[i]::next(i) class A int
+--   v method next(int i) i += 1`
 abbrev element_call-back-text : Source
 element_call-back-text = program (class_text n_P None ((var (kind.ClassArray n_A) n_a)
     ∷ (var kind.Int n_i)
@@ -451,8 +451,8 @@ element_call-back : ending element_call-back-text 4 4 [] 2000 ≡ Finished (line
 unfolding digits
 element_call-back = refl
 
--- class P A[] a int i method main() new A[2] a call a[1]::next(i) class A int v method next(int i)
---   i += 1
+-- `class P A[] a int i method main() new A[2] a call a[1]::next(i) class A int v method next(int i)
+--   i += 1`
 abbrev element_call-nil-text : Source
 element_call-nil-text = program (class_text n_P None ((var (kind.ClassArray n_A) n_a)
     ∷ (var kind.Int n_i)
@@ -464,9 +464,9 @@ element_call-nil-text = program (class_text n_P None ((var (kind.ClassArray n_A)
 element_call-nil : ending element_call-nil-text 4 4 [] 2000 ≡ Faulted 5 15
 element_call-nil = refl
 
--- class P B b int x method main() new C b call b::q(x) uncall b::r() class B int f method q(int o)
+-- `class P B b int x method main() new C b call b::q(x) uncall b::r() class B int f method q(int o)
 --   o += 1 call r() method r() f += 1 class C inherits B int g method r() g += 10 f -= 1 method
---   s() call r()
+--   s() call r()`
 abbrev own_method-overridden-text : Source
 own_method-overridden-text = program (class_text n_P None ((var (kind.Class n_B) n_b)
     ∷ (var kind.Int n_x)
@@ -507,8 +507,8 @@ construct-twice : ending construct-twice-text 4 4 [] 2000 ≡ Finished (lines (c
 unfolding digits
 construct-twice = refl
 
--- class P int x method main() local int x = 5 call q(x) delocal int x = 6 method q(int y) y += 1 x
---   += 1
+-- `class P int x method main() local int x = 5 call q(x) delocal int x = 6 method q(int y) y += 1 x
+--   += 1`
 abbrev local-hides_field-text : Source
 local-hides_field-text = program (class_text n_P None ((var kind.Int n_x)
     ∷ []) (procedure n_main [] (block ((Local 0 (var kind.Int n_x) (Number 0 5) (block
@@ -522,7 +522,7 @@ local-hides_field : ending local-hides_field-text 4 4 [] 2000 ≡ Finished (line
 unfolding digits
 local-hides_field = refl
 
--- class P int x method main() x += 1 call main()
+-- `class P int x method main() x += 1 call main()`
 abbrev main-called-text : Source
 main-called-text = program (class_text n_P None ((var kind.Int n_x)
     ∷ []) (procedure n_main [] (block ((Update 0 update.Add (Whole n_x) (Number 0 1))
@@ -531,7 +531,8 @@ main-called-text = program (class_text n_P None ((var kind.Int n_x)
 main-called : ending main-called-text 4 3 [] 2000 ≡ Faulted 14 9
 main-called = refl
 
--- class P inherits Q int x method main() x += y + z call s() class Q int y int z method s() y -= 1
+-- `class P inherits Q int x method main() x += y + z call s() class Q int y int z method s() y -=
+-- 1`
 abbrev inherited_main_fields-text : Source
 inherited_main_fields-text = program (class_text n_P (Some n_Q) ((var kind.Int n_x)
     ∷ []) (procedure n_main [] (block ((Update 0 update.Add (Whole n_x) (Binary 0 op.Add
@@ -571,8 +572,8 @@ shared-once : ending shared-once-text 4 4 [] 2000 ≡ Finished (lines (codes "a 
 unfolding digits
 shared-once = refl
 
--- class P L a L b method main() new L a new L b call a::grow() call a::deepen() call b::grow()
---   class L int v L next method grow() new L next method deepen() call next::grow()
+-- `class P L a L b method main() new L a new L b call a::grow() call a::deepen() call b::grow()
+--   class L int v L next method grow() new L next method deepen() call next::grow()`
 abbrev numbered-in_breadth-text : Source
 numbered-in_breadth-text = program (class_text n_P None ((var (kind.Class n_L) n_a)
     ∷ (var (kind.Class n_L) n_b)
@@ -616,6 +617,6 @@ loop-entered_again-text = with_nodes ((From 0 (Binary 0 op.Equal (Variable n_x) 
 loop-entered_again : ending loop-entered_again-text 4 4 [] 2000 ≡ Faulted 2 14
 loop-entered_again = refl
 
--- a run that stops with a fault only past its fuel has no answer
+-- a run that stops with a fault only past its fuel has no result
 array-not_empty-unfinished : ending array-not_empty-text 4 4 [] 20 ≡ Unfinished
 array-not_empty-unfinished = refl

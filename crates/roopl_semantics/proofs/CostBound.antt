@@ -1,9 +1,9 @@
--- The bound on depth alone never ends a run: where its cost is within the bound, the run is over.
+-- The bound on depth never ends a run: if its cost is within the bound, the run is over.
 use Rattle.std.proofs.Common.{◌≡◌, ℕ, zero, suc, ◌+◌, ◌-◌, ◌<◌, ◌≤◌, Bool, true, false, cond, not, refl, ap, subst, ◌∙◌}
 use Rattle.std.proofs.Common.{arith, List, [], ◌∷◌, length, Some, None}
-use Rattle.rpp_tree.specs.Tree.{Expression, Null, Whole, Item, Object as AnObject, nodes, Number, Variable, Element}
-use Rattle.rpp_tree.specs.Tree.{Binary, Statement, Statements, If, From, Construct, Local, New, Delete, Call, End, Then}
-use Rattle.rpp_tree.specs.Tree.{Procedure}
+use Rattle.stmt_inverter.specs.rpp_tree.Tree.{Expression, Null, Whole, Item, Object as AnObject, nodes, Number, Variable, Element}
+use Rattle.stmt_inverter.specs.rpp_tree.Tree.{Binary, Statement, Statements, If, From, Construct, Local, New, Delete, Call, End, Then}
+use Rattle.stmt_inverter.specs.rpp_tree.Tree.{Procedure}
 use Rattle.std.specs.Prelude.{Result, Ok, Err}
 use Rattle.roopl_semantics.specs.Run.{Run, Done, Fault, More, after_cost, given, ◌>>=◌, spend, fault_if}
 use Rattle.roopl_semantics.specs.Store.{Value, State, number_of, is_nil}

@@ -1,11 +1,11 @@
--- An image that stands for a program ends exactly as the source does.
+-- An image that implements a program ends exactly as the source does.
 use Rattle.std.proofs.Common.{◌≡◌, ℕ, ◌+◌, refl, sym, ap, ◌∙◌, arith, List, Some}
-use Rattle.rpp_words.specs.declared.input.FieldWord.{FieldWord}
-use Rattle.rpp_words.specs.declared.input.Limits.{Limits}
-use Rattle.rpp_tree.specs.Tree.{Source}
-use Rattle.pisa_isa.specs.declared.machine.Stop.{Stop}
-use Rattle.pisa_isa.specs.declared.machine.Stop.TheVariants.{Finished, Returned, Trap, BadAddress, OffCode, Bound}
-use Rattle.pisa_isa.specs.Image.{Segments}
+use Rattle.buddy_book.specs.rpp_words.declared.input.FieldWord.{FieldWord}
+use Rattle.buddy_book.specs.rpp_words.declared.input.Limits.{Limits}
+use Rattle.stmt_inverter.specs.rpp_tree.Tree.{Source}
+use Rattle.code_conventions.specs.pisa_isa.declared.machine.Stop.{Stop}
+use Rattle.code_conventions.specs.pisa_isa.declared.machine.Stop.TheVariants.{Finished, Returned, Trap, BadAddress, OffCode, Bound}
+use Rattle.code_conventions.specs.pisa_isa.Image.{Segments}
 use Rattle.roopl_semantics.specs.Run.{Run, Done, Fault}
 use Rattle.roopl_semantics.specs.Store.{State}
 use Rattle.roopl_semantics.specs.Source.{GivesDone, GivesFault, source}
@@ -14,7 +14,7 @@ use Rattle.roopl_semantics.specs.StandsFor.{run_of, Follows, cost_of, enough_ste
 use Rattle.roopl_semantics.specs.Exact.{FinishesWith, TrapsWith, EndsExactly}
 use Rattle.roopl_semantics.proofs.MoreFuel.{source_done, source_fault}
 
--- the parts of a run's answer, or these
+-- the parts of a run's result, or these
 abbrev end_of : State → Run State → State
 end_of none (Done end cost) = end
 end_of none _ = none

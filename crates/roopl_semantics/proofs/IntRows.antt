@@ -1,15 +1,15 @@
--- Worked programs of int fields alone.
+-- Worked programs with only int fields.
 use Rattle.std.specs.Prelude.{◌≡◌, [], ◌∷◌, None, codes}
 use Rattle.std.specs.Fmt.{digits}
 use Rattle.std.proofs.Common.{refl}
-use Rattle.rpp_tree.specs.declared.tree.VarType.TheVariants as kind
-use Rattle.rpp_tree.specs.declared.tree.BinOp.TheVariants as op
-use Rattle.rpp_tree.specs.declared.tree.UpdateOp.TheVariants as update
-use Rattle.rpp_tree.specs.Tree.{Number, Variable, Binary, Whole, Update, If, From, Local, Skip, Source}
+use Rattle.stmt_inverter.specs.rpp_tree.declared.tree.VarType.TheVariants as kind
+use Rattle.stmt_inverter.specs.rpp_tree.declared.tree.BinOp.TheVariants as op
+use Rattle.stmt_inverter.specs.rpp_tree.declared.tree.UpdateOp.TheVariants as update
+use Rattle.stmt_inverter.specs.rpp_tree.Tree.{Number, Variable, Binary, Whole, Update, If, From, Local, Skip, Source}
 use Rattle.roopl_semantics.proofs.Testing.{named, var, procedure, class_text, block, program, word_for, Finished}
 use Rattle.roopl_semantics.proofs.Testing.{Faulted, Unfinished, lines, ending}
 
--- class P int x method main() x += 5
+-- `class P int x method main() x += 5`
 abbrev pub adds-text : Source
 adds-text = program (class_text (named 6 (codes "P")) None ((var kind.Int (named 12 (codes "x"))) ∷ [])
     (procedure (named 21 (codes "main")) [] (block ((Update 28 update.Add (Whole (named 28 (codes "x")))
@@ -22,7 +22,7 @@ adds = refl
 adds-too_few_turns : ending adds-text 1 1 [] 1 ≡ Unfinished
 adds-too_few_turns = refl
 
--- class P int x method main() x -= 1
+-- `class P int x method main() x -= 1`
 abbrev pub subtracts-text : Source
 subtracts-text = program (class_text (named 6 (codes "P")) None ((var kind.Int (named 12 (codes "x"))) ∷ [])
     (procedure (named 21 (codes "main")) [] (block ((Update 28 update.Sub (Whole (named 28 (codes "x")))
@@ -32,7 +32,7 @@ subtracts : ending subtracts-text 1 1 [] 10 ≡ Finished (lines (codes "x = -1" 
 unfolding digits
 subtracts = refl
 
--- class P int x method main() x += 1
+-- `class P int x method main() x += 1`
 abbrev pub wraps-text : Source
 wraps-text = program (class_text (named 6 (codes "P")) None ((var kind.Int (named 12 (codes "x"))) ∷ [])
     (procedure (named 21 (codes "main")) [] (block ((Update 28 update.Add (Whole (named 28 (codes "x")))
@@ -43,7 +43,7 @@ wraps : ending wraps-text 1 1 (word_for 0 2147483647 ∷ []) 10
 unfolding digits
 wraps = refl
 
--- class P int x method main() x += (2147483647 < (0 - 2147483647 - 1))
+-- `class P int x method main() x += (2147483647 < (0 - 2147483647 - 1))`
 abbrev pub compares_signed-text : Source
 compares_signed-text = program (class_text (named 6 (codes "P")) None ((var kind.Int (named 12 (codes "x"))) ∷ [])
     (procedure (named 21 (codes "main")) [] (block ((Update 28 update.Add (Whole (named 28 (codes "x")))
@@ -54,7 +54,7 @@ compares_signed : ending compares_signed-text 1 1 [] 10 ≡ Finished (lines (cod
 unfolding digits
 compares_signed = refl
 
--- class P int x method main() if x = 0 then x += 1 else skip fi x = 0
+-- `class P int x method main() if x = 0 then x += 1 else skip fi x = 0`
 abbrev pub fi-after_then-text : Source
 fi-after_then-text = program (class_text (named 6 (codes "P")) None ((var kind.Int (named 12 (codes "x"))) ∷ [])
     (procedure (named 21 (codes "main")) [] (block ((If 28
@@ -66,7 +66,7 @@ fi-after_then-text = program (class_text (named 6 (codes "P")) None ((var kind.I
 fi-after_then : ending fi-after_then-text 1 1 [] 1000 ≡ Faulted 1 9
 fi-after_then = refl
 
--- class P int x method main() if x = 0 then x += 1 else skip fi x = 1
+-- `class P int x method main() if x = 0 then x += 1 else skip fi x = 1`
 abbrev pub fi-after_else-text : Source
 fi-after_else-text = program (class_text (named 6 (codes "P")) None ((var kind.Int (named 12 (codes "x"))) ∷ [])
     (procedure (named 21 (codes "main")) [] (block ((If 28
@@ -78,7 +78,7 @@ fi-after_else-text = program (class_text (named 6 (codes "P")) None ((var kind.I
 fi-after_else : ending fi-after_else-text 1 1 (word_for 0 1 ∷ []) 1000 ≡ Faulted 1 8
 fi-after_else = refl
 
--- class P int x method main() from x = 0 do x += 1 loop skip until x = 10
+-- `class P int x method main() from x = 0 do x += 1 loop skip until x = 10`
 abbrev pub loop-text : Source
 loop-text = program (class_text (named 6 (codes "P")) None ((var kind.Int (named 12 (codes "x"))) ∷ [])
     (procedure (named 21 (codes "main")) [] (block ((From 28
@@ -94,7 +94,7 @@ loop = refl
 loop-not_entered : ending loop-text 1 1 (word_for 0 1 ∷ []) 1000 ≡ Faulted 2 4
 loop-not_entered = refl
 
--- class P int x method main() from 0 = 0 do x += 1 loop skip until x = 10
+-- `class P int x method main() from 0 = 0 do x += 1 loop skip until x = 10`
 abbrev pub loop-entered_again-text : Source
 loop-entered_again-text = program (class_text (named 6 (codes "P")) None ((var kind.Int (named 12 (codes "x"))) ∷ [])
     (procedure (named 21 (codes "main")) [] (block ((From 28 (Binary 35 op.Equal (Number 33 0) (Number 37 0))
@@ -105,7 +105,7 @@ loop-entered_again-text = program (class_text (named 6 (codes "P")) None ((var k
 loop-entered_again : ending loop-entered_again-text 1 1 [] 1000 ≡ Faulted 2 13
 loop-entered_again = refl
 
--- class P int x method main() x += 1 from x = 1 do skip loop x += 1 until x = 0
+-- `class P int x method main() x += 1 from x = 1 do skip loop x += 1 until x = 0`
 abbrev endless-text : Source
 endless-text = program (class_text (named 6 (codes "P")) None ((var kind.Int (named 12 (codes "x"))) ∷ [])
     (procedure (named 21 (codes "main")) [] (block ((Update 28 update.Add (Whole (named 28 (codes "x")))
@@ -116,7 +116,7 @@ endless-text = program (class_text (named 6 (codes "P")) None ((var kind.Int (na
 endless : ending endless-text 1 1 [] 1000 ≡ Unfinished
 endless = refl
 
--- class P int x method main() local int t = 0 t += 1 delocal int t = 0
+-- `class P int x method main() local int t = 0 t += 1 delocal int t = 0`
 abbrev local-differs-text : Source
 local-differs-text = program (class_text (named 6 (codes "P")) None ((var kind.Int (named 12 (codes "x"))) ∷ [])
     (procedure (named 21 (codes "main")) [] (block ((Local 28 (var kind.Int (named 38 (codes "t"))) (Number 42 0)

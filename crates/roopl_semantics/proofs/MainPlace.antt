@@ -1,10 +1,10 @@
--- Where `main` stands in an accepted program, and the rules of the class table one by one.
+-- The position of `main` in an accepted program, and the rules of the class table one by one.
 use Rattle.std.proofs.Common.{◌≡◌, ◌∙◌, sym, ap, subst, refl, ℕ, suc, ◌+◌, ◌<◌, Bool, true, false, List, [], ◌∷◌, ◌++◌}
 use Rattle.std.proofs.Common.{length, Option, Some, None, arith, slice_get}
 use Rattle.std.specs.Prelude.{if◌then◌else◌}
 use Rattle.std.proofs.lemmas.Option.{slice_get_within}
-use Rattle.rpp_tree.specs.declared.tree.Var.{Var}
-use Rattle.rpp_tree.specs.Tree.{Procedure, ClassText, Source}
+use Rattle.stmt_inverter.specs.rpp_tree.declared.tree.Var.{Var}
+use Rattle.stmt_inverter.specs.rpp_tree.Tree.{Procedure, ClassText, Source}
 use Rattle.class_table.specs.declared.method.MethodId.{MethodId}
 use Rattle.class_table.specs.declared.mains.Main.{Main}
 use Rattle.class_table.specs.First.{first_of}
@@ -24,7 +24,7 @@ pub none_of : {E : Type 0} (a b : Option E) → first_of a b ≡ None → (a ≡
 none_of None b h = (refl, h)
 none_of (Some e) b h = absurd (cc)
 
--- ---- where `main` stands
+-- ---- the position of `main`
 
 pub record MainIn (methods : List Procedure) (from at : ℕ) : Type 0 where
   pub index : ℕ

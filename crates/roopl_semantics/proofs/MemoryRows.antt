@@ -1,12 +1,12 @@
--- Worked memories: what stands for a store, and what the walk of it counts.
+-- Worked memories: what represents a store, and what the heap traversal counts.
 use Rattle.std.specs.Prelude.{◌≡◌, ℕ, ◌-◌, ◌*◌, List, [], ◌∷◌, ◌++◌, length, take, drop}
 use Rattle.std.proofs.Common.{refl}
-use Rattle.rpp_words.specs.declared.input.Limits.{Limits}
-use Rattle.rpp_tree.specs.Tree.{Source}
+use Rattle.buddy_book.specs.rpp_words.declared.input.Limits.{Limits}
+use Rattle.stmt_inverter.specs.rpp_tree.Tree.{Source}
 use Rattle.roopl_semantics.specs.Run.{Run, Done}
 use Rattle.roopl_semantics.specs.Store.{State}
 use Rattle.roopl_semantics.specs.Source.{source, starting}
-use Rattle.pisa_isa.specs.Loaded.{loaded}
+use Rattle.code_conventions.specs.pisa_isa.Loaded.{loaded}
 use Rattle.roopl_semantics.specs.Layout.{main_statics, tables, layout}
 use Rattle.roopl_semantics.specs.Walk.{counted}
 use Rattle.roopl_semantics.proofs.Testing.{word_for}
@@ -16,7 +16,7 @@ use Rattle.roopl_semantics.proofs.ObjectRows.{one_object-text, ring-text}
 abbrev limits : ℕ → ℕ → Limits
 limits heap deep = record { heap = heap; deep = deep }
 
--- static cells with these code places
+-- static cells with these code addresses
 abbrev statics : Source → List (List ℕ) → List ℕ
 statics program places = main_statics program ++ tables 1 places
 
@@ -29,7 +29,7 @@ abbrev memory : Source → ℕ → ℕ → List (List ℕ) → List ℕ
 memory program heap deep places = laid program (limits heap deep) (statics program places)
     (source program (limits heap deep) [] 1000)
 
--- the cells of a memory behind the fixed ones, without the stack
+-- the cells of a memory after the fixed ones, without the stack
 abbrev body : Source → ℕ → ℕ → List (List ℕ) → List ℕ
 body program heap deep places = let cells = memory program heap deep places in
     drop 40 (take (length cells - 512 * deep) cells)

@@ -1,9 +1,9 @@
 -- A program that ends with some fuel ends the same with more.
 use Rattle.std.proofs.Common.{◌≡◌, ℕ, ◌≤◌, nat_le, Bool, true, false, if◌then◌else◌, refl, ap, subst, ◌∙◌, arith, List}
 use Rattle.std.proofs.lemmas.Bool.{leb-true, le-leb}
-use Rattle.rpp_words.specs.declared.input.FieldWord.{FieldWord}
-use Rattle.rpp_words.specs.declared.input.Limits.{Limits}
-use Rattle.rpp_tree.specs.Tree.{Source}
+use Rattle.buddy_book.specs.rpp_words.declared.input.FieldWord.{FieldWord}
+use Rattle.buddy_book.specs.rpp_words.declared.input.Limits.{Limits}
+use Rattle.stmt_inverter.specs.rpp_tree.Tree.{Source}
 use Rattle.roopl_semantics.specs.Run.{Run, Done, Fault, More}
 use Rattle.roopl_semantics.specs.Store.{State}
 use Rattle.roopl_semantics.specs.Execution.{Setting, exec}

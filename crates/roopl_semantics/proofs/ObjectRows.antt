@@ -2,14 +2,14 @@
 use Rattle.std.specs.Prelude.{◌≡◌, false, [], ◌∷◌, Some, None, codes}
 use Rattle.std.specs.Fmt.{digits}
 use Rattle.std.proofs.Common.{refl}
-use Rattle.rpp_tree.specs.declared.tree.VarType.TheVariants as kind
-use Rattle.rpp_tree.specs.declared.tree.UpdateOp.TheVariants as update
-use Rattle.rpp_tree.specs.Tree.{Number, Whole, Object as AnObject, Update, New, Delete, Copy, Uncopy, Call, Skip}
-use Rattle.rpp_tree.specs.Tree.{Source}
+use Rattle.stmt_inverter.specs.rpp_tree.declared.tree.VarType.TheVariants as kind
+use Rattle.stmt_inverter.specs.rpp_tree.declared.tree.UpdateOp.TheVariants as update
+use Rattle.stmt_inverter.specs.rpp_tree.Tree.{Number, Whole, Object as AnObject, Update, New, Delete, Copy, Uncopy, Call, Skip}
+use Rattle.stmt_inverter.specs.rpp_tree.Tree.{Source}
 use Rattle.roopl_semantics.proofs.Testing.{named, var, procedure, class_text, block, program, Finished, Faulted, lines}
 use Rattle.roopl_semantics.proofs.Testing.{ending}
 
--- class P Q a Q b method main() new Q a new Q b class Q method q() skip
+-- `class P Q a Q b method main() new Q a new Q b class Q method q() skip`
 abbrev pub two_objects-text : Source
 two_objects-text = program (class_text (named 6 (codes "P")) None
     ((var (kind.Class (named 8 (codes "Q"))) (named 10 (codes "a")))
@@ -22,7 +22,7 @@ two_objects-text = program (class_text (named 6 (codes "P")) None
 two_objects : ending two_objects-text 1 1 [] 1000 ≡ Faulted 8 6
 two_objects = refl
 
--- class P Q a Q b method main() new Q a class Q method q() skip
+-- `class P Q a Q b method main() new Q a class Q method q() skip`
 abbrev pub one_object-text : Source
 one_object-text = program (class_text (named 6 (codes "P")) None
     ((var (kind.Class (named 8 (codes "Q"))) (named 10 (codes "a")))
@@ -36,8 +36,8 @@ one_object : ending one_object-text 1 1 [] 1000 ≡ Finished
 unfolding digits
 one_object = refl
 
--- class P B a B b C c method main() new B a new B b delete B a delete B b new C c class B method
--- q() skip class C int f int g method q() skip
+-- `class P B a B b C c method main() new B a new B b delete B a delete B b new C c class B method
+-- q() skip class C int f int g method q() skip`
 abbrev pub blocks_stay-text : Source
 blocks_stay-text = program (class_text (named 6 (codes "P")) None
     ((var (kind.Class (named 8 (codes "B"))) (named 10 (codes "a")))
@@ -57,8 +57,8 @@ blocks_stay-text = program (class_text (named 6 (codes "P")) None
 blocks_stay : ending blocks_stay-text 2 1 [] 1000 ≡ Faulted 8 20
 blocks_stay = refl
 
--- class P B a B b C c method main() new B a new B b delete B b delete B a new C c class B method
--- q() skip class C int f int g method q() skip
+-- `class P B a B b C c method main() new B a new B b delete B b delete B a new C c class B method
+-- q() skip class C int f int g method q() skip`
 abbrev pub blocks_merge-text : Source
 blocks_merge-text = program (class_text (named 6 (codes "P")) None
     ((var (kind.Class (named 8 (codes "B"))) (named 10 (codes "a")))
@@ -81,8 +81,8 @@ blocks_merge : ending blocks_merge-text 2 1 [] 1000 ≡ Finished
 unfolding digits
 blocks_merge = refl
 
--- class P Q a Q b method main() new Q a call a::inc() delete Q a class Q int f method inc() f += 1
--- class R inherits Q method no() skip
+-- `class P Q a Q b method main() new Q a call a::inc() delete Q a class Q int f method inc() f += 1
+-- class R inherits Q method no() skip`
 abbrev pub delete-not_empty-text : Source
 delete-not_empty-text = program (class_text (named 6 (codes "P")) None
     ((var (kind.Class (named 8 (codes "Q"))) (named 10 (codes "a")))
@@ -99,8 +99,8 @@ delete-not_empty-text = program (class_text (named 6 (codes "P")) None
 delete-not_empty : ending delete-not_empty-text 4 2 [] 1000 ≡ Faulted 7 15
 delete-not_empty = refl
 
--- class P Q a Q b method main() new Q a copy Q a b delete Q a class Q int f method inc() f += 1
--- class R inherits Q method no() skip
+-- `class P Q a Q b method main() new Q a copy Q a b delete Q a class Q int f method inc() f += 1
+-- class R inherits Q method no() skip`
 abbrev pub delete-counted_twice-text : Source
 delete-counted_twice-text = program (class_text (named 6 (codes "P")) None
     ((var (kind.Class (named 8 (codes "Q"))) (named 10 (codes "a")))
@@ -117,8 +117,8 @@ delete-counted_twice-text = program (class_text (named 6 (codes "P")) None
 delete-counted_twice : ending delete-counted_twice-text 4 2 [] 1000 ≡ Faulted 6 8
 delete-counted_twice = refl
 
--- class P Q a Q b method main() new Q a copy Q a b uncopy Q a b delete Q a class Q int f method
--- inc() f += 1 class R inherits Q method no() skip
+-- `class P Q a Q b method main() new Q a copy Q a b uncopy Q a b delete Q a class Q int f method
+-- inc() f += 1 class R inherits Q method no() skip`
 abbrev pub copy-undone-text : Source
 copy-undone-text = program (class_text (named 6 (codes "P")) None
     ((var (kind.Class (named 8 (codes "Q"))) (named 10 (codes "a")))
@@ -139,8 +139,8 @@ copy-undone : ending copy-undone-text 4 2 [] 1000 ≡ Finished
 unfolding digits
 copy-undone = refl
 
--- class P Q a Q b method main() new R a delete Q a class Q int f method inc() f += 1 class R
--- inherits Q method no() skip
+-- `class P Q a Q b method main() new R a delete Q a class Q int f method inc() f += 1 class R
+-- inherits Q method no() skip`
 abbrev pub delete-other_class-text : Source
 delete-other_class-text = program (class_text (named 6 (codes "P")) None
     ((var (kind.Class (named 8 (codes "Q"))) (named 10 (codes "a")))
@@ -156,8 +156,8 @@ delete-other_class-text = program (class_text (named 6 (codes "P")) None
 delete-other_class : ending delete-other_class-text 4 2 [] 1000 ≡ Faulted 11 7
 delete-other_class = refl
 
--- class P Q a Q b method main() delete Q a class Q int f method inc() f += 1 class R inherits Q
--- method no() skip
+-- `class P Q a Q b method main() delete Q a class Q int f method inc() f += 1 class R inherits Q
+-- method no() skip`
 abbrev pub delete-nil-text : Source
 delete-nil-text = program (class_text (named 6 (codes "P")) None
     ((var (kind.Class (named 8 (codes "Q"))) (named 10 (codes "a")))
@@ -172,8 +172,8 @@ delete-nil-text = program (class_text (named 6 (codes "P")) None
 delete-nil : ending delete-nil-text 4 2 [] 1000 ≡ Faulted 5 1
 delete-nil = refl
 
--- class P Q a Q b method main() new Q a new Q a class Q int f method inc() f += 1 class R inherits
--- Q method no() skip
+-- `class P Q a Q b method main() new Q a new Q a class Q int f method inc() f += 1 class R inherits
+-- Q method no() skip`
 abbrev pub new-not_nil-text : Source
 new-not_nil-text = program (class_text (named 6 (codes "P")) None
     ((var (kind.Class (named 8 (codes "Q"))) (named 10 (codes "a")))
@@ -189,8 +189,8 @@ new-not_nil-text = program (class_text (named 6 (codes "P")) None
 new-not_nil : ending new-not_nil-text 4 2 [] 1000 ≡ Faulted 4 7
 new-not_nil = refl
 
--- class P Q a Q b method main() new Q a new Q b uncopy Q a b class Q int f method inc() f += 1
--- class R inherits Q method no() skip
+-- `class P Q a Q b method main() new Q a new Q b uncopy Q a b class Q int f method inc() f += 1
+-- class R inherits Q method no() skip`
 abbrev pub uncopy-not_same-text : Source
 uncopy-not_same-text = program (class_text (named 6 (codes "P")) None
     ((var (kind.Class (named 8 (codes "Q"))) (named 10 (codes "a")))
@@ -207,9 +207,9 @@ uncopy-not_same-text = program (class_text (named 6 (codes "P")) None
 uncopy-not_same : ending uncopy-not_same-text 4 2 [] 1000 ≡ Faulted 10 13
 uncopy-not_same = refl
 
--- class P Node a Node b method main() new Node a new Node b call a::link(b) call b::link(a) call
+-- `class P Node a Node b method main() new Node a new Node b call a::link(b) call b::link(a) call
 -- a::drop(b) class Node Node next method link(Node o) copy Node o next method drop(Node o) uncopy
--- Node next o
+-- Node next o`
 abbrev pub ring-text : Source
 ring-text = program (class_text (named 6 (codes "P")) None
     ((var (kind.Class (named 8 (codes "Node"))) (named 13 (codes "a")))

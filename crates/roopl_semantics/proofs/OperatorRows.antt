@@ -2,11 +2,11 @@
 use Rattle.std.specs.Prelude.{◌≡◌, ℕ, List, [], ◌∷◌, None, codes}
 use Rattle.std.specs.Fmt.{digits}
 use Rattle.std.proofs.Common.{refl}
-use Rattle.rpp_tree.specs.declared.tree.VarType.TheVariants as kind
-use Rattle.rpp_tree.specs.declared.tree.BinOp.TheVariants as op
-use Rattle.rpp_tree.specs.declared.tree.UpdateOp.TheVariants as update
-use Rattle.rpp_tree.specs.declared.tree.Var.{Var}
-use Rattle.rpp_tree.specs.Tree.{Number, Variable, Whole, Update, Local, Source}
+use Rattle.stmt_inverter.specs.rpp_tree.declared.tree.VarType.TheVariants as kind
+use Rattle.stmt_inverter.specs.rpp_tree.declared.tree.BinOp.TheVariants as op
+use Rattle.stmt_inverter.specs.rpp_tree.declared.tree.UpdateOp.TheVariants as update
+use Rattle.stmt_inverter.specs.rpp_tree.declared.tree.Var.{Var}
+use Rattle.stmt_inverter.specs.rpp_tree.Tree.{Number, Variable, Whole, Update, Local, Source}
 use Rattle.roopl_semantics.specs.Operators.{operated, updated}
 use Rattle.roopl_semantics.proofs.Testing.{named, var, procedure, class_text, block, program, Finished, lines, ending}
 
@@ -26,8 +26,8 @@ operators : values ≡ 1 ∷ 4294967295 ∷ 6 ∷ 8 ∷ 14 ∷ 1 ∷ 0 ∷ 1 ∷
     ∷ 6 ∷ []
 operators = refl
 
--- class P int x method main()
---   local int s = 1  local int t = 2  x += t  delocal int t = 2  delocal int s = 1
+-- `class P int x method main()
+--   local int s = 1  local int t = 2  x += t  delocal int t = 2  delocal int s = 1`
 abbrev int_var : List ℕ → Var
 int_var name = var kind.Int (named 0 name)
 

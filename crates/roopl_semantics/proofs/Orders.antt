@@ -1,6 +1,6 @@
 -- The orders of the blocks that objects and arrays take.
 use Rattle.std.proofs.Common.{ℕ, ◌+◌, ◌^◌, ◌≤◌, arith}
-use Rattle.rpp_words.specs.declared.input.TheConstants.{HEADER_WORDS}
+use Rattle.buddy_book.specs.rpp_words.declared.input.TheConstants.{HEADER_WORDS}
 use Rattle.buddy_book.proofs.Requests.{order_least, order_room}
 use Rattle.roopl_semantics.specs.Execution.{order_of_cells}
 

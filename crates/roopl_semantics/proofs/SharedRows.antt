@@ -2,15 +2,15 @@
 use Rattle.std.specs.Prelude.{◌≡◌, false, [], ◌∷◌, Some, None, codes}
 use Rattle.std.specs.Fmt.{digits}
 use Rattle.std.proofs.Common.{refl}
-use Rattle.rpp_tree.specs.declared.tree.VarType.TheVariants as kind
-use Rattle.rpp_tree.specs.declared.tree.UpdateOp.TheVariants as update
-use Rattle.rpp_tree.specs.declared.tree.BinOp.TheVariants as op
-use Rattle.rpp_tree.specs.Tree.{Number, Null, Element, Binary, Whole, Item, Object as AnObject, Ints, Objects, Update}
-use Rattle.rpp_tree.specs.Tree.{Swap, New, Delete, Copy, Uncopy, Call, Source}
+use Rattle.stmt_inverter.specs.rpp_tree.declared.tree.VarType.TheVariants as kind
+use Rattle.stmt_inverter.specs.rpp_tree.declared.tree.UpdateOp.TheVariants as update
+use Rattle.stmt_inverter.specs.rpp_tree.declared.tree.BinOp.TheVariants as op
+use Rattle.stmt_inverter.specs.rpp_tree.Tree.{Number, Null, Element, Binary, Whole, Item, Object as AnObject, Ints, Objects, Update}
+use Rattle.stmt_inverter.specs.rpp_tree.Tree.{Swap, New, Delete, Copy, Uncopy, Call, Source}
 use Rattle.roopl_semantics.proofs.Testing.{named, var, procedure, class_text, block, program, Finished, Faulted}
 use Rattle.roopl_semantics.proofs.Testing.{Unfinished, lines, ending}
 
--- class P int[] a int[] b method main() new int[2] a copy int[] a b a[0] += 3 b[1] += 4
+-- `class P int[] a int[] b method main() new int[2] a copy int[] a b a[0] += 3 b[1] += 4`
 abbrev pub two_names-text : Source
 two_names-text = program (class_text (named 6 (codes "P")) None
     ((var kind.IntArray (named 14 (codes "a"))) ∷ (var kind.IntArray (named 22 (codes "b"))) ∷ [])
@@ -25,7 +25,7 @@ two_names : ending two_names-text 2 1 [] 2000 ≡ Finished
 unfolding digits
 two_names = refl
 
--- class P int[] a int[] b method main() new int[2] a copy int[] a b a[0] += b[1]
+-- `class P int[] a int[] b method main() new int[2] a copy int[] a b a[0] += b[1]`
 abbrev pub value_shares-text : Source
 value_shares-text = program (class_text (named 6 (codes "P")) None
     ((var kind.IntArray (named 14 (codes "a"))) ∷ (var kind.IntArray (named 22 (codes "b"))) ∷ [])
@@ -37,7 +37,7 @@ value_shares-text = program (class_text (named 6 (codes "P")) None
 value_shares : ending value_shares-text 2 1 [] 2000 ≡ Faulted 16 13
 value_shares = refl
 
--- class P int[] a int[] b method main() new int[2] a copy int[] a b a[b[0]] += 1
+-- `class P int[] a int[] b method main() new int[2] a copy int[] a b a[b[0]] += 1`
 abbrev pub index_shares-text : Source
 index_shares-text = program (class_text (named 6 (codes "P")) None
     ((var kind.IntArray (named 14 (codes "a"))) ∷ (var kind.IntArray (named 22 (codes "b"))) ∷ [])
@@ -49,7 +49,7 @@ index_shares-text = program (class_text (named 6 (codes "P")) None
 index_shares : ending index_shares-text 2 1 [] 2000 ≡ Faulted 16 13
 index_shares = refl
 
--- class P int[] a int[] b method main() new int[2] a copy int[] a b a[0] += 3 a[0] <=> b[1]
+-- `class P int[] a int[] b method main() new int[2] a copy int[] a b a[0] += 3 a[0] <=> b[1]`
 abbrev pub swap_shares_nothing-text : Source
 swap_shares_nothing-text = program (class_text (named 6 (codes "P")) None
     ((var kind.IntArray (named 14 (codes "a"))) ∷ (var kind.IntArray (named 22 (codes "b"))) ∷ [])
@@ -65,7 +65,7 @@ swap_shares_nothing : ending swap_shares_nothing-text 2 1 [] 2000
 unfolding digits
 swap_shares_nothing = refl
 
--- class P int[] a int[] b method main() new int[2] a copy int[] a b delete int[2] a
+-- `class P int[] a int[] b method main() new int[2] a copy int[] a b delete int[2] a`
 abbrev pub delete-shared_array-text : Source
 delete-shared_array-text = program (class_text (named 6 (codes "P")) None
     ((var kind.IntArray (named 14 (codes "a"))) ∷ (var kind.IntArray (named 22 (codes "b"))) ∷ [])
@@ -76,7 +76,8 @@ delete-shared_array-text = program (class_text (named 6 (codes "P")) None
 delete-shared_array : ending delete-shared_array-text 2 1 [] 2000 ≡ Faulted 6 10
 delete-shared_array = refl
 
--- class P int[] a int[] b method main() new int[2] a copy int[] a b uncopy int[] a b delete int[2] a
+-- `class P int[] a int[] b method main() new int[2] a copy int[] a b uncopy int[] a b delete int[2]
+-- a`
 abbrev pub delete-no_longer_shared-text : Source
 delete-no_longer_shared-text = program (class_text (named 6 (codes "P")) None
     ((var kind.IntArray (named 14 (codes "a"))) ∷ (var kind.IntArray (named 22 (codes "b"))) ∷ [])
@@ -90,8 +91,8 @@ delete-no_longer_shared : ending delete-no_longer_shared-text 2 1 [] 2000
 unfolding digits
 delete-no_longer_shared = refl
 
--- class P int[] a int[] b int[] c Q[] u Q[] v Q p int x method main() new int[2] a copy int[] a b
--- new int[2] c new Q[2] u copy Q[] u v c[0] += a[1] + b[0] class Q int f method inc() f += 1
+-- `class P int[] a int[] b int[] c Q[] u Q[] v Q p int x method main() new int[2] a copy int[] a b
+-- new int[2] c new Q[2] u copy Q[] u v c[0] += a[1] + b[0] class Q int f method inc() f += 1`
 abbrev pub update-of_another_array-text : Source
 update-of_another_array-text = program (class_text (named 6 (codes "P")) None
     ((var kind.IntArray (named 14 (codes "a"))) ∷ (var kind.IntArray (named 22 (codes "b")))
@@ -118,8 +119,8 @@ update-of_another_array : ending update-of_another_array-text 4 4 [] 2000
 unfolding digits
 update-of_another_array = refl
 
--- class P int[] a int[] b int[] c Q[] u Q[] v Q p int x method main() new int[2] a copy int[] a b
--- new int[2] c new Q[2] u copy Q[] u v c[1] -= 1 a[0] -= c[b[1]] class Q int f method inc() f += 1
+-- `class P int[] a int[] b int[] c Q[] u Q[] v Q p int x method main() new int[2] a copy int[] a b
+-- new int[2] c new Q[2] u copy Q[] u v c[1] -= 1 a[0] -= c[b[1]] class Q int f method inc() f += 1`
 abbrev pub update-in_index_of_value-text : Source
 update-in_index_of_value-text = program (class_text (named 6 (codes "P")) None
     ((var kind.IntArray (named 14 (codes "a"))) ∷ (var kind.IntArray (named 22 (codes "b")))
@@ -141,8 +142,8 @@ update-in_index_of_value-text = program (class_text (named 6 (codes "P")) None
 update-in_index_of_value : ending update-in_index_of_value-text 4 4 [] 2000 ≡ Faulted 16 39
 update-in_index_of_value = refl
 
--- class P int[] a int[] b int[] c Q[] u Q[] v Q p int x method main() new int[2] a copy int[] a b
--- new int[2] c new Q[2] u copy Q[] u v a[0] ^= 1 + b[0] class Q int f method inc() f += 1
+-- `class P int[] a int[] b int[] c Q[] u Q[] v Q p int x method main() new int[2] a copy int[] a b
+-- new int[2] c new Q[2] u copy Q[] u v a[0] ^= 1 + b[0] class Q int f method inc() f += 1`
 abbrev pub update-xored-text : Source
 update-xored-text = program (class_text (named 6 (codes "P")) None
     ((var kind.IntArray (named 14 (codes "a"))) ∷ (var kind.IntArray (named 22 (codes "b")))
@@ -163,8 +164,8 @@ update-xored-text = program (class_text (named 6 (codes "P")) None
 update-xored : ending update-xored-text 4 4 [] 2000 ≡ Faulted 16 36
 update-xored = refl
 
--- class P int[] a int[] b int[] c Q[] u Q[] v Q p int x method main() new int[2] a copy int[] a b
--- new int[2] c new Q[2] u copy Q[] u v x += a[0] + b[1] class Q int f method inc() f += 1
+-- `class P int[] a int[] b int[] c Q[] u Q[] v Q p int x method main() new int[2] a copy int[] a b
+-- new int[2] c new Q[2] u copy Q[] u v x += a[0] + b[1] class Q int f method inc() f += 1`
 abbrev pub update-of_variable-text : Source
 update-of_variable-text = program (class_text (named 6 (codes "P")) None
     ((var kind.IntArray (named 14 (codes "a"))) ∷ (var kind.IntArray (named 22 (codes "b")))
@@ -191,8 +192,8 @@ update-of_variable : ending update-of_variable-text 4 4 [] 2000
 unfolding digits
 update-of_variable = refl
 
--- class P int[] a int[] b int[] c Q[] u Q[] v Q p int x method main() new int[2] a copy int[] a b
--- new int[2] c new Q[2] u copy Q[] u v a[0] += b[5] class Q int f method inc() f += 1
+-- `class P int[] a int[] b int[] c Q[] u Q[] v Q p int x method main() new int[2] a copy int[] a b
+-- new int[2] c new Q[2] u copy Q[] u v a[0] += b[5] class Q int f method inc() f += 1`
 abbrev pub update-index_past_end-before-shared-text : Source
 update-index_past_end-before-shared-text = program (class_text (named 6 (codes "P")) None
     ((var kind.IntArray (named 14 (codes "a"))) ∷ (var kind.IntArray (named 22 (codes "b")))
@@ -213,7 +214,8 @@ update-index_past_end-before-shared-text = program (class_text (named 6 (codes "
 update-index_past_end-before-shared : ending update-index_past_end-before-shared-text 4 4 [] 2000 ≡ Faulted 9 33
 update-index_past_end-before-shared = refl
 
--- class P int[] a int[] b int[] c method main() new int[2] a copy int[] a b a[b[0]] += c[0] class Q int f
+-- `class P int[] a int[] b int[] c method main() new int[2] a copy int[] a b a[b[0]] += c[0] class
+-- Q int f`
 abbrev pub update-nil-before-shared-text : Source
 update-nil-before-shared-text = program (class_text (named 6 (codes "P")) None
     ((var kind.IntArray (named 14 (codes "a"))) ∷ (var kind.IntArray (named 22 (codes "b")))
@@ -227,8 +229,8 @@ update-nil-before-shared-text = program (class_text (named 6 (codes "P")) None
 update-nil-before-shared : ending update-nil-before-shared-text 4 4 [] 2000 ≡ Faulted 5 15
 update-nil-before-shared = refl
 
--- class P int[] a int[] b int[] c Q[] u Q[] v Q p int x method main() new int[2] a copy int[] a b
--- new int[2] c new Q[2] u copy Q[] u v a[b[0]] <=> c[0] class Q int f method inc() f += 1
+-- `class P int[] a int[] b int[] c Q[] u Q[] v Q p int x method main() new int[2] a copy int[] a b
+-- new int[2] c new Q[2] u copy Q[] u v a[b[0]] <=> c[0] class Q int f method inc() f += 1`
 abbrev pub swap-left_index-text : Source
 swap-left_index-text = program (class_text (named 6 (codes "P")) None
     ((var kind.IntArray (named 14 (codes "a"))) ∷ (var kind.IntArray (named 22 (codes "b")))
@@ -249,8 +251,8 @@ swap-left_index-text = program (class_text (named 6 (codes "P")) None
 swap-left_index : ending swap-left_index-text 4 4 [] 2000 ≡ Faulted 16 34
 swap-left_index = refl
 
--- class P int[] a int[] b int[] c Q[] u Q[] v Q p int x method main() new int[2] a copy int[] a b
--- new int[2] c new Q[2] u copy Q[] u v c[0] <=> a[b[0]] class Q int f method inc() f += 1
+-- `class P int[] a int[] b int[] c Q[] u Q[] v Q p int x method main() new int[2] a copy int[] a b
+-- new int[2] c new Q[2] u copy Q[] u v c[0] <=> a[b[0]] class Q int f method inc() f += 1`
 abbrev pub swap-right_index-text : Source
 swap-right_index-text = program (class_text (named 6 (codes "P")) None
     ((var kind.IntArray (named 14 (codes "a"))) ∷ (var kind.IntArray (named 22 (codes "b")))
@@ -271,8 +273,8 @@ swap-right_index-text = program (class_text (named 6 (codes "P")) None
 swap-right_index : ending swap-right_index-text 4 4 [] 2000 ≡ Faulted 16 34
 swap-right_index = refl
 
--- class P int[] a int[] b int[] c Q[] u Q[] v Q p int x method main() new int[2] a copy int[] a b
--- new int[2] c new Q[2] u copy Q[] u v a[0] <=> c[b[0]] class Q int f method inc() f += 1
+-- `class P int[] a int[] b int[] c Q[] u Q[] v Q p int x method main() new int[2] a copy int[] a b
+-- new int[2] c new Q[2] u copy Q[] u v a[0] <=> c[b[0]] class Q int f method inc() f += 1`
 abbrev pub swap-other_index-text : Source
 swap-other_index-text = program (class_text (named 6 (codes "P")) None
     ((var kind.IntArray (named 14 (codes "a"))) ∷ (var kind.IntArray (named 22 (codes "b")))
@@ -293,8 +295,8 @@ swap-other_index-text = program (class_text (named 6 (codes "P")) None
 swap-other_index : ending swap-other_index-text 4 4 [] 2000 ≡ Faulted 16 34
 swap-other_index = refl
 
--- class P int[] a int[] b int[] c Q[] u Q[] v Q p int x method main() new int[2] a copy int[] a b
--- new int[2] c new Q[2] u copy Q[] u v x <=> a[b[0]] class Q int f method inc() f += 1
+-- `class P int[] a int[] b int[] c Q[] u Q[] v Q p int x method main() new int[2] a copy int[] a b
+-- new int[2] c new Q[2] u copy Q[] u v x <=> a[b[0]] class Q int f method inc() f += 1`
 abbrev pub swap-variable-text : Source
 swap-variable-text = program (class_text (named 6 (codes "P")) None
     ((var kind.IntArray (named 14 (codes "a"))) ∷ (var kind.IntArray (named 22 (codes "b")))
@@ -315,8 +317,8 @@ swap-variable-text = program (class_text (named 6 (codes "P")) None
 swap-variable : ending swap-variable-text 4 4 [] 2000 ≡ Faulted 16 33
 swap-variable = refl
 
--- class P int[] a int[] b int[] c Q[] u Q[] v Q p int x method main() new int[2] a copy int[] a b
--- new int[2] c new Q[2] u copy Q[] u v x += 3 a[c[0]] <=> x class Q int f method inc() f += 1
+-- `class P int[] a int[] b int[] c Q[] u Q[] v Q p int x method main() new int[2] a copy int[] a b
+-- new int[2] c new Q[2] u copy Q[] u v x += 3 a[c[0]] <=> x class Q int f method inc() f += 1`
 abbrev pub swap-index_of_another-text : Source
 swap-index_of_another-text = program (class_text (named 6 (codes "P")) None
     ((var kind.IntArray (named 14 (codes "a"))) ∷ (var kind.IntArray (named 22 (codes "b")))
@@ -342,8 +344,9 @@ swap-index_of_another : ending swap-index_of_another-text 4 4 [] 2000
 unfolding digits
 swap-index_of_another = refl
 
--- class P int[] a int[] b int[] c Q[] u Q[] v Q p int x method main() new int[2] a copy int[] a b
--- new int[2] c new Q[2] u copy Q[] u v new Q u[0] new Q u[v[0] = nil] class Q int f method inc() f += 1
+-- `class P int[] a int[] b int[] c Q[] u Q[] v Q p int x method main() new int[2] a copy int[] a b
+-- new int[2] c new Q[2] u copy Q[] u v new Q u[0] new Q u[v[0] = nil] class Q int f method inc() f
+-- += 1`
 abbrev pub new-shared-text : Source
 new-shared-text = program (class_text (named 6 (codes "P")) None
     ((var kind.IntArray (named 14 (codes "a"))) ∷ (var kind.IntArray (named 22 (codes "b")))
@@ -366,8 +369,9 @@ new-shared-text = program (class_text (named 6 (codes "P")) None
 new-shared : ending new-shared-text 5 4 [] 2000 ≡ Faulted 16 46
 new-shared = refl
 
--- class P int[] a int[] b int[] c Q[] u Q[] v Q p int x method main() new int[2] a copy int[] a b
--- new int[2] c new Q[2] u copy Q[] u v new Q u[1] new Q u[v[0] = nil] class Q int f method inc() f += 1
+-- `class P int[] a int[] b int[] c Q[] u Q[] v Q p int x method main() new int[2] a copy int[] a b
+-- new int[2] c new Q[2] u copy Q[] u v new Q u[1] new Q u[v[0] = nil] class Q int f method inc() f
+-- += 1`
 abbrev pub new-shared-before-filled-text : Source
 new-shared-before-filled-text = program (class_text (named 6 (codes "P")) None
     ((var kind.IntArray (named 14 (codes "a"))) ∷ (var kind.IntArray (named 22 (codes "b")))
@@ -390,8 +394,8 @@ new-shared-before-filled-text = program (class_text (named 6 (codes "P")) None
 new-shared-before-filled : ending new-shared-before-filled-text 5 4 [] 2000 ≡ Faulted 16 46
 new-shared-before-filled = refl
 
--- class P int[] a int[] b int[] c Q[] u Q[] v Q p int x method main() new int[2] a copy int[] a b
--- new int[2] c new Q[2] u copy Q[] u v new Q u[a[0]] class Q int f method inc() f += 1
+-- `class P int[] a int[] b int[] c Q[] u Q[] v Q p int x method main() new int[2] a copy int[] a b
+-- new int[2] c new Q[2] u copy Q[] u v new Q u[a[0]] class Q int f method inc() f += 1`
 abbrev pub new-not_shared-text : Source
 new-not_shared-text = program (class_text (named 6 (codes "P")) None
     ((var kind.IntArray (named 14 (codes "a"))) ∷ (var kind.IntArray (named 22 (codes "b")))
@@ -417,9 +421,9 @@ new-not_shared : ending new-not_shared-text 5 4 [] 2000
 unfolding digits
 new-not_shared = refl
 
--- class P int[] a int[] b int[] c Q[] u Q[] v Q p int x method main() new int[2] a copy int[] a b
+-- `class P int[] a int[] b int[] c Q[] u Q[] v Q p int x method main() new int[2] a copy int[] a b
 -- new int[2] c new Q[2] u copy Q[] u v a[1] += 2 uncopy int[] a b new int[a[1]] b class Q int f
--- method inc() f += 1
+-- method inc() f += 1`
 abbrev pub new-length_of_array-text : Source
 new-length_of_array-text = program (class_text (named 6 (codes "P")) None
     ((var kind.IntArray (named 14 (codes "a"))) ∷ (var kind.IntArray (named 22 (codes "b")))
@@ -447,9 +451,9 @@ new-length_of_array : ending new-length_of_array-text 5 4 [] 2000
 unfolding digits
 new-length_of_array = refl
 
--- class P int[] a int[] b int[] c Q[] u Q[] v Q p int x method main() new int[2] a copy int[] a b
+-- `class P int[] a int[] b int[] c Q[] u Q[] v Q p int x method main() new int[2] a copy int[] a b
 -- new int[2] c new Q[2] u copy Q[] u v new Q u[0] delete Q u[v[1] != nil] class Q int f method
--- inc() f += 1
+-- inc() f += 1`
 abbrev pub delete-shared-text : Source
 delete-shared-text = program (class_text (named 6 (codes "P")) None
     ((var kind.IntArray (named 14 (codes "a"))) ∷ (var kind.IntArray (named 22 (codes "b")))
@@ -472,8 +476,8 @@ delete-shared-text = program (class_text (named 6 (codes "P")) None
 delete-shared : ending delete-shared-text 5 4 [] 2000 ≡ Faulted 16 46
 delete-shared = refl
 
--- class P int[] a int[] b int[] c Q[] u Q[] v Q p int x method main() new int[2] a copy int[] a b
--- new int[2] c new Q[2] u copy Q[] u v delete Q u[v[1] = nil] class Q int f method inc() f += 1
+-- `class P int[] a int[] b int[] c Q[] u Q[] v Q p int x method main() new int[2] a copy int[] a b
+-- new int[2] c new Q[2] u copy Q[] u v delete Q u[v[1] = nil] class Q int f method inc() f += 1`
 abbrev pub delete-shared-before-nil-text : Source
 delete-shared-before-nil-text = program (class_text (named 6 (codes "P")) None
     ((var kind.IntArray (named 14 (codes "a"))) ∷ (var kind.IntArray (named 22 (codes "b")))
@@ -494,8 +498,9 @@ delete-shared-before-nil-text = program (class_text (named 6 (codes "P")) None
 delete-shared-before-nil : ending delete-shared-before-nil-text 5 4 [] 2000 ≡ Faulted 16 38
 delete-shared-before-nil = refl
 
--- class P int[] a int[] b int[] c Q[] u Q[] v Q p int x method main() new int[2] a copy int[] a b
--- new int[2] c new Q[2] u copy Q[] u v new Q u[0] delete Q v[c[0]] class Q int f method inc() f += 1
+-- `class P int[] a int[] b int[] c Q[] u Q[] v Q p int x method main() new int[2] a copy int[] a b
+-- new int[2] c new Q[2] u copy Q[] u v new Q u[0] delete Q v[c[0]] class Q int f method inc() f +=
+-- 1`
 abbrev pub delete-not_shared-text : Source
 delete-not_shared-text = program (class_text (named 6 (codes "P")) None
     ((var kind.IntArray (named 14 (codes "a"))) ∷ (var kind.IntArray (named 22 (codes "b")))
@@ -523,8 +528,9 @@ delete-not_shared : ending delete-not_shared-text 5 4 [] 2000
 unfolding digits
 delete-not_shared = refl
 
--- class P int[] a int[] b int[] c Q[] u Q[] v Q p int x method main() new int[2] a copy int[] a b
--- new int[2] c new Q[2] u copy Q[] u v new Q p copy Q p u[v[0] != nil] class Q int f method inc() f += 1
+-- `class P int[] a int[] b int[] c Q[] u Q[] v Q p int x method main() new int[2] a copy int[] a b
+-- new int[2] c new Q[2] u copy Q[] u v new Q p copy Q p u[v[0] != nil] class Q int f method inc() f
+-- += 1`
 abbrev pub copy-second_place-text : Source
 copy-second_place-text = program (class_text (named 6 (codes "P")) None
     ((var kind.IntArray (named 14 (codes "a"))) ∷ (var kind.IntArray (named 22 (codes "b")))
@@ -547,9 +553,9 @@ copy-second_place-text = program (class_text (named 6 (codes "P")) None
 copy-second_place : ending copy-second_place-text 5 4 [] 2000 ≡ Faulted 16 45
 copy-second_place = refl
 
--- class P int[] a int[] b int[] c Q[] u Q[] v Q p int x method main() new int[2] a copy int[] a b
+-- `class P int[] a int[] b int[] c Q[] u Q[] v Q p int x method main() new int[2] a copy int[] a b
 -- new int[2] c new Q[2] u copy Q[] u v new Q p copy Q u[v[0] = nil] u[0] class Q int f method inc()
--- f += 1
+-- f += 1`
 abbrev pub copy-first_index-text : Source
 copy-first_index-text = program (class_text (named 6 (codes "P")) None
     ((var kind.IntArray (named 14 (codes "a"))) ∷ (var kind.IntArray (named 22 (codes "b")))
@@ -572,8 +578,8 @@ copy-first_index-text = program (class_text (named 6 (codes "P")) None
 copy-first_index : ending copy-first_index-text 5 4 [] 2000 ≡ Faulted 16 46
 copy-first_index = refl
 
--- class P int[] a int[] b int[] c Q[] u Q[] v Q p int x method main() new int[2] a copy int[] a b
--- new int[2] c new Q[2] u copy Q[] u v copy Q p u[v[0] = nil] class Q int f method inc() f += 1
+-- `class P int[] a int[] b int[] c Q[] u Q[] v Q p int x method main() new int[2] a copy int[] a b
+-- new int[2] c new Q[2] u copy Q[] u v copy Q p u[v[0] = nil] class Q int f method inc() f += 1`
 abbrev pub copy-shared-before-nil-text : Source
 copy-shared-before-nil-text = program (class_text (named 6 (codes "P")) None
     ((var kind.IntArray (named 14 (codes "a"))) ∷ (var kind.IntArray (named 22 (codes "b")))
@@ -595,8 +601,9 @@ copy-shared-before-nil-text = program (class_text (named 6 (codes "P")) None
 copy-shared-before-nil : ending copy-shared-before-nil-text 5 4 [] 2000 ≡ Faulted 16 38
 copy-shared-before-nil = refl
 
--- class P int[] a int[] b int[] c Q[] u Q[] v Q p int x method main() new int[2] a copy int[] a b
--- new int[2] c new Q[2] u copy Q[] u v new Q u[0] copy Q u[0] v[1] class Q int f method inc() f += 1
+-- `class P int[] a int[] b int[] c Q[] u Q[] v Q p int x method main() new int[2] a copy int[] a b
+-- new int[2] c new Q[2] u copy Q[] u v new Q u[0] copy Q u[0] v[1] class Q int f method inc() f +=
+-- 1`
 abbrev pub copy-first_place_is_no_read-text : Source
 copy-first_place_is_no_read-text = program (class_text (named 6 (codes "P")) None
     ((var kind.IntArray (named 14 (codes "a"))) ∷ (var kind.IntArray (named 22 (codes "b")))
@@ -624,9 +631,9 @@ copy-first_place_is_no_read : ending copy-first_place_is_no_read-text 5 4 [] 200
 unfolding digits
 copy-first_place_is_no_read = refl
 
--- class P int[] a int[] b int[] c Q[] u Q[] v Q p int x method main() new int[2] a copy int[] a b
+-- `class P int[] a int[] b int[] c Q[] u Q[] v Q p int x method main() new int[2] a copy int[] a b
 -- new int[2] c new Q[2] u copy Q[] u v new Q u[1] copy Q u[v[0] = nil] p class Q int f method inc()
--- f += 1
+-- f += 1`
 abbrev pub copy-to_variable-text : Source
 copy-to_variable-text = program (class_text (named 6 (codes "P")) None
     ((var kind.IntArray (named 14 (codes "a"))) ∷ (var kind.IntArray (named 22 (codes "b")))
@@ -654,9 +661,9 @@ copy-to_variable : ending copy-to_variable-text 5 4 [] 2000
 unfolding digits
 copy-to_variable = refl
 
--- class P int[] a int[] b int[] c Q[] u Q[] v Q p int x method main() new int[2] a copy int[] a b
+-- `class P int[] a int[] b int[] c Q[] u Q[] v Q p int x method main() new int[2] a copy int[] a b
 -- new int[2] c new Q[2] u copy Q[] u v new Q p copy Q p u[0] uncopy Q p u[v[0] = nil] class Q int f
--- method inc() f += 1
+-- method inc() f += 1`
 abbrev pub uncopy-second_place-text : Source
 uncopy-second_place-text = program (class_text (named 6 (codes "P")) None
     ((var kind.IntArray (named 14 (codes "a"))) ∷ (var kind.IntArray (named 22 (codes "b")))
@@ -680,9 +687,9 @@ uncopy-second_place-text = program (class_text (named 6 (codes "P")) None
 uncopy-second_place : ending uncopy-second_place-text 5 4 [] 2000 ≡ Faulted 16 47
 uncopy-second_place = refl
 
--- class P int[] a int[] b int[] c Q[] u Q[] v Q p int x method main() new int[2] a copy int[] a b
+-- `class P int[] a int[] b int[] c Q[] u Q[] v Q p int x method main() new int[2] a copy int[] a b
 -- new int[2] c new Q[2] u copy Q[] u v new Q u[0] copy Q u[0] v[1] uncopy Q v[0] u[1] class Q int f
--- method inc() f += 1
+-- method inc() f += 1`
 abbrev pub uncopy-first_place_is_no_read-text : Source
 uncopy-first_place_is_no_read-text = program (class_text (named 6 (codes "P")) None
     ((var kind.IntArray (named 14 (codes "a"))) ∷ (var kind.IntArray (named 22 (codes "b")))
@@ -712,9 +719,9 @@ uncopy-first_place_is_no_read : ending uncopy-first_place_is_no_read-text 5 4 []
 unfolding digits
 uncopy-first_place_is_no_read = refl
 
--- class P int[] a int[] b int[] c Q[] u Q[] v Q p int x method main() new int[2] a copy int[] a b
+-- `class P int[] a int[] b int[] c Q[] u Q[] v Q p int x method main() new int[2] a copy int[] a b
 -- new int[2] c new Q[2] u copy Q[] u v new Q u[1] call u[v[0] = nil]::inc() class Q int f method
--- inc() f += 1
+-- inc() f += 1`
 abbrev pub element_call-shared-text : Source
 element_call-shared-text = program (class_text (named 6 (codes "P")) None
     ((var kind.IntArray (named 14 (codes "a"))) ∷ (var kind.IntArray (named 22 (codes "b")))
@@ -737,8 +744,9 @@ element_call-shared-text = program (class_text (named 6 (codes "P")) None
 element_call-shared : ending element_call-shared-text 5 4 [] 2000 ≡ Faulted 16 48
 element_call-shared = refl
 
--- class P int[] a int[] b int[] c Q[] u Q[] v Q p int x method main() new int[2] a copy int[] a b
--- new int[2] c new Q[2] u copy Q[] u v new Q u[0] call v[a[1]]::inc() class Q int f method inc() f += 1
+-- `class P int[] a int[] b int[] c Q[] u Q[] v Q p int x method main() new int[2] a copy int[] a b
+-- new int[2] c new Q[2] u copy Q[] u v new Q u[0] call v[a[1]]::inc() class Q int f method inc() f
+-- += 1`
 abbrev pub element_call-not_shared-text : Source
 element_call-not_shared-text = program (class_text (named 6 (codes "P")) None
     ((var kind.IntArray (named 14 (codes "a"))) ∷ (var kind.IntArray (named 22 (codes "b")))
@@ -765,8 +773,9 @@ element_call-not_shared : ending element_call-not_shared-text 5 4 [] 2000
 unfolding digits
 element_call-not_shared = refl
 
--- class P int[] a int[] b int[] c Q[] u Q[] v Q p int x method main() new int[2] a copy int[] a b
--- new int[2] c new Q[2] u copy Q[] u v uncopy int[] a b copy int[] b a class Q int f method inc() f += 1
+-- `class P int[] a int[] b int[] c Q[] u Q[] v Q p int x method main() new int[2] a copy int[] a b
+-- new int[2] c new Q[2] u copy Q[] u v uncopy int[] a b copy int[] b a class Q int f method inc() f
+-- += 1`
 abbrev pub copies-nil_array-text : Source
 copies-nil_array-text = program (class_text (named 6 (codes "P")) None
     ((var kind.IntArray (named 14 (codes "a"))) ∷ (var kind.IntArray (named 22 (codes "b")))
@@ -787,8 +796,8 @@ copies-nil_array-text = program (class_text (named 6 (codes "P")) None
 copies-nil_array : ending copies-nil_array-text 4 4 [] 2000 ≡ Faulted 5 31
 copies-nil_array = refl
 
--- class P int[] a int[] b int[] c Q[] u Q[] v Q p int x method main() new int[2] a copy int[] a b
--- new int[2] c new Q[2] u copy Q[] u v copy int[] a c class Q int f method inc() f += 1
+-- `class P int[] a int[] b int[] c Q[] u Q[] v Q p int x method main() new int[2] a copy int[] a b
+-- new int[2] c new Q[2] u copy Q[] u v copy int[] a c class Q int f method inc() f += 1`
 abbrev pub copies-filled_array-text : Source
 copies-filled_array-text = program (class_text (named 6 (codes "P")) None
     ((var kind.IntArray (named 14 (codes "a"))) ∷ (var kind.IntArray (named 22 (codes "b")))
@@ -808,8 +817,8 @@ copies-filled_array-text = program (class_text (named 6 (codes "P")) None
 copies-filled_array : ending copies-filled_array-text 4 4 [] 2000 ≡ Faulted 4 30
 copies-filled_array = refl
 
--- class P int[] a int[] b int[] c Q[] u Q[] v Q p int x method main() new int[2] a copy int[] a b
--- new int[2] c new Q[2] u copy Q[] u v uncopy int[] a c class Q int f method inc() f += 1
+-- `class P int[] a int[] b int[] c Q[] u Q[] v Q p int x method main() new int[2] a copy int[] a b
+-- new int[2] c new Q[2] u copy Q[] u v uncopy int[] a c class Q int f method inc() f += 1`
 abbrev pub uncopies-other_array-text : Source
 uncopies-other_array-text = program (class_text (named 6 (codes "P")) None
     ((var kind.IntArray (named 14 (codes "a"))) ∷ (var kind.IntArray (named 22 (codes "b")))

@@ -8,21 +8,21 @@ use Rattle.std.proofs.lemmas.List.{append_assoc, length-append, length-replicate
 use Rattle.std.proofs.lemmas.List.{set-append_left, drop_at, take_all, set-append_right}
 use Rattle.std.proofs.lemmas.List.Elements.{All-head, All-tail}
 use Rattle.std.proofs.lemmas.Nat.{pow_pos}
-use Rattle.rpp_words.specs.declared.input.TheConstants.{FRAME_WORDS}
-use Rattle.code_conventions.specs.declared.memory.TheConstants.{HEADER_WORDS, FIRST_FIELD}
-use Rattle.rpp_words.specs.declared.input.FieldWord.{FieldWord}
-use Rattle.rpp_words.specs.declared.input.Limits.{Limits}
-use Rattle.rpp_tree.specs.declared.tree.Var.{Var}
-use Rattle.rpp_tree.specs.declared.tree.VarType.{VarType}
-use Rattle.rpp_tree.specs.declared.tree.VarType.TheVariants as kind
-use Rattle.rpp_tree.specs.Tree.{Source}
+use Rattle.buddy_book.specs.rpp_words.declared.input.TheConstants.{FRAME_WORDS}
+use Rattle.code_conventions.specs.declared.memory.TheConstants.{HEADER_WORDS}
+use Rattle.buddy_book.specs.rpp_words.declared.input.FieldWord.{FieldWord}
+use Rattle.buddy_book.specs.rpp_words.declared.input.Limits.{Limits}
+use Rattle.stmt_inverter.specs.rpp_tree.declared.tree.Var.{Var}
+use Rattle.stmt_inverter.specs.rpp_tree.declared.tree.VarType.{VarType}
+use Rattle.stmt_inverter.specs.rpp_tree.declared.tree.VarType.TheVariants as kind
+use Rattle.stmt_inverter.specs.rpp_tree.Tree.{Source}
 use Rattle.buddy_book.specs.Book.{start}
-use Rattle.pisa_isa.specs.Loaded.{statics_at, heap_base, fixed_cells, empty_heads, with_words, loaded}
+use Rattle.code_conventions.specs.pisa_isa.Loaded.{statics_at, heap_base, fixed_cells, empty_heads, with_words, loaded}
 use Rattle.code_conventions.specs.Header.{header}
 use Rattle.roopl_semantics.specs.Store.{Value, Word, Nil, number_of, zero_value, zero_values}
 use Rattle.roopl_semantics.specs.Source.{main_fields, is_int_field, with_input, IsValid}
 use Rattle.class_table.specs.Classes.{main_of}
-use Rattle.rpp_words.specs.Limits.{IsLimits}
+use Rattle.buddy_book.specs.rpp_words.Limits.{IsLimits}
 use Rattle.roopl_semantics.specs.Alone.{alone}
 use Rattle.roopl_semantics.specs.Laws.{StartsLoaded}
 use Rattle.roopl_semantics.specs.Layout.{table_at, main_statics, tables, with_book, word_of, overlaid, static_words}
@@ -63,13 +63,13 @@ statics_of shape = header shape.table 1 ++ replicate shape.fields 0 ++ shape.tab
 abbrev pub base : Limits → Shape → ℕ
 base limits shape = heap_base limits.heap (size shape)
 
--- what stands before the words of the fields
+-- what comes before the words of the fields
 abbrev pub front : Limits → Shape → List ℕ
 front limits shape =
     fixed_cells limits.heap limits.deep (base limits shape) (empty_heads limits.heap (base limits shape))
     ++ header shape.table 1
 
--- and what stands behind them
+-- and what comes after them
 abbrev pub back : Limits → Shape → List ℕ
 back limits shape =
     shape.tables ++ (replicate (base limits shape - statics_at - size shape) 0 ++ replicate (2 ^ limits.heap) 0
@@ -291,27 +291,3 @@ starts_loaded program image limits input statics allowed valid =
     ∙ ap (λ (cells : List ℕ). loaded cells limits input) (sym at)
 
 -- the front ends where the main object's fields begin
-
-length-heads : (h base : ℕ) → 1 ≤ h → h ≤ 20 → length (empty_heads h base
-    ++ replicate (31 - length (empty_heads h base)) 0) ≡ 31
-length-heads h base from to =
-    let e : length (empty_heads h base) ≡ h = omega (
-      arith,
-      length-append {A = ℕ} (replicate (h - 1) 0) (base ∷ []),
-      length-replicate {A = ℕ} (h - 1) 0,
-    ) in
-    omega (
-      arith,
-      length-append {A = ℕ} (empty_heads h base) (replicate (31 - length (empty_heads h base)) 0),
-      length-replicate {A = ℕ} (31 - length (empty_heads h base)) 0,
-    )
-
-pub length-front : (limits : Limits) (shape : Shape) → IsLimits limits → length (front limits shape) ≡ FIRST_FIELD
-length-front limits shape allowed =
-    let at = base limits shape in
-    omega (
-      arith,
-      length-append {A = ℕ} (fixed_cells limits.heap limits.deep at (empty_heads limits.heap at))
-          (header shape.table 1),
-      length-heads limits.heap at allowed.heap_from allowed.heap_to,
-    )

@@ -1,16 +1,16 @@
 -- How worked programs are written, and what is seen of their runs.
 use Rattle.std.specs.Prelude.{ℕ, List, [], ◌∷◌, ◌++◌, Option}
-use Rattle.rpp_words.specs.declared.input.FieldWord.{FieldWord}
-use Rattle.rpp_tree.specs.declared.tree.Ident.{Ident}
-use Rattle.rpp_tree.specs.declared.tree.Var.{Var}
-use Rattle.rpp_tree.specs.declared.tree.VarType.{VarType}
-use Rattle.rpp_tree.specs.Tree.{Statement, Statements, Procedure, ClassText, Source}
-use Rattle.rpp_tree.specs.Views.{statements_of}
+use Rattle.buddy_book.specs.rpp_words.declared.input.FieldWord.{FieldWord}
+use Rattle.stmt_inverter.specs.rpp_tree.declared.tree.Ident.{Ident}
+use Rattle.stmt_inverter.specs.rpp_tree.declared.tree.Var.{Var}
+use Rattle.stmt_inverter.specs.rpp_tree.declared.tree.VarType.{VarType}
+use Rattle.stmt_inverter.specs.rpp_tree.Tree.{Statement, Statements, Procedure, ClassText, Source}
+use Rattle.stmt_inverter.specs.rpp_tree.Views.{statements_of}
 use Rattle.roopl_semantics.specs.Run.{Run, Done, Fault, More}
 use Rattle.roopl_semantics.specs.Store.{State}
 use Rattle.roopl_semantics.specs.Source.{source}
 use Rattle.roopl_semantics.specs.Report.{Text, report}
-use Rattle.rpp_words.specs.Texts.{line_end}
+use Rattle.buddy_book.specs.rpp_words.Texts.{line_end}
 
 abbrev pub named : ℕ → List ℕ → Ident
 named at text = record { at = at; text = text }

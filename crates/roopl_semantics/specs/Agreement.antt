@@ -1,4 +1,4 @@
--- When two stores differ in names alone.
+-- When two stores differ only in object ids.
 use Rattle.std.specs.Prelude.{◌≡◌, ℕ, map}
 use Rattle.std.specs.Option.{option_map}
 use Rattle.roopl_semantics.specs.Store.{Value, Word, Nil, Name, Object, Store, main_name}

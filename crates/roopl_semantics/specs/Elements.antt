@@ -1,8 +1,8 @@
 -- The elements that a statement changes and those that it reads, which may not be of one array.
 use Rattle.std.specs.Prelude.{ℕ, Bool, false, ◌||◌, List, [], ◌∷◌, ◌++◌, length}
-use Rattle.rpp_tree.specs.declared.tree.Ident.{Ident}
-use Rattle.rpp_tree.specs.Tree.{Expression, Number, Null, Variable, Element, Binary, Lvalue, Whole}
-use Rattle.rpp_tree.specs.Tree.{Item, Source}
+use Rattle.stmt_inverter.specs.rpp_tree.declared.tree.Ident.{Ident}
+use Rattle.stmt_inverter.specs.rpp_tree.Tree.{Expression, Number, Null, Variable, Element, Binary, Lvalue, Whole}
+use Rattle.stmt_inverter.specs.rpp_tree.Tree.{Item, Source}
 use Rattle.code_conventions.specs.declared.faults.TheConstants.{SHARED_ARRAY}
 use Rattle.roopl_semantics.specs.Run.{Run, spend, fault_if, ◌>>=◌}
 use Rattle.roopl_semantics.specs.Store.{State, same_value}
@@ -24,7 +24,7 @@ abbrev pub index_elements : Lvalue → List Ident
 index_elements (Whole name) = []
 index_elements (Item name index) = elements index
 
--- a place itself, where it is an element
+-- a place itself, if it is an element
 abbrev pub own_element : Lvalue → List Ident
 own_element (Whole name) = []
 own_element (Item name index) = name ∷ []
@@ -46,7 +46,7 @@ share_array program st [] reads = false
 share_array program st (name ∷ changed) reads =
     is_among program st name reads || share_array program st changed reads
 
--- each read element counts 1 where an element is changed
+-- each read element counts 1 if an element is changed
 abbrev pub read_cost : List Ident → List Ident → ℕ
 read_cost [] reads = 0
 read_cost (name ∷ changed) reads = length reads

@@ -1,13 +1,13 @@
--- An image that stands for a program ends exactly as the source does.
+-- An image that implements a program ends exactly as the source does.
 use Rattle.std.specs.Prelude.{◌≡◌, ℕ, List}
-use Rattle.rpp_words.specs.declared.input.FieldWord.{FieldWord}
-use Rattle.rpp_words.specs.declared.input.Limits.{Limits}
-use Rattle.rpp_tree.specs.Tree.{Source}
-use Rattle.pisa_isa.specs.declared.machine.Stop.TheVariants.{Finished, Trap}
-use Rattle.pisa_isa.specs.Image.{Segments}
+use Rattle.buddy_book.specs.rpp_words.declared.input.FieldWord.{FieldWord}
+use Rattle.buddy_book.specs.rpp_words.declared.input.Limits.{Limits}
+use Rattle.stmt_inverter.specs.rpp_tree.Tree.{Source}
+use Rattle.code_conventions.specs.pisa_isa.declared.machine.Stop.TheVariants.{Finished, Trap}
+use Rattle.code_conventions.specs.pisa_isa.Image.{Segments}
 use Rattle.roopl_semantics.specs.Store.{State}
 use Rattle.roopl_semantics.specs.Source.{IsValid, GivesDone, GivesFault}
-use Rattle.rpp_words.specs.Limits.{IsLimits}
+use Rattle.buddy_book.specs.rpp_words.Limits.{IsLimits}
 use Rattle.roopl_semantics.specs.Layout.{layout}
 use Rattle.roopl_semantics.specs.StandsFor.{run_of, StandsFor, IsFinalState}
 

@@ -3,14 +3,14 @@ use Rattle.std.specs.Prelude.{ℕ, zero, suc, ◌+◌, ◌-◌, Bool, true, fals
 use Rattle.std.specs.Prelude.{nat_lt, List, [], ◌∷◌, ◌++◌, length, map, replicate, Option, Some}
 use Rattle.std.specs.Prelude.{None, is_none, if◌then◌else◌}
 use Rattle.std.specs.Option.{unwrap_or}
-use Rattle.rpp_words.specs.Words.{is_less}
-use Rattle.rpp_words.specs.declared.input.Limits.{Limits}
-use Rattle.rpp_tree.specs.declared.tree.Ident.{Ident}
-use Rattle.rpp_tree.specs.declared.tree.Var.{Var}
-use Rattle.rpp_tree.specs.Tree.{Expression, Null, Lvalue, Whole, Item, Object as AnObject, Ints}
-use Rattle.rpp_tree.specs.Tree.{Objects, Statement, Statements, Update, Swap, If, From, Construct}
-use Rattle.rpp_tree.specs.Tree.{Local, New, Delete, Copy, Uncopy, Call, Skip, End, Then, joined}
-use Rattle.rpp_tree.specs.Tree.{Procedure, Source}
+use Rattle.buddy_book.specs.rpp_words.Words.{is_less}
+use Rattle.buddy_book.specs.rpp_words.declared.input.Limits.{Limits}
+use Rattle.stmt_inverter.specs.rpp_tree.declared.tree.Ident.{Ident}
+use Rattle.stmt_inverter.specs.rpp_tree.declared.tree.Var.{Var}
+use Rattle.stmt_inverter.specs.rpp_tree.Tree.{Expression, Null, Lvalue, Whole, Item, Object as AnObject, Ints}
+use Rattle.stmt_inverter.specs.rpp_tree.Tree.{Objects, Statement, Statements, Update, Swap, If, From, Construct}
+use Rattle.stmt_inverter.specs.rpp_tree.Tree.{Local, New, Delete, Copy, Uncopy, Call, Skip, End, Then, joined}
+use Rattle.stmt_inverter.specs.rpp_tree.Tree.{Procedure, Source}
 use Rattle.class_table.specs.Classes.{class_number, class_fields, method_named}
 use Rattle.stmt_inverter.specs.Inverse.{inverse}
 use Rattle.buddy_book.specs.Book.{order_for}
@@ -29,7 +29,7 @@ use Rattle.roopl_semantics.specs.Value.{Cell, Slot, Part, nil_fault, cell_named,
 use Rattle.roopl_semantics.specs.Value.{written, evaluated, found}
 use Rattle.roopl_semantics.specs.Elements.{elements, index_elements, own_element, kept_apart}
 
--- the faults by their names; those of elements stand beside their definitions
+-- the faults by their names; those of elements are next to their definitions
 abbrev pub fi_fault : ℕ
 fi_fault = FI
 
@@ -69,7 +69,7 @@ too_deep_fault = TOO_DEEP
 abbrev pub touched_fault : ℕ
 touched_fault = TOUCHED
 
--- what a run stands in: the program, and the sizes of heap and stack
+-- the setting of a run: the program, and the sizes of heap and stack
 pub record Setting : Type 0 where
   pub program : Source
   pub limits : Limits
@@ -78,7 +78,7 @@ pub record Setting : Type 0 where
 abbrev pub Runner : Type 0
 Runner = Statements → State → Run State
 
--- whether a test's value is true
+-- whether a condition's value is true
 abbrev pub holds : Value → Bool
 holds v = is_true (number_of v)
 
@@ -128,7 +128,7 @@ moved_back (cell ∷ cells) (v ∷ values) st = do
   _ ← fault_if touched_fault (not (is_zero (read st cell)))
   moved_back cells values (written st cell v)
 
--- the body of a method that is called, or its inverse where it is uncalled
+-- the body of a method that is called, or its inverse if it is uncalled
 abbrev pub in_direction : Bool → Statements → Statements
 in_direction true body = inverse body
 in_direction false body = body
@@ -177,7 +177,7 @@ module _ (setting : Setting) where
   abbrev pub class_of : State → ℕ → ℕ
   class_of st name = own_class (record st { self = name })
 
-  -- whether as many calls are open as may be
+  -- whether as many calls are active as there may be
   abbrev pub is_too_deep : State → Bool
   is_too_deep st = not (nat_lt st.depth setting.limits.deep)
 
@@ -198,7 +198,7 @@ module _ (setting : Setting) where
             ++ map (λ binding. binding.value) end.frame)
             (record caller { store = end.store; log = end.log })
 
-  -- a new object or array of so many cells in the place, where the heap has a block for it
+  -- a new object or array of so many cells in the place, if the heap has a block for it
   abbrev pub allocated : ℕ → Cell → Head → List Value → State → Run State
   allocated size cell head cells st =
       let name = 2 + count_taken st.log in
@@ -251,8 +251,8 @@ module _ (setting : Setting) where
     _ ← fault_if delocal_fault (not (same_value (read end (Slot 0)) w))
     give (closed end)
 
-  -- after the first part of a loop's turn: the end where the exit holds, else the second part and
-  -- the next turn
+  -- after the first part of a loop's iteration: the end if the exit holds, else the second part and
+  -- the next iteration
   abbrev pub turn_end : Runner → Expression → Statements → (State → Run State) → Bool → State
       → Run State
   turn_end run entry again next true st = give st
@@ -262,7 +262,7 @@ module _ (setting : Setting) where
     _ ← fault_if loop_fault (holds v)
     next end
 
-  -- the turns of a loop whose entry has passed, at most so many
+  -- the iterations of a loop whose entry has passed, at most so many
   abbrev pub turns : ℕ → Runner → Expression → Statements → Statements → Expression → State
       → Run State
   turns zero run entry first again exit st = More

@@ -1,9 +1,9 @@
 -- Laws of the meaning.
 use Rattle.std.specs.Prelude.{◌≡◌, ◌≢◌, ◌≤◌, ℕ, ◌+◌, List, [], ◌∷◌, nat_eq, Option, Some, None}
 use Rattle.std.specs.Prelude.{if◌then◌else◌}
-use Rattle.rpp_words.specs.declared.input.FieldWord.{FieldWord}
-use Rattle.rpp_words.specs.declared.input.Limits.{Limits}
-use Rattle.rpp_tree.specs.Tree.{Statements, Source}
+use Rattle.buddy_book.specs.rpp_words.declared.input.FieldWord.{FieldWord}
+use Rattle.buddy_book.specs.rpp_words.declared.input.Limits.{Limits}
+use Rattle.stmt_inverter.specs.rpp_tree.Tree.{Statements, Source}
 use Rattle.class_table.specs.Program.{IsAccepted}
 use Rattle.buddy_book.specs.Book.{Book}
 use Rattle.buddy_book.specs.Place.{Placing, block_of, place}
@@ -11,11 +11,11 @@ use Rattle.roopl_semantics.specs.Run.{Done, Fault}
 use Rattle.roopl_semantics.specs.Store.{Value, Name, Object, Store, State, main_name, object_named}
 use Rattle.roopl_semantics.specs.Execution.{Setting, exec}
 use Rattle.roopl_semantics.specs.Source.{IsValid, source, starting}
-use Rattle.rpp_words.specs.Limits.{IsLimits}
+use Rattle.buddy_book.specs.rpp_words.Limits.{IsLimits}
 use Rattle.roopl_semantics.specs.Agreement.{Agree}
 use Rattle.roopl_semantics.specs.Report.{report}
-use Rattle.pisa_isa.specs.Image.{Segments}
-use Rattle.pisa_isa.specs.Loaded.{loaded}
+use Rattle.code_conventions.specs.pisa_isa.Image.{Segments}
+use Rattle.code_conventions.specs.pisa_isa.Loaded.{loaded}
 use Rattle.roopl_semantics.specs.Layout.{HasStatics, layout}
 
 -- a program that ends with some fuel ends the same with more
@@ -61,7 +61,7 @@ abbrev pub holders : ℕ → Store → ℕ
 holders name [] = 0
 holders name ((n, object) ∷ store) = holders_among name object.cells + holders name store
 
--- where no call but `main` is open and its frame is empty: a count is the number of cells that hold
+-- if no call but `main` is open and its frame is empty: a count is the number of cells that hold
 -- the name
 pub record CountsReferences (store : Store) : Type 0 where
   pub main : (object : Object) → object_named store main_name ≡ Some object → object.count ≡ 1
@@ -78,7 +78,7 @@ CountsAreReferences =
     → IsAccepted program → IsLimits limits → IsValid program input
     → source program limits input fuel ≡ Done end cost → CountsReferences end.store
 
--- no name stands twice in a store
+-- no object id occurs twice in a store
 abbrev pub HasNamesOnce : Store → Type 0
 HasNamesOnce [] = Unit {0}
 HasNamesOnce ((name, object) ∷ store) = (object_named store name ≡ None) × HasNamesOnce store

@@ -1,11 +1,11 @@
--- The memory that stands for a store.
+-- The memory that represents a store.
 use Rattle.std.specs.Prelude.{◌≡◌, ◌<◌, ℕ, zero, suc, ◌+◌, ◌-◌, ◌*◌, ◌^◌, Bool, true, not, ◌&&◌}
 use Rattle.std.specs.Prelude.{◌||◌, nat_eq, List, [], ◌∷◌, ◌++◌, length, map, take, drop, replicate}
 use Rattle.std.specs.List.{All, list_any}
 use Rattle.std.specs.Option.{unwrap_or}
-use Rattle.rpp_words.specs.declared.input.Limits.{Limits}
-use Rattle.rpp_words.specs.declared.input.TheConstants.{FRAME_WORDS}
-use Rattle.rpp_tree.specs.Tree.{Source}
+use Rattle.buddy_book.specs.rpp_words.declared.input.Limits.{Limits}
+use Rattle.buddy_book.specs.rpp_words.declared.input.TheConstants.{FRAME_WORDS}
+use Rattle.stmt_inverter.specs.rpp_tree.Tree.{Source}
 use Rattle.class_table.specs.First.{each_below}
 use Rattle.class_table.specs.Classes.{class_slots}
 use Rattle.buddy_book.specs.Book.{Book}
@@ -16,12 +16,12 @@ use Rattle.roopl_semantics.specs.Store.{Object, Store, main_name, object_at}
 use Rattle.roopl_semantics.specs.Source.{main_fields}
 use Rattle.class_table.specs.Classes.{main_of}
 use Rattle.roopl_semantics.specs.Report.{numbered}
-use Rattle.pisa_isa.specs.Image.{Segments}
-use Rattle.pisa_isa.specs.Loaded.{statics_at, heap_base, fixed_cells}
+use Rattle.code_conventions.specs.pisa_isa.Image.{Segments}
+use Rattle.code_conventions.specs.pisa_isa.Loaded.{statics_at, heap_base, fixed_cells}
 use Rattle.code_conventions.specs.Header.{header}
 use Rattle.code_conventions.specs.declared.memory.TheConstants.{HEADER_WORDS, TABLE_HEADER}
 
--- the length of a class's table: its number, and a code place for each method slot
+-- the length of a class's table: its number, and a code address for each method slot
 abbrev pub table_length : Source → ℕ → ℕ
 table_length program class = TABLE_HEADER + length (class_slots program class)
 
@@ -39,12 +39,13 @@ abbrev pub main_statics : Source → List ℕ
 main_statics program = header (table_at program (main_of program).class) 1
     ++ replicate (length (main_fields program)) 0
 
--- the tables of the classes from this number on: the number, and the code places
+-- the tables of the classes from this number on: the number, and the code addresses
 abbrev pub tables : ℕ → List (List ℕ) → List ℕ
 tables number [] = []
 tables number (places ∷ rest) = number ∷ (places ++ tables (number + 1) rest)
 
--- the static cells of an image of the program, with these code places for the slots of each class
+-- the static cells of an image of the program, with these code addresses for the slots of each
+-- class
 pub record HasStatics (program : Source) (image : Segments) : Type 0 where
   pub places : List (List ℕ)
   pub slots : map length places ≡ each_below (λ class. length (class_slots program class))
@@ -57,7 +58,7 @@ abbrev pub overlaid : List ℕ → ℕ → List ℕ → List ℕ
 overlaid words at new = take at words ++ take (length words - at) new
     ++ drop (at + length new) words
 
--- what stands in a cell: a reference is the address of its block
+-- what a cell holds: a reference is the address of its block
 abbrev pub word_of : ℕ → List (ℕ × ℕ) → Value → ℕ
 word_of base blocks (Word w) = w
 word_of base blocks Nil = 0
@@ -98,7 +99,7 @@ heap_words program size base store placing =
     with_objects program base store placing.blocks placing.blocks
     (with_book base placing.book (replicate size 0))
 
--- the static cells, where the main object changes and the tables stay
+-- the static cells, if the main object changes and the tables stay
 abbrev pub static_words : Source → ℕ → List (ℕ × ℕ) → List ℕ → Store → List ℕ
 static_words program base blocks statics store =
     let main = object_words program base blocks (object_at store main_name) in
@@ -123,17 +124,17 @@ placed_layout program limits statics store placing =
 abbrev pub no_placing : Placing
 no_placing = record { book = []; blocks = [] }
 
--- the memory that stands for a store after these requests, over the static cells of an image of the
+-- the memory that represents a store after these requests, over the static cells of an image of the
 -- program
 abbrev pub layout : Source → Limits → List ℕ → Store → Log → List ℕ
 layout program limits statics store log =
     placed_layout program limits statics store (unwrap_or (place limits.heap log) no_placing)
 
--- whether a class's table stands at this address
+-- whether a class's table is at this address
 abbrev pub is_table : Source → ℕ → Bool
 is_table program address = list_any (nat_eq address) (table_addresses program)
 
--- whether a head word tells what this is: an array's length is no table's address
+-- whether a head word says what this is: an array's length is no table's address
 abbrev pub has_plain_head : Source → Head → Bool
 has_plain_head program (OfClass class) = true
 has_plain_head program (OfInts length) = not (is_table program length)

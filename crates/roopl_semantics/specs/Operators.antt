@@ -1,11 +1,11 @@
 -- What the operators do with words.
 use Rattle.std.specs.Prelude.{ℕ, Bool, true, false, not, ◌&&◌, ◌||◌, nat_eq, bit_and, bit_or}
 use Rattle.std.specs.Prelude.{bit_xor}
-use Rattle.rpp_words.specs.Words.{sum_of, difference_of, is_less}
-use Rattle.rpp_tree.specs.declared.tree.BinOp.{BinOp}
-use Rattle.rpp_tree.specs.declared.tree.BinOp.TheVariants as op
-use Rattle.rpp_tree.specs.declared.tree.UpdateOp.{UpdateOp}
-use Rattle.rpp_tree.specs.declared.tree.UpdateOp.TheVariants as update
+use Rattle.buddy_book.specs.rpp_words.Words.{sum_of, difference_of, is_less}
+use Rattle.stmt_inverter.specs.rpp_tree.declared.tree.BinOp.{BinOp}
+use Rattle.stmt_inverter.specs.rpp_tree.declared.tree.BinOp.TheVariants as op
+use Rattle.stmt_inverter.specs.rpp_tree.declared.tree.UpdateOp.{UpdateOp}
+use Rattle.stmt_inverter.specs.rpp_tree.declared.tree.UpdateOp.TheVariants as update
 
 -- truth is any word but 0
 abbrev pub is_true : ℕ → Bool
@@ -16,7 +16,7 @@ abbrev pub truth_word : Bool → ℕ
 truth_word true = 1
 truth_word false = 0
 
--- an operator on two words; the last three stand in no accepted program
+-- an operator on two words; the last three are in no accepted program
 abbrev pub operated : BinOp → ℕ → ℕ → ℕ
 operated op.Add a b = sum_of a b
 operated op.Sub a b = difference_of a b

@@ -4,9 +4,9 @@ use Rattle.std.specs.Prelude.{length, codes, position, if◌then◌else◌}
 use Rattle.std.specs.List.{list_any}
 use Rattle.std.specs.Option.{unwrap_or}
 use Rattle.std.specs.Fmt.{decimal}
-use Rattle.rpp_words.specs.Texts.{line_end}
-use Rattle.rpp_tree.specs.declared.tree.Var.{Var}
-use Rattle.rpp_tree.specs.Tree.{Source}
+use Rattle.buddy_book.specs.rpp_words.Texts.{line_end}
+use Rattle.stmt_inverter.specs.rpp_tree.declared.tree.Var.{Var}
+use Rattle.stmt_inverter.specs.rpp_tree.Tree.{Source}
 use Rattle.class_table.specs.Members.{class_at}
 use Rattle.class_table.specs.Classes.{class_fields}
 use Rattle.roopl_semantics.specs.Store.{Value, Word, Nil, Name, Head, OfClass, OfInts, OfObjects}
@@ -95,15 +95,15 @@ object_lines program store names (name ∷ rest) =
 abbrev pub live_line : ℕ → Text
 live_line live = codes "live " ++ decimal live ++ line_end
 
--- the report but for its last line: the main object's fields, and the objects in the order of their
--- numbers
+-- the report except for its last line: the main object's fields, and the objects in the order of
+-- their numbers
 abbrev pub objects_shown : Source → Store → Text
 objects_shown program store =
     let names = numbered store in
     field_lines [] names (main_fields program) (object_at store main_name).cells
     ++ object_lines program store names names
 
--- how many objects and arrays are live but for the main object
+-- how many objects and arrays are live except the main object
 abbrev pub live_count : Store → ℕ
 live_count store = length store - 1
 

@@ -2,13 +2,13 @@
 use Rattle.std.specs.Prelude.{◌≡◌, ℕ, Bool, true, false, not, ◌&&◌, nat_eq, nat_le, List, [], ◌∷◌}
 use Rattle.std.specs.Prelude.{Option, Some, None, slice_set, slice_get, if◌then◌else◌, IsTrue}
 use Rattle.std.specs.List.{All, list_any}
-use Rattle.rpp_words.specs.Words.{IsWord}
-use Rattle.rpp_words.specs.declared.input.FieldWord.{FieldWord}
-use Rattle.rpp_words.specs.declared.input.Limits.{Limits}
-use Rattle.rpp_tree.specs.declared.tree.Var.{Var}
-use Rattle.rpp_tree.specs.declared.tree.VarType.{VarType}
-use Rattle.rpp_tree.specs.declared.tree.VarType.TheVariants as kind
-use Rattle.rpp_tree.specs.Tree.{Statements, Source}
+use Rattle.buddy_book.specs.rpp_words.Words.{IsWord}
+use Rattle.buddy_book.specs.rpp_words.declared.input.FieldWord.{FieldWord}
+use Rattle.buddy_book.specs.rpp_words.declared.input.Limits.{Limits}
+use Rattle.stmt_inverter.specs.rpp_tree.declared.tree.Var.{Var}
+use Rattle.stmt_inverter.specs.rpp_tree.declared.tree.VarType.{VarType}
+use Rattle.stmt_inverter.specs.rpp_tree.declared.tree.VarType.TheVariants as kind
+use Rattle.stmt_inverter.specs.rpp_tree.Tree.{Statements, Source}
 use Rattle.class_table.specs.Classes.{class_fields, main_of, procedure_at}
 use Rattle.roopl_semantics.specs.Run.{Run, Done, Fault, More}
 use Rattle.roopl_semantics.specs.Store.{Value, Word, Object, OfClass, State, main_name, zero_values}
@@ -58,7 +58,7 @@ main_object program input =
       cells = with_input input (zero_values (main_fields program));
     }
 
--- the main object alone
+-- only the main object
 abbrev pub starting : Source → List FieldWord → State
 starting program input =
     record {
@@ -70,7 +70,7 @@ starting program input =
       log = [];
     }
 
--- a run that is not over where its cost passes the fuel
+-- a run that is not over if its cost passes the fuel
 abbrev pub within : {A : Type 0} → ℕ → Run A → Run A
 within fuel (Done result cost) = if nat_le cost fuel then Done result cost else More
 within fuel (Fault code cost) = if nat_le cost fuel then Fault code cost else More

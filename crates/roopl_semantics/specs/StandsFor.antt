@@ -1,19 +1,19 @@
 -- What it means that an image does what a program does.
 use Rattle.std.specs.Prelude.{◌≡◌, ◌≢◌, ◌≤◌, ◌+◌, ◌*◌, ℕ, ℤ, List, Option, Some, None}
-use Rattle.rpp_words.specs.declared.input.FieldWord.{FieldWord}
-use Rattle.rpp_words.specs.declared.input.Limits.{Limits}
-use Rattle.rpp_tree.specs.Tree.{Source}
-use Rattle.pisa_isa.specs.declared.machine.Stop.TheVariants.{Finished, Returned, Trap, BadAddress}
-use Rattle.pisa_isa.specs.declared.machine.Stop.TheVariants.{OffCode, Bound}
-use Rattle.pisa_isa.specs.Image.{Segments}
-use Rattle.pisa_isa.specs.Loaded.{loaded_state}
-use Rattle.pisa_isa.specs.Machine.{State as MachineState}
-use Rattle.pisa_isa.specs.Runs.{End, run, zero_registers}
-use Rattle.pisa_isa.specs.Ends.{IsCleanFinish, MeetsEndsOnce}
+use Rattle.buddy_book.specs.rpp_words.declared.input.FieldWord.{FieldWord}
+use Rattle.buddy_book.specs.rpp_words.declared.input.Limits.{Limits}
+use Rattle.stmt_inverter.specs.rpp_tree.Tree.{Source}
+use Rattle.code_conventions.specs.pisa_isa.declared.machine.Stop.TheVariants.{Finished, Returned, Trap, BadAddress}
+use Rattle.code_conventions.specs.pisa_isa.declared.machine.Stop.TheVariants.{OffCode, Bound}
+use Rattle.code_conventions.specs.pisa_isa.Image.{Segments}
+use Rattle.code_conventions.specs.pisa_isa.Loaded.{loaded_state}
+use Rattle.code_conventions.specs.pisa_isa.Machine.{State as MachineState}
+use Rattle.code_conventions.specs.pisa_isa.Runs.{End, run, zero_registers}
+use Rattle.code_conventions.specs.pisa_isa.Ends.{IsCleanFinish, MeetsEndsOnce}
 use Rattle.roopl_semantics.specs.Run.{Run, Done, Fault, More}
 use Rattle.roopl_semantics.specs.Store.{State}
 use Rattle.roopl_semantics.specs.Source.{IsValid, GivesDone, GivesFault, source}
-use Rattle.rpp_words.specs.Limits.{IsLimits}
+use Rattle.buddy_book.specs.rpp_words.Limits.{IsLimits}
 use Rattle.roopl_semantics.specs.Layout.{HasStatics, layout}
 
 -- the run of an image from START, of at most m steps
@@ -46,7 +46,7 @@ pub record IsEnough (image : Segments) (limits : Limits) (input : List FieldWord
     (enough : ℕ) : Type 0 where
   pub ends : (m : ℕ) → enough ≤ m → (run_of image limits input m).why ≢ Bound
 
--- the steps that are enough where the source ends at this cost
+-- the steps that are enough if the source ends at this cost
 abbrev pub enough_steps : ℕ → ℕ
 enough_steps cost = 1000 * cost + 1000
 
@@ -66,7 +66,7 @@ pub record Follows (program : Source) (image : Segments) (limits : Limits)
       → IsEnough image limits input (enough_steps cost)
   pub meets_ends_once : (m : ℕ) → MeetsEndsOnce image.code m (loaded_state image limits input)
 
--- an image stands for a program: its static cells are the program's, and it follows it on every
+-- an image implements a program: its static cells are the program's, and it follows it on every
 -- input, heap and depth
 pub record StandsFor (program : Source) (image : Segments) : Type 0 where
   pub statics : HasStatics program image

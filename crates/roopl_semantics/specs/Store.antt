@@ -2,9 +2,9 @@
 use Rattle.std.specs.Prelude.{ℕ, Bool, true, false, nat_eq, List, [], ◌∷◌, map, Option, Some, None}
 use Rattle.std.specs.Prelude.{if◌then◌else◌}
 use Rattle.std.specs.Option.{unwrap_or}
-use Rattle.rpp_tree.specs.declared.tree.Var.{Var}
-use Rattle.rpp_tree.specs.declared.tree.VarType.{VarType}
-use Rattle.rpp_tree.specs.declared.tree.VarType.TheVariants as kind
+use Rattle.stmt_inverter.specs.rpp_tree.declared.tree.Var.{Var}
+use Rattle.stmt_inverter.specs.rpp_tree.declared.tree.VarType.{VarType}
+use Rattle.stmt_inverter.specs.rpp_tree.declared.tree.VarType.TheVariants as kind
 use Rattle.buddy_book.specs.Place.{Log}
 
 -- what a variable, a field or an element holds: a word, nil, or the name of an object or array
@@ -37,7 +37,7 @@ pub record Binding : Type 0 where
   pub name : List ℕ
   pub value : Value
 
--- the variables of the open method, innermost first; its object; the number of open calls; the
+-- the variables of the open method, innermost first; its object; the number of active calls; the
 -- objects; the requests
 pub record State : Type 0 where
   pub frame : List Binding
@@ -62,7 +62,7 @@ number_of (Word w) = w
 number_of Nil = 0
 number_of (Name n) = n
 
--- what is left where a value moves away
+-- what is left if a value moves away
 abbrev pub cleared : Value → Value
 cleared (Word w) = Word 0
 cleared Nil = Nil

@@ -3,10 +3,10 @@ use Rattle.std.specs.Prelude.{ℕ, zero, suc, nat_lt, List, [], ◌∷◌, map, 
 use Rattle.std.specs.Prelude.{Some, None, Result, Ok, Err, slice_get, slice_set, if◌then◌else◌}
 use Rattle.std.specs.Option.{unwrap_or}
 use Rattle.std.specs.Str.{bytes_eq}
-use Rattle.rpp_tree.specs.declared.tree.Var.{Var}
-use Rattle.rpp_tree.specs.declared.tree.BinOp.{BinOp}
-use Rattle.rpp_tree.specs.Tree.{Expression, Number, Null, Variable, Element, Binary, Lvalue, Whole}
-use Rattle.rpp_tree.specs.Tree.{Item, Source, nodes, index_nodes}
+use Rattle.stmt_inverter.specs.rpp_tree.declared.tree.Var.{Var}
+use Rattle.stmt_inverter.specs.rpp_tree.declared.tree.BinOp.{BinOp}
+use Rattle.stmt_inverter.specs.rpp_tree.Tree.{Expression, Number, Null, Variable, Element, Binary, Lvalue, Whole}
+use Rattle.stmt_inverter.specs.rpp_tree.Tree.{Item, Source, nodes, index_nodes}
 use Rattle.class_table.specs.Members.{field_of}
 use Rattle.class_table.specs.Classes.{class_fields}
 use Rattle.code_conventions.specs.declared.faults.TheConstants.{NIL, INDEX}
@@ -21,11 +21,11 @@ pub data Cell : Type 0 where
   Slot : (index : ℕ) → Cell
   Part : (name index : ℕ) → Cell
 
--- where the innermost variable of a name stands in the frame
+-- the index of the innermost variable of a name in the frame
 abbrev pub slot_of : List Binding → List ℕ → Option ℕ
 slot_of frame name = position (bytes_eq name) (map (λ binding. binding.name) frame)
 
--- the class of the present object
+-- the class of the current object
 abbrev pub own_class : State → ℕ
 own_class st = class_of_head (object_at st.store st.self).head
 

@@ -1,25 +1,25 @@
--- The walk of a memory: what a list of cells tells of the blocks of its heap.
+-- The heap traversal: what a list of cells says about the blocks of its heap.
 use Rattle.std.specs.Prelude.{ℕ, zero, suc, ◌+◌, ◌^◌, Bool, true, false, not, ◌&&◌, nat_eq, nat_lt}
 use Rattle.std.specs.Prelude.{nat_le, List, [], ◌∷◌, ◌++◌, length, map, replicate, position, Option}
 use Rattle.std.specs.Prelude.{Some, None, if◌then◌else◌}
 use Rattle.std.specs.List.{list_any}
 use Rattle.std.specs.Option.{unwrap_or}
-use Rattle.rpp_tree.specs.declared.tree.Var.{Var}
-use Rattle.rpp_tree.specs.declared.tree.VarType.{VarType}
-use Rattle.rpp_tree.specs.declared.tree.VarType.TheVariants as kind
-use Rattle.rpp_tree.specs.Tree.{Source}
+use Rattle.stmt_inverter.specs.rpp_tree.declared.tree.Var.{Var}
+use Rattle.stmt_inverter.specs.rpp_tree.declared.tree.VarType.{VarType}
+use Rattle.stmt_inverter.specs.rpp_tree.declared.tree.VarType.TheVariants as kind
+use Rattle.stmt_inverter.specs.rpp_tree.Tree.{Source}
 use Rattle.class_table.specs.Classes.{class_fields}
 use Rattle.roopl_semantics.specs.Store.{Store}
 use Rattle.roopl_semantics.specs.Source.{main_fields}
 use Rattle.roopl_semantics.specs.Execution.{order_of_cells}
 use Rattle.roopl_semantics.specs.Report.{Text, objects_shown, live_line, live_count}
-use Rattle.pisa_isa.specs.declared.fixed.TheConstants.{ORDER_CELL, HEAP_CELL, STACK_CELL}
-use Rattle.pisa_isa.specs.Machine.{word_at}
-use Rattle.pisa_isa.specs.Loaded.{statics_at, head_cell}
+use Rattle.code_conventions.specs.pisa_isa.declared.fixed.TheConstants.{ORDER_CELL, HEAP_CELL, STACK_CELL}
+use Rattle.code_conventions.specs.pisa_isa.Machine.{word_at}
+use Rattle.code_conventions.specs.pisa_isa.Loaded.{statics_at, head_cell}
 use Rattle.code_conventions.specs.declared.memory.TheConstants.{HEADER_WORDS}
 use Rattle.roopl_semantics.specs.Layout.{table_addresses, is_plain}
 
--- the order of the heap, its base and its end, as the fixed cells tell them
+-- the order of the heap, its base and its end, as the fixed cells hold them
 abbrev pub highest_order : List ℕ → ℕ
 highest_order cells = word_at cells ORDER_CELL
 
@@ -47,7 +47,7 @@ free_order_from (suc orders) order cells address =
 abbrev pub free_order : List ℕ → ℕ → Option ℕ
 free_order cells address = free_order_from (highest_order cells) 1 cells address
 
--- the class whose table stands at an address
+-- the class whose table is at an address
 abbrev pub class_with_table : Source → ℕ → Option ℕ
 class_with_table program address = position (nat_eq address) (table_addresses program)
 
@@ -139,7 +139,7 @@ block_at program cells address =
     (unwrap_or (reached_order program cells (reached program cells) address)
     (head_order program (word_at cells address)))
 
--- goes on behind a block, unless its order is above the heap's
+-- goes on after a block, unless its order is above the heap's
 abbrev pub meets : List ℕ → Block → (ℕ → List Block) → List Block
 meets cells block next = if nat_lt (highest_order cells) block.order then []
     else block ∷ next (block.at + 2 ^ block.order)
@@ -163,8 +163,8 @@ count_taken (block ∷ blocks) = (if block.is_free then 0 else 1) + count_taken 
 abbrev pub counted : Source → List ℕ → ℕ
 counted program cells = count_taken (met_blocks program cells)
 
--- the number in the last line of a run's report: of live objects, or of what the cells let tell
--- where they hide an array
+-- the number in the last line of a run's report: of live objects, or what the cells allow to count
+-- if they hide an array
 abbrev pub live_shown : Source → Store → List ℕ → ℕ
 live_shown program store cells = if is_plain program store then live_count store
     else counted program cells

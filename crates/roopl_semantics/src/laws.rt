@@ -12,8 +12,8 @@ pub fn cost_is_enough()
     ensures { CostIsEnough }
 {}
 
-/// An image that stands for a program finishes with a store, given steps enough, exactly if the
-/// source gives that store, and stops with a fault exactly if the source does.
+/// An image that implements a program finishes with a store, given steps enough, exactly if the
+/// semantics gives that store. It stops with a fault exactly if the semantics does.
 pub fn images_are_exact()
     ensures { ImagesAreExact }
 {}

@@ -3,9 +3,9 @@
 use Rattle.std.proofs.Common.{◌≡◌, refl, ℕ, List, subst}
 use Rattle.std.specs.Io.KnownBytes.{Appends}
 use Rattle.std.specs.declared.option.Option.{Option}
-use Rattle.rpp_ports.specs.Ports.{Texts}
-use Rattle.rpp_probes.specs.Tally.{Watch}
-use Rattle.command_plan.specs.Plans.{Planned, code_of}
+use Rattle.command_line.specs.rpp_ports.Ports.{Texts}
+use Rattle.command_line.specs.rpp_probes.Tally.{Watch}
+use Rattle.command_line.specs.command_plan.Plans.{Planned, code_of}
 use Rattle.command_line.specs.Lines.{Asked}
 use Rattle.rpp_command.specs.Plans.{IsPlan}
 use Rattle.rpp_command.specs.Answers.{Leaves, CarriesOut}

@@ -4,11 +4,11 @@ use Rattle.std.specs.Io.KnownBytes.{Keeps}
 use Rattle.std.specs.declared.option.Option.{Option}
 use Rattle.std.proofs.lemmas.Bool.Decides.{nat_tests}
 use Rattle.std.proofs.Common.{arith}
-use Rattle.rpp_ports.specs.Ports.{Texts, Rose}
-use Rattle.rpp_probes.specs.Tally.{Watch}
-use Rattle.command_plan.specs.Plans.{Planned, Written}
-use Rattle.command_plan.specs.declared.status.Broken.{Broken}
-use Rattle.command_plan.specs.declared.status.Broken.TheVariants.{Outside, NoMemory}
+use Rattle.command_line.specs.rpp_ports.Ports.{Texts, Rose}
+use Rattle.command_line.specs.rpp_probes.Tally.{Watch}
+use Rattle.command_line.specs.command_plan.Plans.{Planned, Written}
+use Rattle.command_line.specs.command_plan.declared.status.Broken.{Broken}
+use Rattle.command_line.specs.command_plan.declared.status.Broken.TheVariants.{Outside, NoMemory}
 use Rattle.command_line.specs.Lines.{Asked, Turn, Profile}
 use Rattle.rpp_command.specs.Plans.{IsPlan, LeavesProbes}
 use Rattle.rpp_command.specs.Answers.{LeavesUnwritten, BreaksOff, EndsEarly}
@@ -16,7 +16,7 @@ use Rattle.rpp_command.specs.Answers.{LeavesUnwritten, BreaksOff, EndsEarly}
 rose_before : (before mid now : ℕ) → before ≤ mid → Rose mid now → Rose before now
 rose_before before mid now h rose = grind (arith, nat_tests)
 
--- another rise of the shelf's count is as good
+-- another rise of the file store's count is as good
 
 unwritten_by : (before after : Option Texts) (rose rose' failed lacks : Type 0) (old new : Option (List ℕ))
     (w : Written) (broken : Broken) → (rose → rose')
@@ -41,7 +41,7 @@ breaks_by before after rose rose' failed lacks old new p broken f (inl at_file) 
     inl (file_by before after rose rose' failed lacks old new p.writing broken f at_file)
 breaks_by before after rose rose' failed lacks old new p broken f (inr at_text) = inr at_text
 
--- a plan of the line was broken off
+-- a plan of the line was aborted
 pub ends_early : (line : Asked) (probes kept : List Watch) (told mid after : Option Texts) (before at now : ℕ)
     (failed lacks : Type 0) (old new : Option (List ℕ)) (p : Planned) (broken : Broken)
     → (count made : ℕ) → count ≡ 0 → IsPlan line probes kept count made told p → mid ≡ told → before ≤ at

@@ -1,21 +1,21 @@
 -- A plan of a line writes the line's target, or nothing.
 use Rattle.std.proofs.Common.{ℕ, List, None, Some, inl, inr, option_map, subst}
 use Rattle.std.specs.declared.option.Option.{Option}
-use Rattle.rpp_ports.specs.Ports.{Texts}
-use Rattle.rpp_probes.specs.Tally.{Watch}
+use Rattle.command_line.specs.rpp_ports.Ports.{Texts}
+use Rattle.command_line.specs.rpp_probes.Tally.{Watch}
 use Rattle.command_line.specs.Lines.{Asked, Check, Compile, Asm, ListImage, Flip, ShowInverse, Generate, Cluster}
 use Rattle.command_line.specs.Lines.{RunImage, Debug, Trace, Go, Turn, Profile, Wrap, Explain}
-use Rattle.command_plan.specs.Plans.{Planned, Written, WritesOnly}
+use Rattle.command_line.specs.command_plan.Plans.{Planned, Written, WritesOnly}
 use Rattle.rpp_command.specs.Plans.{IsPlan}
 use Rattle.rpp_command.specs.Causes.{target_of, KeepsButTarget}
-use Rattle.program_commands.proofs.ProgramTargets.{checks_file_writes, compiles_file_writes, goes_on_writes}
-use Rattle.program_commands.proofs.ProgramTargets.{turns_file_writes, profiles_file_writes, explains_writes}
+use Rattle.wrap_commands.proofs.program_commands_laws.ProgramTargets.{checks_file_writes, compiles_file_writes, goes_on_writes}
+use Rattle.wrap_commands.proofs.program_commands_laws.ProgramTargets.{turns_file_writes, profiles_file_writes, explains_writes}
 use Rattle.cluster_commands.proofs.ClusterTargets.{clusters_files_writes}
 use Rattle.wrap_commands.proofs.WrapTargets.{wraps_file_writes}
 use Rattle.trace_commands.proofs.TraceTargets.{traces_writes}
 use Rattle.text_commands.proofs.TextTargets.{shows_inverse_writes, generates_writes}
-use Rattle.image_commands.proofs.ImageTargets.{assembles_file_writes, lists_file_writes, flips_file_writes}
-use Rattle.image_commands.proofs.ImageTargets.{runs_file_writes, debugs_file_writes}
+use Rattle.trace_commands.proofs.image_commands_laws.ImageTargets.{assembles_file_writes, lists_file_writes, flips_file_writes}
+use Rattle.trace_commands.proofs.image_commands_laws.ImageTargets.{runs_file_writes, debugs_file_writes}
 
 plan_writes : (line : Asked) (before after : List Watch) (count counted : ℕ) (told : Option Texts) (p : Planned)
     → IsPlan line before after count counted told p → WritesOnly p (target_of line)
@@ -46,7 +46,7 @@ plan_writes (Wrap file heap deep steps names input) before after count counted t
 plan_writes (Explain file heap deep fuel input) before after count counted told p h =
     explains_writes file input heap deep fuel told p h
 
--- where nothing is written, each name keeps its text
+-- if nothing is written, each name keeps its text
 kept_all : (old new : Option Texts) (name : Option (List ℕ)) → KeepsButTarget old new None → KeepsButTarget old new name
 kept_all None new name kept = tt
 kept_all (Some old) None name kept = absurd kept

@@ -1,12 +1,12 @@
--- Which files a line reads, which it may write, and whether it tells probes.
+-- Which files a line reads, which it may write, and whether its probes observe steps.
 use Rattle.std.specs.Prelude.{◌≡◌, ℕ, Bool, true, false, List, [], ◌∷◌, ⊤, None, Some}
 use Rattle.std.specs.declared.option.Option.{Option}
-use Rattle.rpp_ports.specs.Ports.{Texts, KeepsOthers}
+use Rattle.command_line.specs.rpp_ports.Ports.{Texts, KeepsOthers}
 use Rattle.command_line.specs.Lines.{Asked, Check, Compile, Asm, ListImage, Flip, ShowInverse}
 use Rattle.command_line.specs.Lines.{Generate, Cluster, RunImage, Debug, Trace, Go, Turn, Profile}
 use Rattle.command_line.specs.Lines.{Wrap, Explain}
-use Rattle.command_plan.specs.Files.{Needed, source, assembly, image_file, input_files, state_files}
-use Rattle.image_commands.specs.DebugPlans.{script_file}
+use Rattle.command_line.specs.command_plan.Files.{Needed, source, assembly, image_file, input_files, state_files}
+use Rattle.trace_commands.specs.image_commands.DebugPlans.{script_file}
 use Rattle.cluster_commands.specs.ClusterPlans.{cluster_files}
 
 -- the files that a line reads, in order
@@ -28,7 +28,7 @@ files_of (Profile file heap deep steps) = source file ∷ []
 files_of (Wrap file heap deep steps names given) = source file ∷ input_files given
 files_of (Explain file heap deep fuel given) = source file ∷ input_files given
 
--- the files that the words have read, none where they are no line
+-- the files that the words have read, none if they are no line
 abbrev pub needed : Option Asked → List Needed
 needed None = []
 needed (Some line) = files_of line
@@ -57,14 +57,14 @@ abbrev pub target : Option Asked → Option (List ℕ)
 target None = None
 target (Some line) = target_of line
 
--- a told map stays told, and each name but the target keeps its text
+-- a map of known contents stays known, and each name except the target keeps its contents
 abbrev pub KeepsButTarget : Option Texts → Option Texts → Option (List ℕ) → Type 0
 KeepsButTarget None new name = ⊤
 KeepsButTarget (Some old) None name = ⊥
 KeepsButTarget (Some old) (Some new) None = (n : List ℕ) → new n ≡ old n
 KeepsButTarget (Some old) (Some new) (Some name) = KeepsOthers old new name
 
--- whether a line may tell probes
+-- whether the probes of a line may observe steps
 unfoldable pub tells : Asked → Bool
 tells (Turn file heap deep steps given) = true
 tells (Profile file heap deep steps) = true

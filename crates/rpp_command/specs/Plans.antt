@@ -1,15 +1,15 @@
 -- The plans of each line.
 use Rattle.std.specs.Prelude.{◌≡◌, ℕ, List}
 use Rattle.std.specs.declared.option.Option.{Option}
-use Rattle.rpp_ports.specs.Ports.{Texts}
-use Rattle.rpp_probes.specs.Tally.{Watch}
-use Rattle.command_plan.specs.Plans.{Planned}
-use Rattle.image_commands.specs.ImagePlans.{AssemblesFile, ListsFile, FlipsFile, RunsFile}
-use Rattle.image_commands.specs.DebugPlans.{DebugsFile}
-use Rattle.program_commands.specs.ProgramPlans.{ChecksFile, CompilesFile}
-use Rattle.program_commands.specs.RunPlans.{GoesOn, TurnsFile, ProfilesFile}
-use Rattle.program_commands.specs.ToldShort.{TurnsFileShort, ProfilesFileShort}
-use Rattle.program_commands.specs.Explained.{Explains}
+use Rattle.command_line.specs.rpp_ports.Ports.{Texts}
+use Rattle.command_line.specs.rpp_probes.Tally.{Watch}
+use Rattle.command_line.specs.command_plan.Plans.{Planned}
+use Rattle.trace_commands.specs.image_commands.ImagePlans.{AssemblesFile, ListsFile, FlipsFile, RunsFile}
+use Rattle.trace_commands.specs.image_commands.DebugPlans.{DebugsFile}
+use Rattle.wrap_commands.specs.program_commands.ProgramPlans.{ChecksFile, CompilesFile}
+use Rattle.wrap_commands.specs.program_commands.RunPlans.{GoesOn, TurnsFile, ProfilesFile}
+use Rattle.wrap_commands.specs.program_commands.ToldShort.{TurnsFileShort, ProfilesFileShort}
+use Rattle.wrap_commands.specs.program_commands.Explained.{Explains}
 use Rattle.cluster_commands.specs.ClusterPlans.{ClustersFiles}
 use Rattle.wrap_commands.specs.WrapPlans.{WrapsFile}
 use Rattle.trace_commands.specs.TracePlans.{Traces}
@@ -18,9 +18,9 @@ use Rattle.command_line.specs.Lines.{Asked, Check, Compile, Asm, ListImage, Flip
 use Rattle.command_line.specs.Lines.{Generate, Cluster, RunImage, Debug, Trace, Go, Turn, Profile}
 use Rattle.command_line.specs.Lines.{Wrap, Explain}
 
--- A plan of the line, where the shelf tells these texts, if it does, and the list of probes is
--- `before` as it is handed in and `after` as it is left; so `count` and `counted` are the counter
--- of machine steps.
+-- A plan of the line, if the file store has these known contents, or none. The list of probes is
+-- `before` as it is passed and `after` as it is left; so `count` and `counted` are the counter of
+-- machine steps.
 unfoldable pub IsPlan : Asked → (before after : List Watch) → (count counted : ℕ) → Option Texts
     → Planned → Type 0
 IsPlan (Check file) before after count counted = ChecksFile file
@@ -48,7 +48,7 @@ IsPlan (Wrap file heap deep steps names input) before after count counted =
 IsPlan (Explain file heap deep fuel input) before after count counted =
     Explains file input heap deep fuel
 
--- what is left of the probes where want of memory, or a file that could not be read, keeps the line
+-- what is left of the probes if memory runs out, or a file that could not be read keeps the line
 -- from a plan
 unfoldable pub LeavesProbes : Asked → (before after : List Watch) → Option Texts → Type 0
 LeavesProbes (Turn file heap deep steps input) before after told =

@@ -1,4 +1,4 @@
-//! The top call: what the program does with its words, over any shelf and any sink.
+//! The top call of the program. It does what the arguments say, over any file store and any sink.
 #![tactic(auto)]
 
 mod finish;

@@ -1,10 +1,10 @@
 // The top call.
 ghost use Rattle.std.specs.Prelude.{◌≡◌, ◌≢◌, false, ◌⊎◌, ◌≤◌, ◌<◌, OnOk, map, string_bytes, IfOk, IfErr, IfSome, IsErrOf, IsTrue};
-ghost use Rattle.rpp_ports.specs.Ports.{Rose};
+ghost use Rattle.command_line.specs.rpp_ports.Ports.{Rose};
 ghost use Rattle.command_line.specs.Lines.{asked, line_of, HasShortNumbers};
-ghost use Rattle.command_plan.specs.Plans.{GivesPlan, code_of};
+ghost use Rattle.command_line.specs.command_plan.Plans.{GivesPlan, code_of};
 ghost use Rattle.rpp_command.specs.Plans.{IsPlan, LeavesProbes};
-ghost use Rattle.command_plan.specs.Files.{OnlyReads, Unreadable, UnreadCause, LacksOne};
+ghost use Rattle.command_line.specs.command_plan.Files.{OnlyReads, Unreadable, UnreadCause, LacksOne};
 ghost use Rattle.rpp_command.specs.Causes.{KeepsButTarget, files_of, needed, target, target_of, tell, tells};
 ghost use Rattle.rpp_command.specs.Answers.{CarriesOut, Answers, EndsEarly};
 
@@ -24,7 +24,7 @@ use text_commands::{generate, show_inverse};
 use trace_commands::trace;
 use wrap_commands::wrap;
 
-/// Does what the words say, and answers the status of the program.
+/// Does what the words say, and returns the status of the program.
 pub fn rooplpp<S: Shelf, K: Sink, P: Probes>(
     alloc: Global,
     words: &[String],
@@ -32,23 +32,25 @@ pub fn rooplpp<S: Shelf, K: Sink, P: Probes>(
     out: &mut K,
     probes: &mut P,
 ) -> u8
-    // The whole answer.
+    // The whole result.
     ensures answer { result ≢ 2 → result ≢ 7 →
         Answers (line_of (map string_bytes words.now)) (P.watches probes.old) (P.watches probes.new)
         (S.texts shelf.old) (S.texts shelf.new) result (K.written out.old) (K.written out.new) }
 
-    // 1 comes exactly where the words are no line.
+    // 1 comes exactly if the words are no line.
     ensures words { result ≡ 1 → line_of (map string_bytes words.now) ≡ None }
     ensures no_line { line_of (map string_bytes words.now) ≡ None → result ≢ 2 → result ≢ 7
         → result ≡ 1 }
 
-    // 2 comes only where a count rose, or a told map lacks a file that is to be read.
+    // Status 2 is returned only if a count rose, or if a map of known contents does not have a file
+    // that is to be read.
     ensures outside { result ≡ 2 → Unreadable (S.texts shelf.old)
         (needed (line_of (map string_bytes words.now)))
         (Rose (S.faults shelf.old) (S.faults shelf.new)
         ⊎ Rose (K.faults out.old) (K.faults out.new)) }
 
-    // Where a told map lacks a file that is to be read, nothing else comes but want of memory.
+    // If a map of known contents does not have a file that is to be read, the only other error is
+    // `NoMemory`.
     ensures lacking { IfSome (S.texts shelf.old)
         (λ texts. LacksOne texts (needed (line_of (map string_bytes words.now))) → result ≢ 7
         → result ≡ 2) }

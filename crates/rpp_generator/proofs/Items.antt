@@ -8,7 +8,7 @@ first_item seed number zero h = absurd (omega (h, arith))
 first_item seed number (suc count) h = let e : suc count - 1 ≡ count = omega arith in
     ap (λ n. item_lines (item_value seed number) ++ items seed (number + 1) n) (sym e)
 
--- the next item goes from what is left to what stands
+-- the next item goes from what is left to what is there
 pub next_item : (front : List ℕ) (seed number size : ℕ) → number < size →
     (front ++ item_lines (item_value seed (1 + number))) ++ items seed (1 + (number + 1)) (size - (number + 1))
     ≡ front ++ items seed (1 + number) (size - number)

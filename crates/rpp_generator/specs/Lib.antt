@@ -1,1 +1,2 @@
+pub use Rattle.rpp_words.specs as rpp_words
 pub mod Generated

@@ -1,4 +1,4 @@
-//! Programs of any size for tests and measurements: each builds a list of items and a histogram of
+//! Programs of any size for tests and measurements. Each builds a list of items and a histogram of
 //! their values by calls, reads off their sum and number, and undoes the rest. The layer above may
 //! use `generate`.
 #![tactic(auto)]
@@ -21,7 +21,7 @@ method build()
 new int[100] hist
 ";
 
-// The lines behind the items.
+// The lines after the items.
 const CLOSING: &str = "method add(int v)
 local Node n = nil
 new Node n
@@ -39,7 +39,7 @@ next <=> rest
 ";
 
 /// The text of the program with this seed and so many items; up to 800 items it keeps the limits of
-/// the language. The same seed and size give the same text. The only refusal is want of memory.
+/// the language. The same seed and size give the same text. The only refusal is `NoMemory`.
 pub fn generate(alloc: Global, seed: u64, size: u32) -> Result<String, NoMemory>
     ensures { IfOk result (λ text. string_bytes text ≡ generated seed size) }
 {
@@ -58,7 +58,7 @@ fn add_opening(out: &mut String) -> Result<(), AllocError>
     out.push_str(OPENING)
 }
 
-// The lines behind the items.
+// The lines after the items.
 #[tactic(auto, unfolding(crate::specs::Generated::closing))]
 fn add_closing(out: &mut String) -> Result<(), AllocError>
     ensures { OnOk result (string_bytes out.new ≡ string_bytes out.old ++ closing) }
@@ -77,7 +77,7 @@ fn add_items(out: &mut String, seed: u64, size: u32) -> Result<(), AllocError>
     Ok(())
 }
 
-// The value of the item behind so many others.
+// The value of the item after so many others.
 fn value_of(seed: u64, before: u32) -> u64
     ensures { result ≡ item_value seed (1 + before) }
 {
@@ -110,7 +110,7 @@ fn add_put_in(out: &mut String) -> Result<(), AllocError>
     out.push_str("call add(v)\n")
 }
 
-// The line behind an item.
+// The line after an item.
 #[tactic(auto, unfolding(crate::specs::Generated::local_end))]
 fn add_local_end(out: &mut String, value: u64) -> Result<(), AllocError>
     ensures { OnOk result (string_bytes out.new ≡ string_bytes out.old ++ local_end value) }

@@ -3,3 +3,5 @@ pub mod Memory
 pub mod Failures
 pub mod Shelves
 pub mod Files
+pub mod Events
+pub mod Notes

@@ -1,9 +1,11 @@
-// Files as a shelf. What they contain is not told.
-ghost use Rattle.std.specs.Prelude.{◌≡◌, ◌≤◌, None, IfOk, IfErr, IfSome, OnOk, OnErr, IsErrOf, length};
+// The files of the system as a file store. What they contain is not known.
+ghost use Rattle.std.specs.Prelude.{◌≡◌, ◌≤◌, ◌∷◌, [], None, IfOk, IfErr, IfSome, OnOk, OnErr, IsErrOf, length};
+ghost use Rattle.rpp_ports.specs.Events.{Read, Write, bytes_of};
 ghost use Rattle.rpp_ports.specs.Ports.{Rose, ReadCause, IsTextOf, WriteCause, SetsText, LeavesAfter};
 ghost use Rattle.rpp_ports.specs.Failures.{risen};
 ghost use Rattle.rpp_ports.specs.Files as files;
 
+use crate::trail::{Note, Trail};
 use crate::{Shelf, ShelfFault};
 use std::fs::File;
 use std::io;
@@ -15,14 +17,20 @@ use std::rt::Files;
 pub struct FileShelf<'a, R: Files + AllocGlobal> {
     rt: &'a R,
     faults: u64,
+    trail: Trail,
 }
 
 impl<'a, R: Files + AllocGlobal> FileShelf<'a, R> {
-    /// The files of this runtime, with no failure so far.
+    /// The files of this runtime, with no failure so far, and no event.
     pub fn new(rt: &'a R) -> Self
-        ensures { ⟦<FileShelf<'a, R> as Shelf>⟧.faults result ≡ 0 }
+        ensures calm { ⟦<FileShelf<'a, R> as Shelf>⟧.faults result ≡ 0 }
+        ensures fresh { ⟦<FileShelf<'a, R> as Shelf>⟧.events result ≡ [] }
     {
-        FileShelf { rt, faults: 0 }
+        FileShelf {
+            rt,
+            faults: 0,
+            trail: Trail::new(),
+        }
     }
 }
 
@@ -44,7 +52,7 @@ fn read_within<R: Files + AllocGlobal>(
     Ok(Some(bytes))
 }
 
-// What an error of a file is to the shelf.
+// What an error of a file is to the file store.
 fn fault_of(kind: ErrorKind) -> ShelfFault
     ensures { result ≡ files.fault_of kind }
 {
@@ -55,11 +63,14 @@ fn fault_of(kind: ErrorKind) -> ShelfFault
     }
 }
 
-// Each error is counted, `Missing` and `TooLong` too.
+// Each error is counted, `Missing` and `TooLong` too. A call is made, and then noted with its
+// answer.
 impl<'a, R: Files + AllocGlobal> Shelf for FileShelf<'a, R> {
     ghost texts = { λ _. None };
 
     ghost faults = { λ s. s.faults };
+
+    ghost events = { λ s. s.trail.events };
 
     fn read(&mut self, name: &str, limit: u64) -> Result<Vec<u8>, ShelfFault>
         ensures within { IfOk result (λ bytes. length bytes.items ≤ limit) }
@@ -68,15 +79,20 @@ impl<'a, R: Files + AllocGlobal> Shelf for FileShelf<'a, R> {
             (ReadCause None name.now limit (Rose self.old.faults self.new.faults)) }
         ensures counts { OnErr result (self.new.faults ≡ risen self.old.faults) }
         ensures calm { OnOk result (self.new.faults ≡ self.old.faults) }
+        ensures noted { self.new.trail.events
+            ≡ Read name.now limit (bytes_of result) ∷ self.old.trail.events }
         ensures later { self.old.faults ≤ self.new.faults }
     {
-        let fault = match read_within(self.rt, name, limit) {
-            Ok(Some(bytes)) => return Ok(bytes),
-            Ok(None) => ShelfFault::TooLong,
-            Err(e) => fault_of(e.kind()),
+        let answer = match read_within(self.rt, name, limit) {
+            Ok(Some(bytes)) => Ok(bytes),
+            Ok(None) => Err(ShelfFault::TooLong),
+            Err(e) => Err(fault_of(e.kind())),
         };
-        self.faults = self.faults.saturating_add(1);
-        Err(fault)
+        if answer.is_err() {
+            self.faults = self.faults.saturating_add(1);
+        }
+        self.trail.note(&Note::Read(name, limit, &answer));
+        answer
     }
 
     fn write(&mut self, name: &str, bytes: &[u8]) -> Result<(), ShelfFault>
@@ -87,15 +103,19 @@ impl<'a, R: Files + AllocGlobal> Shelf for FileShelf<'a, R> {
         ensures failed { OnErr result (IsErrOf result ShelfFault.Failed) }
         ensures counts { OnErr result (self.new.faults ≡ risen self.old.faults) }
         ensures calm { OnOk result (self.new.faults ≡ self.old.faults) }
+        ensures noted { self.new.trail.events
+            ≡ Write name.now bytes.now result ∷ self.old.trail.events }
         ensures later { self.old.faults ≤ self.new.faults }
     {
-        // A file that could not be written may have lost its text, also for want of memory.
-        match std::fs::write(self.rt, name, bytes) {
+        // A file that could not be written may have lost its text, also if memory runs out.
+        let answer = match std::fs::write(self.rt, name, bytes) {
             Ok(()) => Ok(()),
             Err(_) => {
                 self.faults = self.faults.saturating_add(1);
                 Err(ShelfFault::Failed)
             }
-        }
+        };
+        self.trail.note(&Note::Write(name, bytes, answer));
+        answer
     }
 }

@@ -1,7 +1,7 @@
-//! The outside as the program sees it: a shelf of texts by name, and a sink for output. The layers
-//! above work over any `Shelf` and `Sink`, and rest on the traits' clauses alone; only `main` makes
-//! the `FileShelf` and the `OutSink`. The ports in memory are for tests and for callers that hold
-//! their texts, and fix which of their calls fail.
+//! The I/O interface of the program: a file store by name, and a sink for output. The layers above
+//! work over any `Shelf` and `Sink`, and use only the traits' clauses. Only `main` makes the
+//! `FileShelf` and the `OutSink`. The I/O interfaces in memory are for tests and for callers that
+//! hold their texts. They fix which of their calls fail.
 #![tactic(auto)]
 
 mod failing;
@@ -11,6 +11,7 @@ mod memory_sink;
 mod out_sink;
 mod shelf;
 mod sink;
+mod trail;
 
 pub use file_shelf::FileShelf;
 pub use memory_shelf::{MemoryShelf, Named};

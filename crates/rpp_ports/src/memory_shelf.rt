@@ -1,11 +1,13 @@
-// A shelf in memory, some of whose calls fail.
-ghost use Rattle.std.specs.Prelude.{◌≡◌, ◌≤◌, ◌↔◌, Some, length, IfOk, IfErr, OnOk, IsErrOf, IsTrue, option_copied};
+// A file store in memory, some of whose calls fail.
+ghost use Rattle.std.specs.Prelude.{◌≡◌, ◌≤◌, ◌↔◌, ◌∷◌, [], Some, length, IfOk, IfErr, OnOk, IsErrOf, IsTrue, option_copied};
+ghost use Rattle.rpp_ports.specs.Events.{Read, Write, bytes_of};
 ghost use Rattle.rpp_ports.specs.Ports.{Rose, ReadCause, WriteCause, SetsText, LeavesAfter};
 ghost use Rattle.rpp_ports.specs.Memory.{text_of};
 ghost use Rattle.rpp_ports.specs.Failures.{CountsCall, IsCalm, is_due};
-ghost use Rattle.rpp_ports.specs.Shelves.{shelf_texts, shelf_failing, shelf_faults};
+ghost use Rattle.rpp_ports.specs.Shelves.{shelf_texts, shelf_failing, shelf_faults, shelf_events};
 
 use crate::failing::Failing;
+use crate::trail::{Note, Trail};
 use crate::{Shelf, ShelfFault};
 use std::alloc::Global;
 
@@ -16,28 +18,31 @@ pub struct Named {
     pub bytes: Vec<u8>,
 }
 
-/// A shelf in memory. Its reads and writes fail at the calls that its maker names.
+/// A file store in memory. Its reads and writes fail at the calls that its maker names.
 #[derive(Drop)]
 pub struct MemoryShelf {
     alloc: Global,
     texts: Vec<Named>,
     failing: Failing,
+    trail: Trail,
 }
 
 impl MemoryShelf {
-    /// A shelf with these texts; where two share a name, the first counts. The calls with these
-    /// numbers, reads and writes counted together from 1, answer `Failed`; with no number none
+    /// A file store with these texts; if two share a name, the first counts. The calls with these
+    /// numbers, reads and writes counted together from 1, return `Failed`; with no number none
     /// ever does.
     pub fn new(alloc: Global, texts: Vec<Named>, failing: Vec<u64>) -> Self
         ensures texts { shelf_texts result ≡ text_of texts.items }
         ensures failing { (shelf_failing result).numbers.items ≡ failing.items }
         ensures calls { (shelf_failing result).calls ≡ 0 }
         ensures faults { shelf_faults result ≡ 0 }
+        ensures events { shelf_events result ≡ [] }
     {
         MemoryShelf {
             alloc,
             texts,
             failing: Failing::new(failing),
+            trail: Trail::new(),
         }
     }
 
@@ -52,16 +57,9 @@ impl MemoryShelf {
         }
         None
     }
-}
 
-// Beyond the trait's clauses: the calls that fail are those that were named, and no other answer
-// raises the count.
-impl Shelf for MemoryShelf {
-    ghost texts = { λ s. Some (shelf_texts s) };
-
-    ghost faults = { shelf_faults };
-
-    fn read(&mut self, name: &str, limit: u64) -> Result<Vec<u8>, ShelfFault>
+    // The answer of a read, which is still to be noted.
+    fn found(&mut self, name: &str, limit: u64) -> Result<Vec<u8>, ShelfFault>
         ensures within { IfOk result (λ bytes. length bytes.items ≤ limit) }
         ensures text { IfOk result (λ bytes. shelf_texts self.old name.now ≡ Some bytes.items) }
         ensures cause { IfErr result (ReadCause (Some (shelf_texts self.old)) name.now limit
@@ -71,6 +69,7 @@ impl Shelf for MemoryShelf {
         ensures due { IsErrOf result ShelfFault.Failed ↔ IsTrue (is_due (shelf_failing self.new)) }
         ensures counts { CountsCall (shelf_failing self.old) (shelf_failing self.new) }
         ensures calm { IsCalm (shelf_failing self.new) }
+        ensures unnoted { shelf_events self.new ≡ shelf_events self.old }
     {
         if self.failing.fails() {
             return Err(ShelfFault::Failed);
@@ -84,7 +83,60 @@ impl Shelf for MemoryShelf {
         Ok(bytes.to_vec(self.alloc)?)
     }
 
-    // The first text with a name counts, so a new one stands in front.
+    // The answer of a write, which is not noted yet. The first text with a name counts, so a new
+    // one is put first.
+    fn set(&mut self, name: &str, bytes: &[u8]) -> Result<(), ShelfFault>
+        ensures written { OnOk result
+            (SetsText (Some (shelf_texts self.old)) (Some (shelf_texts self.new)) name.now
+            bytes.now) }
+        ensures left { IfErr result (LeavesAfter (Some (shelf_texts self.old))
+            (Some (shelf_texts self.new)) name.now) }
+        ensures cause { IfErr result (WriteCause (Rose (shelf_faults self.old) (shelf_faults self.new))) }
+        ensures memory { IsErrOf result ShelfFault.NoMemory
+            → shelf_faults self.new ≡ shelf_faults self.old }
+        ensures later { shelf_faults self.old ≤ shelf_faults self.new }
+        ensures due { IsErrOf result ShelfFault.Failed ↔ IsTrue (is_due (shelf_failing self.new)) }
+        ensures counts { CountsCall (shelf_failing self.old) (shelf_failing self.new) }
+        ensures calm { IsCalm (shelf_failing self.new) }
+        ensures unnoted { shelf_events self.new ≡ shelf_events self.old }
+    {
+        if self.failing.fails() {
+            return Err(ShelfFault::Failed);
+        }
+        let name = String::from_str(self.alloc, name)?;
+        let bytes = bytes.to_vec(self.alloc)?;
+        self.texts.insert(0, Named { name, bytes })?;
+        Ok(())
+    }
+}
+
+// Beyond the trait's clauses: the calls that fail are those that were named, and no other answer
+// raises the count.
+impl Shelf for MemoryShelf {
+    ghost texts = { λ s. Some (shelf_texts s) };
+
+    ghost faults = { shelf_faults };
+
+    ghost events = { shelf_events };
+
+    fn read(&mut self, name: &str, limit: u64) -> Result<Vec<u8>, ShelfFault>
+        ensures within { IfOk result (λ bytes. length bytes.items ≤ limit) }
+        ensures text { IfOk result (λ bytes. shelf_texts self.old name.now ≡ Some bytes.items) }
+        ensures cause { IfErr result (ReadCause (Some (shelf_texts self.old)) name.now limit
+            (Rose (shelf_faults self.old) (shelf_faults self.new))) }
+        ensures kept { shelf_texts self.new ≡ shelf_texts self.old }
+        ensures later { shelf_faults self.old ≤ shelf_faults self.new }
+        ensures due { IsErrOf result ShelfFault.Failed ↔ IsTrue (is_due (shelf_failing self.new)) }
+        ensures counts { CountsCall (shelf_failing self.old) (shelf_failing self.new) }
+        ensures calm { IsCalm (shelf_failing self.new) }
+        ensures noted { shelf_events self.new
+            ≡ Read name.now limit (bytes_of result) ∷ shelf_events self.old }
+    {
+        let answer = self.found(name, limit);
+        self.trail.note(&Note::Read(name, limit, &answer));
+        answer
+    }
+
     fn write(&mut self, name: &str, bytes: &[u8]) -> Result<(), ShelfFault>
         ensures written { OnOk result
             (SetsText (Some (shelf_texts self.old)) (Some (shelf_texts self.new)) name.now
@@ -98,13 +150,10 @@ impl Shelf for MemoryShelf {
         ensures due { IsErrOf result ShelfFault.Failed ↔ IsTrue (is_due (shelf_failing self.new)) }
         ensures counts { CountsCall (shelf_failing self.old) (shelf_failing self.new) }
         ensures calm { IsCalm (shelf_failing self.new) }
+        ensures noted { shelf_events self.new ≡ Write name.now bytes.now result ∷ shelf_events self.old }
     {
-        if self.failing.fails() {
-            return Err(ShelfFault::Failed);
-        }
-        let name = String::from_str(self.alloc, name)?;
-        let bytes = bytes.to_vec(self.alloc)?;
-        self.texts.insert(0, Named { name, bytes })?;
-        Ok(())
+        let answer = self.set(name, bytes);
+        self.trail.note(&Note::Write(name, bytes, answer));
+        answer
     }
 }

@@ -2,7 +2,7 @@ use super::*;
 use std::test::Fail;
 use std::{fs, process};
 
-// A shelf with two texts named `a`, an empty one named `b`, and calls that fail.
+// A file store with two texts named `a`, an empty one named `b`, and calls that fail.
 fn shelf(rt: &HostRuntime, failing: &[u64]) -> Result<MemoryShelf, Fail> {
     let alloc = rt.alloc();
     let mut texts = Vec::new(alloc);

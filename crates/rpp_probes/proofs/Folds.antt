@@ -8,7 +8,7 @@ pub left_none : (ws : List Watch) → left_after [] ws ≡ ws
 left_none [] = refl
 left_none (w ∷ ws) = ap (λ l. w ∷ l) (left_none ws)
 
--- a step in front of others
+-- a step before others
 going_first : (step : StepAt) (steps : List StepAt) (w : Watch) (ws : List Watch) (ended later : Bool)
     → has_ended (told step w) ≡ ended → ends_in steps (told step w) ≡ later
     → left_after steps (going step ws) ≡ left_after (step ∷ steps) ws
@@ -45,7 +45,7 @@ lines_more (first ∷ steps) step ws =
     ∙ sym (append_assoc (lines_at first ws) (lines_after steps (going first ws))
     (lines_at step (left_after (first ∷ steps) ws)))
 
--- ---- steps behind others
+-- ---- steps after others
 
 pub left_append : (first more : List StepAt) (ws : List Watch)
     → left_after (first ++ more) ws ≡ left_after more (left_after first ws)

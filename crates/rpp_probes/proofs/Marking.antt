@@ -1,5 +1,5 @@
 -- What marks sum up to.
-use Rattle.std.proofs.Common.{◌≡◌, refl, ℕ, zero, suc, ◌+◌, ◌<◌, ◌≤◌, List, [], ◌∷◌, length, sum, replicate, arith}
+use Rattle.std.proofs.Common.{◌≡◌, ℕ, zero, suc, ◌+◌, ◌<◌, ◌≤◌, List, [], ◌∷◌, length, sum, arith}
 use Rattle.std.specs.List.{slice_set, slice_index_or}
 use Rattle.std.proofs.lemmas.List.Elements.{All-set}
 use Rattle.std.proofs.lemmas.List.Sums.{sum_by-cons}
@@ -7,20 +7,6 @@ use Rattle.rpp_probes.specs.Marks.{AreMarks}
 
 sum-cons : (x : ℕ) (xs : List ℕ) → sum (x ∷ xs) ≡ x + sum xs
 sum-cons x xs = sum_by-cons (λ n. n) x xs
-
-pub sum_unmarked : (n : ℕ) → sum (replicate n 0) ≡ 0
-sum_unmarked zero = refl
-sum_unmarked (suc n) = let rest : sum (replicate n 0) ≡ 0 = sum_unmarked n in omega (arith, sum-cons 0 (replicate n 0))
-
-pub unmarked_are : (n : ℕ) → AreMarks (replicate n 0)
-unmarked_are zero = λ k d h. absurd (omega (h, arith))
-unmarked_are (suc n) = λ k d h. first n k d h
-  where
-    first : (n k d : ℕ) → k < length {A = ℕ} (replicate (suc n) 0)
-        → slice_index_or {A = ℕ} (replicate (suc n) 0) k d ≤ 1
-    first n zero d h = omega arith
-    first zero (suc k) d h = absurd (omega (h, arith))
-    first (suc n) (suc k) d h = first n k d (omega (h, arith))
 
 pub sum_few : (marks : List ℕ) → AreMarks marks → sum marks ≤ length marks
 sum_few [] are = omega arith

@@ -20,7 +20,7 @@ pub never_ends : (steps : List StepAt) (w : Watch) → ((tally : List ℕ) → w
 never_ends [] w h = refl
 never_ends (step ∷ steps) w h = rw (h (w.rule w.tally step)) (never_ends steps (told step w) h)
 
--- a count that stands below the limit, and one that is past it
+-- a count that is below the limit, and one that is past it
 pub not_yet : (steps : List StepAt) (limit count : ℕ) (marks : List ℕ) → count + length steps < limit → limit < 2 ^ 64
     → ends_in steps (coverage limit count marks) ≡ false
 not_yet [] limit count marks h k = refl
@@ -58,7 +58,7 @@ pub none_of_sure : (n : ℕ) (steps : List StepAt) (ws : List Watch) → AreSure
 none_of_sure n steps ws are few = All-weaker (IsSureFor n) (λ w. ends_in steps w ≡ false) (λ w sure. sure steps few) ws
     are
 
--- what a step leaves of probes that neither it nor those behind it end
+-- what a step leaves of probes if it ends none of them, and neither do those after it
 pub none_next : (step : StepAt) (steps : List StepAt) (ws : List Watch) → EndNone (step ∷ steps) ws
     → EndNone steps (map (told step) ws)
 none_next step steps [] none = All-nil (λ w. ends_in steps w ≡ false)
@@ -100,9 +100,9 @@ no_lines (step ∷ steps) ws none =
     ∙ ap (lines_after steps) (going_all step steps ws none)
     ∙ no_lines steps (map (told step) ws) (none_next step steps ws none)
 
--- ---- each probe of a list is told
+-- ---- each probe of a list observes it
 
--- those in front were told
+-- the probes before observed it
 pub record AreTold (steps : List StepAt) (at : ℕ) (ws now : List Watch) : Type 0 where
   pub front : List Watch
   pub behind : List Watch
@@ -110,10 +110,7 @@ pub record AreTold (steps : List StepAt) (at : ℕ) (ws now : List Watch) : Type
   pub stands : now ≡ map (told_all steps) front ++ behind
   pub count : length front ≡ at
 
-pub none_are : (steps : List StepAt) (ws : List Watch) → AreTold steps 0 ws ws
-none_are steps ws = record { front = []; behind = ws; parts = refl; stands = refl; count = refl }
-
--- where the next stands
+-- the index of the next
 pub record HasNext (steps : List StepAt) (at : ℕ) (ws now : List Watch) (one : Watch) : Type 0 where
   pub front : List Watch
   pub behind : List Watch
@@ -147,7 +144,7 @@ ends_not_next steps front behind ws one none parts = first front (subst (EndNone
     first [] are = All-head (λ w. ends_in steps w ≡ false) one behind are
     first (w ∷ ws) are = first ws (All-tail (λ w. ends_in steps w ≡ false) w (ws ++ one ∷ behind) are)
 
--- one more is told
+-- one more has observed it
 pub one_told : {A : Type 0} (f : A → Watch) (steps : List StepAt) (xs : List A) (at : ℕ) (d y : A) (ws : List Watch)
     → AreTold steps at ws (map f xs) → at < length xs
     → f y ≡ told_all steps (f (slice_index_or xs at d)) → AreTold steps (at + 1) ws (map f (slice_set xs at y))
@@ -174,7 +171,7 @@ one_told f steps xs at d y ws h less is =
       count = length-append next.front (one ∷ []) ∙ ap (λ n. n + 1) next.count;
     }
 
--- all are told
+-- all have observed it
 pub all_told : {A : Type 0} (f : A → Watch) (steps : List StepAt) (xs : List A) (at : ℕ) (ws : List Watch)
     → AreTold steps at ws (map f xs) → length xs ≤ at → EndNone steps ws
     → map f xs ≡ left_after steps ws
@@ -192,7 +189,7 @@ all_told f steps xs at ws h few none =
     h.stands ∙ ap (λ l. map (told_all steps) h.front ++ l) none_behind ∙ append-nil (map (told_all steps) h.front)
     ∙ ap (map (told_all steps)) (sym whole) ∙ sym (all_stay steps ws none)
 
--- ---- a table that is told many steps
+-- ---- a table that observes many steps
 
 risen_more : (count rest : ℕ) → count < 2 ^ 64 → min (risen count + rest) (2 ^ 64 - 1)
     ≡ min (count + suc rest) (2 ^ 64 - 1)

@@ -1,4 +1,4 @@
--- A list of probes, one of which is told or dropped.
+-- A list of probes, one of which observes a step or is dropped.
 use Rattle.std.proofs.Common.{◌≡◌, ◌∙◌, sym, ap, refl, ℕ, zero, suc, ◌+◌, ◌<◌, ◌≤◌, Bool, true, false, not, List, []}
 use Rattle.std.proofs.Common.{◌∷◌, ◌++◌, length, map, take, drop, arith, append_assoc, length-append}
 use Rattle.std.specs.Prelude.{if◌then◌else◌}
@@ -31,7 +31,7 @@ same_parts (x ∷ xs) (y ∷ ys) behind behind' count e =
     let same = head_same x y (xs ++ behind) (ys ++ behind') e in
     record { fronts = ap (λ a. a ∷ xs) same ∙ ap (λ l. y ∷ l) rest.fronts; behinds = rest.behinds }
 
--- the element at an index, between those in front and those behind
+-- the element at an index, between those before it and those after it
 pub parted : {A : Type 0} (xs : List A) (i : ℕ) (d : A) → i < length xs
     → xs ≡ take i xs ++ slice_index_or xs i d ∷ drop (suc i) xs
 parted [] i d h = absurd (omega (h, arith))
@@ -81,7 +81,7 @@ drops_at f xs now i x before after h at is line = record {
   line = line;
 }
 
--- ---- a list told up to a place
+-- ---- a list that has observed up to an index
 
 pub record IsToldTo (step : StepAt) (at : ℕ) (ws now : List Watch) (before after : List (List ℕ)) : Type 0 where
   pub front : List Watch
@@ -90,16 +90,6 @@ pub record IsToldTo (step : StepAt) (at : ℕ) (ws now : List Watch) (before aft
   pub stands : now ≡ going step front ++ behind
   pub count : length (going step front) ≡ at
   pub lines : after ≡ before ++ lines_at step front
-
-pub none_told : (step : StepAt) (ws : List Watch) (lines : List (List ℕ)) → IsToldTo step 0 ws ws lines lines
-none_told step ws lines = record {
-  front = [];
-  behind = ws;
-  parts = refl;
-  stands = refl;
-  count = refl;
-  lines = sym (append-nil lines);
-}
 
 going_more : (step : StepAt) (front : List Watch) (one : Watch)
     → going step (front ++ one ∷ []) ≡ going step front ++
@@ -208,7 +198,7 @@ pub none_left : {A : Type 0} (xs : List A) → length xs ≡ 0 → xs ≡ []
 none_left [] e = refl
 none_left (x ∷ xs) e = absurd (omega (e, arith))
 
--- all are told
+-- all have observed it
 pub record ToldWhole (step : StepAt) (ws now : List Watch) (before after : List (List ℕ)) : Type 0 where
   pub told : now ≡ going step ws
   pub lines : after ≡ before ++ lines_at step ws

@@ -32,12 +32,12 @@ step_tally forward back = record {
   shown = steps_line;
 }
 
--- the greatest place with one more
+-- the greatest code address with one more
 abbrev pub deepened : ℕ → List ℕ → List ℕ
 deepened place [] = place ∷ []
 deepened place (deepest ∷ rest) = max deepest place ∷ []
 
--- the greatest place, where there was a step
+-- the greatest code address, if there was a step
 abbrev pub deepest_rule : List ℕ → StepAt → List ℕ
 deepest_rule tally step = deepened step.place tally
 
@@ -53,26 +53,26 @@ deepest_place places = record {
   shown = deepest_line;
 }
 
--- the marks with a place marked, where the table has it
+-- the marks with a code address marked, if the table has it
 abbrev pub marked : ℕ → List ℕ → List ℕ
 marked place marks = if nat_lt place MOST_PLACES then slice_set marks place 1 else marks
 
--- the marks with the places of steps marked
+-- the marks with the code addresses of steps marked
 abbrev pub marked_all : List StepAt → List ℕ → List ℕ
 marked_all [] marks = marks
 marked_all (step ∷ steps) marks = marked_all steps (marked step.place marks)
 
--- the limit, how many steps were told, and a mark for each place of the table
+-- the limit, how many steps were observed, and a mark for each code address of the table
 abbrev pub coverage_rule : List ℕ → StepAt → List ℕ
 coverage_rule (limit ∷ steps ∷ marks) step = limit ∷ risen steps ∷ marked step.place marks
 coverage_rule tally step = tally
 
--- the step was told with which there are as many as the limit
+-- the step was observed with which there are as many as the limit
 abbrev pub coverage_end : List ℕ → Bool
 coverage_end (limit ∷ steps ∷ marks) = steps == limit
 coverage_end tally = false
 
--- how many places are marked
+-- how many code addresses are marked
 abbrev pub coverage_line : List ℕ → List ℕ
 coverage_line (limit ∷ steps ∷ marks) = codes "places " ++ decimal (sum marks)
 coverage_line tally = []
@@ -85,7 +85,7 @@ coverage limit steps marks = record {
   shown = coverage_line;
 }
 
--- no step was told, and none of the places of the table is marked
+-- no step was observed, and no code address of the table is marked
 pub record CoversNothing (limit : ℕ) (w : Watch) : Type 0 where
   pub marks : List ℕ
   pub is : w ≡ coverage limit 0 marks

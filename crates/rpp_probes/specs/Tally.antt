@@ -1,4 +1,4 @@
--- What a probe is, and what becomes of probes that are told the counted steps of a run.
+-- What a probe is, and what becomes of probes that observe the counted steps of a run.
 use Rattle.std.specs.Prelude.{◌≡◌, ◌≤◌, ℕ, Bool, false, not, ◌||◌, List, [], ◌∷◌, ◌++◌, length, map}
 use Rattle.std.specs.Prelude.{filter, IsTrue, if◌then◌else◌}
 use Rattle.std.specs.List.{flat_map, All}
@@ -12,7 +12,7 @@ pub record Watch : Type 0 where
   pub is_end : List ℕ → Bool
   pub shown : List ℕ → List ℕ
 
--- the end test holds of the tally
+-- the end test holds for the tally
 abbrev pub has_ended : Watch → Bool
 has_ended w = w.is_end w.tally
 
@@ -20,12 +20,12 @@ has_ended w = w.is_end w.tally
 abbrev pub line_of : Watch → List ℕ
 line_of w = w.shown w.tally
 
--- once a step is told
+-- after it observes a step
 abbrev pub told : StepAt → Watch → Watch
 told step w = record w { tally = w.rule w.tally step }
 
--- once the steps of a run are told: the fold of the rule over them, up to and with the first step
--- after which the end test holds
+-- after it observes the steps of a run: the fold of the rule over them, up to and with the first
+-- step after which the end test holds
 abbrev pub told_all : List StepAt → Watch → Watch
 told_all [] w = w
 told_all (step ∷ steps) w = if has_ended (told step w) then told step w else told_all steps
@@ -52,7 +52,7 @@ EndNone steps ws = All (λ w. ends_in steps w ≡ false) ws
 abbrev pub left_after : List StepAt → List Watch → List Watch
 left_after steps ws = map (told_all steps) (filter (λ w. not (ends_in steps w)) ws)
 
--- the probes that go on behind a step
+-- the probes that go on after a step
 abbrev pub going : StepAt → List Watch → List Watch
 going step ws = filter (λ w. not (has_ended w)) (map (told step) ws)
 
@@ -65,8 +65,8 @@ abbrev pub lines_after : List StepAt → List Watch → List (List ℕ)
 lines_after [] ws = []
 lines_after (step ∷ steps) ws = lines_at step ws ++ lines_after steps (going step ws)
 
--- No memory was found for the line of a probe that ended with a step: those in front of it were
--- told the step, and the lines of those that ended are kept; those behind it were not told.
+-- Memory ran out for the line of a probe that ended with a step. Those before it observed the step,
+-- and the lines of those that ended are kept; those after it did not observe it.
 pub record IsCutShort (step : StepAt) (old new : List Watch) (before after : List (List ℕ)) : Type 0
   where
     pub front : List Watch
@@ -77,7 +77,7 @@ pub record IsCutShort (step : StepAt) (old new : List Watch) (before after : Lis
     pub left : new ≡ going step front ++ told step ended ∷ behind
     pub lines : after ≡ before ++ lines_at step front
 
--- one probe of a list is told a step, and goes on or not
+-- one probe of a list observes a step, and goes on or not
 pub record TellsAt (step : StepAt) (at : ℕ) (old new : List Watch) (goes : Bool) : Type 0 where
   pub front : List Watch
   pub one : Watch

@@ -1,4 +1,4 @@
-// Which places a run has come to.
+// Which code addresses a run has come to.
 ghost use Rattle.std.specs.Prelude.{◌≡◌, ◌+◌, ◌<◌, ◌≤◌, ◌^◌, IfOk, length, slice_set, sum, vec_len};
 ghost use Rattle.rpp_probes.specs.declared.coverage.TheConstants.{MOST_PLACES};
 ghost use Rattle.rpp_probes.specs.Marks.{AreMarks};
@@ -8,11 +8,11 @@ use crate::{Probe, StepAt};
 use rpp_words::NoMemory;
 use std::alloc::{AllocError, Global};
 
-/// How many places the table has.
+/// How many code addresses the table has.
 pub const MOST_PLACES: u32 = 4_194_304;
 
-/// Marks the places below 4,194,304, and ends with the step with which it was told as many as its
-/// limit. Where the limit is 0, it never ends.
+/// Marks the code addresses below 4,194,304, and ends with the step with which it has observed as
+/// many as its limit. If the limit is 0, it never ends.
 #[derive(Drop)]
 pub struct Coverage {
     limit: u64,
@@ -24,7 +24,7 @@ pub struct Coverage {
     ghost counted: { sum marks.items ≡ places },
 }
 
-// A table of so many places, none of which is marked.
+// A table of so many code addresses, none of which is marked.
 fn unmarked(alloc: Global, count: usize) -> Result<Vec<u8>, AllocError>
     ensures count { IfOk result (λ marks. length marks.items ≡ count) }
     ensures marks { IfOk result (λ marks. AreMarks marks.items) }
@@ -35,7 +35,7 @@ fn unmarked(alloc: Global, count: usize) -> Result<Vec<u8>, AllocError>
     Ok(marks)
 }
 
-// Marks a place, and answers how many places more are marked.
+// Marks a code address, and returns how many code addresses more are marked.
 fn mark(marks: &mut Vec<u8>, place: usize) -> u64
     requires place { place < length marks.old.items }
     requires marks { AreMarks marks.old.items }
@@ -49,7 +49,7 @@ fn mark(marks: &mut Vec<u8>, place: usize) -> u64
     u64::from(1 - old)
 }
 
-// Marks a place where the table has it, and answers how many places more are marked.
+// Marks a code address if the table has it, and returns how many code addresses more are marked.
 fn mark_place(marks: &mut Vec<u8>, place: u32) -> u64
     requires whole { length marks.old.items ≡ MOST_PLACES }
     requires marks { AreMarks marks.old.items }
@@ -66,7 +66,7 @@ fn mark_place(marks: &mut Vec<u8>, place: u32) -> u64
     }
 }
 
-// Marks the places of steps, and answers how many places more are marked.
+// Marks the code addresses of steps, and returns how many code addresses more are marked.
 fn mark_each(marks: &mut Vec<u8>, steps: &[StepAt]) -> u64
     requires whole { length marks.old.items ≡ MOST_PLACES }
     requires marks { AreMarks marks.old.items }

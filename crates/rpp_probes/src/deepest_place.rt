@@ -1,4 +1,4 @@
-// The greatest place of a run.
+// The greatest code address of a run.
 ghost use Rattle.std.specs.Prelude.{◌≡◌, [], ◌∷◌};
 ghost use Rattle.std.specs.Option.{option_to_list};
 ghost use Rattle.rpp_probes.specs.Rules.{deepest_place, deepened};
@@ -6,13 +6,13 @@ ghost use Rattle.rpp_probes.specs.Rules.{deepest_place, deepened};
 use crate::{Probe, StepAt};
 use rpp_words::NoMemory;
 
-/// Keeps the greatest place of the steps.
+/// Keeps the greatest code address of the steps.
 #[derive(Drop)]
 pub struct DeepestPlace {
     deepest: Option<u32>,
 }
 
-// The greatest place with one more.
+// The greatest code address with one more.
 fn deeper(deepest: Option<u32>, place: u32) -> u32
     ensures { result ∷ [] ≡ deepened place (option_to_list deepest) }
 {

@@ -1,7 +1,7 @@
-//! Probes that watch a run: each keeps a tally of the counted steps that it is told, and may end at
-//! one of them. A list of probes is told step by step; a probe that ends is dropped, and its line
-//! is kept. The layers above rest on the clauses of
-//! `Probe` and `Probes` alone, so a caller may hand in probes of its own.
+//! Probes that watch a run. Each keeps a state of the counted steps that it observes, and may end
+//! at one of them. A list of probes observes step by step; a probe that ends is dropped, and its
+//! line is kept. The layers above use only the clauses of `Probe` and `Probes`, so a caller may
+//! pass probes of its own.
 #![tactic(auto)]
 
 mod coverage;

@@ -7,7 +7,7 @@ use rpp_words::NoMemory;
 /// A counted step of a run, as it stands before it is made.
 #[derive(Clone, Copy, Debug, PartialEq, Eq)]
 pub struct StepAt {
-    /// The place of its cell.
+    /// The code address of its cell.
     pub place: u32,
     /// Whether the direction is -1.
     pub back: bool,
@@ -15,18 +15,18 @@ pub struct StepAt {
 
 /// Watches a run, step by step.
 pub trait Probe: Drop {
-    /// Its tally, which is a list of numbers, and what no call changes of it: the rule from a tally
-    /// and a step to the next tally, the end test of a tally, and the line of a tally. What the
-    /// rule needs of the probe stands in the tally.
+    /// Its state, which is a list of numbers, and what no call changes. That is the rule from a
+    /// state and a step to the next state, the end test of a state, and the line of a state. What
+    /// the rule needs of the probe is in the state.
     ghost watch: { Self → Watch };
 
-    /// Applies the rule for one step at a place, backward or not, and answers whether the probe
-    /// goes on: false exactly where the end test holds of the new tally.
+    /// Applies the rule for one step at a code address, backward or not, and returns whether the
+    /// probe goes on: false exactly if the end test holds for the new tally.
     fn told(&mut self, pc: u32, back: bool) -> bool
         ensures told { watch self.new ≡ told (record { place = pc; back = back }) (watch self.old) }
         ensures goes_on { result ≡ not (has_ended (watch self.new)) };
 
-    /// Appends the line of the tally, with no line feed. After want of memory the text is as before.
+    /// Appends the line of the tally, with no line feed. If memory runs out, the text is as before.
     fn line(&self, out: &mut String) -> Result<(), NoMemory>
         ensures ok { OnOk result (string_bytes out.new
             ≡ string_bytes out.old ++ line_of (watch self.now)) }

@@ -5,7 +5,7 @@ ghost use Rattle.rpp_probes.specs.Rules.{step_tally};
 use crate::{Probe, StepAt};
 use rpp_words::NoMemory;
 
-/// Counts forward and backward steps. A count that stands at its last value stays there.
+/// Counts forward and backward steps. A count that is its last value stays there.
 #[derive(Drop)]
 pub struct StepTally {
     forward: u64,

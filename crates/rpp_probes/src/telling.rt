@@ -1,4 +1,4 @@
-// Telling a list of probes.
+// The steps that a list of probes observes.
 ghost use Rattle.std.specs.Prelude.{◌≡◌, ◌+◌, ◌<◌, ◌++◌, List, not, false, length, map, vec_len, IfOk, IfErr, OnOk, OnErr, string_bytes};
 ghost use Rattle.rpp_probes.specs.Tally.{Watch, told, told_all, has_ended, ends_in, EndNone, left_after, IsSureFor, AreSureFor, line_of as line_shown, going, lines_at, IsCutShort, TellsAt, DropsAt, lines_shown};
 
@@ -6,7 +6,7 @@ use crate::{Probe, StepAt};
 use rpp_words::NoMemory;
 use std::alloc::Global;
 
-// Tells a probe, and answers whether it goes on.
+// Lets a probe observe a step, and returns whether it goes on.
 #[inline(always)]
 fn tell(probe: &mut Box<dyn Probe>, step: StepAt) -> bool
     ensures told { watch probe.new ≡ told step (watch probe.old) }
@@ -35,7 +35,7 @@ fn line_of(alloc: Global, probe: &Box<dyn Probe>) -> Result<String, NoMemory>
     }
 }
 
-// Tells the probe at a place of the list, and answers whether it goes on.
+// Lets the probe at an index of the list observe a step, and returns whether it goes on.
 #[inline(always)]
 fn tell_at(probes: &mut Vec<Box<dyn Probe>>, at: usize, step: StepAt) -> bool
     requires { at < vec_len probes.old }
@@ -68,8 +68,8 @@ fn drop_at(
     Ok(())
 }
 
-// Tells each probe of a list a step, in the order of the list. It stands in the caller's loop,
-// since it is told each step.
+// Lets each probe of a list observe a step, in the order of the list. It is in the caller's loop,
+// since it observes each step.
 #[inline(always)]
 fn tell_all(
     alloc: Global,
@@ -116,7 +116,7 @@ fn sure_of_all(probes: &[Box<dyn Probe>]) -> u64
     sure
 }
 
-// Tells a probe steps that do not end it.
+// Lets a probe observe steps that do not end it.
 fn tell_each(probe: &mut Box<dyn Probe>, steps: &[StepAt])
     requires { ends_in steps.now (watch probe.old) ≡ false }
     ensures { watch probe.new ≡ told_all steps.now (watch probe.old) }
@@ -124,7 +124,7 @@ fn tell_each(probe: &mut Box<dyn Probe>, steps: &[StepAt])
     probe.told_each(steps);
 }
 
-// Tells each probe of a list steps that end none of them.
+// Lets each probe of a list observe steps that end none of them.
 fn tell_each_of(probes: &mut [Box<dyn Probe>], steps: &[StepAt])
     requires { EndNone steps.now (map watch probes.old) }
     ensures { map watch probes.new ≡ left_after steps.now (map watch probes.old) }
@@ -147,15 +147,15 @@ fn lines_of(alloc: Global, probes: &[Box<dyn Probe>]) -> Result<String, NoMemory
     Ok(lines)
 }
 
-/// Probes that watch a run together, in an order. A layer that tells them takes any such list, and
-/// never sees what it holds.
+/// Probes that watch a run together, in an order. A layer that passes steps to probes takes any
+/// such list, and never sees what it holds.
 pub trait Probes {
     /// The probes, in their order.
     ghost watches: { Self → List Watch };
 
-    /// Tells each probe a step. The line of each that ends with it is added to `lines`, and the
-    /// probe is dropped; the others keep their order. Where no memory is found for a line, its
-    /// probe stays, and those behind it are not told.
+    /// Lets each probe observe a step. The line of each that ends with it is added to `lines`, and
+    /// the probe is dropped; the others keep their order. If memory runs out for a line, its probe
+    /// stays, and those after it do not observe the step.
     fn tell(&mut self, alloc: Global, lines: &mut Vec<String>, step: StepAt) -> Result<(), NoMemory>
         ensures told { OnOk result (watches self.new ≡ going step (watches self.old)) }
         ensures lines { OnOk result (map string_bytes lines.new.items ≡
@@ -167,12 +167,12 @@ pub trait Probes {
     fn sure_steps(&self) -> u64
         ensures { AreSureFor result (watches self.now) };
 
-    /// Tells each probe steps that end none of them. It takes no memory.
+    /// Lets each probe observe steps that end none of them. It allocates no memory.
     fn tell_each(&mut self, steps: &[StepAt])
         requires { EndNone steps.now (watches self.old) }
         ensures { watches self.new ≡ left_after steps.now (watches self.old) };
 
-    /// Appends the lines of the probes, each with a line feed. After want of memory the text is as
+    /// Appends the lines of the probes, each with a line feed. If memory runs out, the text is as
     /// before.
     fn show(&self, out: &mut String) -> Result<(), NoMemory>
         ensures ok { OnOk result (string_bytes out.new

@@ -28,7 +28,7 @@ fn places_past_the_table_are_not_counted(rt: HostRuntime) -> Result<(), Fail> {
     Ok(())
 }
 
-// Tells probes steps in one call, where they are sure of so many.
+// Lets probes observe steps in one call, if they are sure of so many.
 fn tell_together<P: Probes>(probes: &mut P, steps: &[StepAt]) -> bool {
     if steps.len() as u64 > probes.sure_steps() {
         return false;
@@ -37,7 +37,7 @@ fn tell_together<P: Probes>(probes: &mut P, steps: &[StepAt]) -> bool {
     true
 }
 
-// The coverage ends with the fourth step, and is sure of those before and behind it.
+// The coverage ends with the fourth step, and is sure of those before and after it.
 #[test]
 fn steps_are_told_together(rt: HostRuntime) -> Result<(), Fail> {
     let alloc = rt.alloc();
@@ -65,8 +65,8 @@ fn steps_are_told_together(rt: HostRuntime) -> Result<(), Fail> {
     Ok(())
 }
 
-// A coverage that is past its limit is sure of any steps, and one told together counts as one told
-// step by step.
+// A coverage that is past its limit is sure of any steps. One that observes steps together counts
+// as one that observes them one by one.
 #[test]
 fn coverage_is_told_together(rt: HostRuntime) -> Result<(), Fail> {
     let alloc = rt.alloc();
@@ -92,8 +92,8 @@ fn coverage_is_told_together(rt: HostRuntime) -> Result<(), Fail> {
     Ok(())
 }
 
-// A probe of a caller's own, which says nothing of how long it goes on: it keeps the place of the
-// last step.
+// A probe of a caller's own, which says nothing of how long it goes on: it keeps the code address
+// of the last step.
 #[derive(Drop)]
 struct LastPlace {
     place: u32,

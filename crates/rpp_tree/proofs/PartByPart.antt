@@ -7,7 +7,7 @@ use Rattle.rpp_tree.specs.declared.tree.Stmt.{Stmt}
 use Rattle.rpp_tree.specs.declared.tree.Block.{Block}
 use Rattle.rpp_tree.proofs.Blocks.{block_of-list}
 
--- the rests from i on are the same exactly where the wholes are
+-- the rests from i on are the same exactly if the wholes are
 abbrev pub RestDecides : (A D : Type 0) (view : List A → D) (a b : List A) (i : ℕ) → Type 0
 RestDecides A D view a b i = (view (drop i a) ≡ view (drop i b)) ↔ (view a ≡ view b)
 

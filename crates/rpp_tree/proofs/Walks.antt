@@ -1,4 +1,4 @@
--- Laws of walks, each told once for all of them.
+-- Laws of walks, each stated once for all of them.
 use Rattle.std.proofs.Common.{◌≡◌, ℕ, List, [], ◌∷◌, map, refl, sym, ◌∙◌, ap}
 use Rattle.rpp_tree.specs.declared.tree.Ident.{Ident}
 use Rattle.rpp_tree.specs.declared.tree.Var.{Var}
@@ -7,7 +7,7 @@ use Rattle.rpp_tree.specs.Tree.{joined}
 use Rattle.rpp_tree.specs.Tree.{Part, Walk, walk, walk_block, own_parts, each_after, each_part}
 use Rattle.rpp_tree.specs.Bare.{bare_name, bare_var, bare_expression, bare_part, bare_statement, bare}
 
--- what a walk says of one block and then another, where it joins what it says of statements
+-- what a walk says of one block and then another, if it joins what it says of statements
 pub walk_joined {ℓ} : {A : Type ℓ} (w : Walk A) (join : A → A → A)
     → ((first : Statement) (said rest : A) → w.next first said rest ≡ join said rest)
     → ((rest : A) → join w.none rest ≡ rest) → ((a b c : A) → join (join a b) c ≡ join a (join b c))
@@ -21,7 +21,7 @@ walk_joined w join next none turned (Then first body) rest =
 
 -- ---- two walks
 
--- what two walks say is related, where it is so of each form
+-- what two walks say is related, if it is so of each form
 pub record AreRelated {ℓ κ μ} {A : Type ℓ} {B : Type κ} (R : A → B → Type μ) (v : Walk A) (w : Walk B)
     : Type (ℓ ⊔ κ ⊔ μ) where
   pub plain : (at : ℕ) (parts : List Part) → R (v.plain at parts) (w.plain at parts)
@@ -51,7 +51,7 @@ mutual
   block_related h End = h.none
   block_related h (Then first rest) = h.next first _ _ _ _ (walk_related h first) (block_related h rest)
 
--- and what is said of parts, where it is so of each part and of what is joined
+-- and what is said of parts, if it is so of each part and of what is joined
 after_related {ℓ κ μ} : {A : Type ℓ} {B : Type κ} (R : A → B → Type μ) (one : A → A → A) (two : B → B → B)
     (f : Part → A) (g : Part → B) → ((a b : A) (c d : B) → R a c → R b d → R (one a b) (two c d))
     → ((p : Part) → R (f p) (g p)) → (a : A) (c : B) → R a c → (parts : List Part)
@@ -68,9 +68,10 @@ parts_related R one two f g none nothing both each h [] = h
 parts_related R one two f g none nothing both each h (p ∷ parts) =
     after_related R one two f g both each (f p) (g p) (each p) parts
 
--- ---- trees that are equal but for places
+-- ---- syntax trees that are equal up to offsets
 
--- what a walk says of a tree without its places is related to what it says of the tree
+-- what a walk says of a syntax tree without its places is related to what it says of the syntax
+-- tree
 pub record IsBlind {ℓ μ} {A : Type ℓ} (R : A → A → Type μ) (w : Walk A) : Type (ℓ ⊔ μ) where
   pub plain : (at : ℕ) (parts : List Part) → R (w.plain 0 (map bare_part parts)) (w.plain at parts)
   pub forked : (at : ℕ) (before : Expression) (a b c d : A) (after : Expression) → R a c → R b d

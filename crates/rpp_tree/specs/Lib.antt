@@ -1,3 +1,4 @@
+pub use Rattle.rpp_words.specs as rpp_words
 pub mod Tree
 pub mod Views
 pub mod Bare

@@ -1,4 +1,4 @@
--- The limits that a program's tree shows.
+-- The limits that a program's syntax tree shows.
 use Rattle.std.specs.Prelude.{ℕ, ◌+◌, ◌<◌, ◌≤◌, max, length, All, sum_by, Option, Some, None}
 use Rattle.rpp_tree.specs.declared.limits.TheConstants.{MOST_BYTES, MOST_TOKENS, MOST_NODES}
 use Rattle.rpp_tree.specs.declared.limits.TheConstants.{MOST_NUMBER, MOST_INDEX_DEPTH, MOST_CLASSES}
@@ -12,7 +12,7 @@ use Rattle.rpp_tree.specs.Names.{IsName}
 use Rattle.rpp_tree.specs.Numbers.{source_numbers}
 use Rattle.rpp_tree.specs.Parts.{source_names, source_places, source_tokens}
 
--- how many elements stand one in the index of the next
+-- how many elements are nested one in the index of the next
 abbrev pub index_depth : Expression → ℕ
 index_depth (Number at word) = 0
 index_depth (Null at) = 0
@@ -101,7 +101,8 @@ pub record IsSmallMethod (method : Procedure) : Type 0 where
   pub nesting : depth method.body ≤ MOST_NESTING
   pub statements : AreSmall method.body
 
--- a program keeps the limits that its tree shows, but for those of fields and method slots
+-- a program keeps the limits that its syntax tree shows, except for those of fields and method
+-- slots
 pub record IsWithinLimits (source : Source) : Type 0 where
   pub classes_few : length source.classes ≤ MOST_CLASSES
   pub methods_small : All (λ class. All IsSmallMethod class.methods) source.classes

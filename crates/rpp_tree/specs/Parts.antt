@@ -1,4 +1,4 @@
--- The names, the places and the printed tokens of a tree, in the order of the text.
+-- The names, the places and the printed tokens of a syntax tree, in the order of the text.
 use Rattle.std.specs.Prelude.{ℕ, ◌+◌, List, [], ◌∷◌, ◌++◌, map, sum_by, Option, Some, None}
 use Rattle.std.specs.List.{flat_map}
 use Rattle.rpp_tree.specs.declared.tree.Ident.{Ident}
@@ -194,7 +194,7 @@ part_tokens (Creates made) = creation_tokens made
 part_tokens (Invokes receiver method args) = receiver_tokens receiver + 3
     + list_tokens (λ name. 1) args
 
--- a statement without blocks has one word or sign beside its parts
+-- a statement without blocks has one word or symbol in addition to its parts
 abbrev pub tokens : Walk ℕ
 tokens = record {
   plain = λ at parts. each_after ◌+◌ part_tokens 1 parts;

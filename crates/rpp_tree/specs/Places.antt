@@ -1,4 +1,4 @@
--- Places: what a statement changes or an expression reads, and where a statement stands.
+-- Places: what a statement changes or an expression reads, and the offset of a statement.
 use Rattle.std.specs.Prelude.{ℕ}
 use Rattle.rpp_tree.specs.declared.tree.Ident.{Ident}
 use Rattle.rpp_tree.specs.Tree.{Lvalue, Whole, Item, Statement, walk}

@@ -1,4 +1,4 @@
-// Equality but for places, of statements, blocks and programs.
+// Equality up to offsets, of statements, blocks and programs.
 ghost use Rattle.std.specs.Prelude.{◌≡◌, ◌↔◌, IsTrue, map, length};
 ghost use Rattle.rpp_tree.specs.Views.{creation_of, optional_lvalue_of, statement_of, block_of, procedure_of, class_text_of, source_of};
 ghost use Rattle.rpp_tree.specs.Bare.{bare_name, bare_var, bare_parent, bare_creation, bare_receiver, bare_statement, bare, bare_procedure, bare_class, bare_source};
@@ -6,7 +6,7 @@ ghost use Rattle.rpp_tree.specs.Bare.{bare_name, bare_var, bare_parent, bare_cre
 use crate::alike_values::{alike_exprs, alike_names, alike_places, alike_types, alike_vars};
 use crate::tree::{Block, Class, Ident, Made, Method, Place, Program, Stmt, Var};
 
-/// Whether two programs are equal but for the places of their parts.
+/// Whether two programs are equal up to the offsets of their parts.
 pub fn alike(a: &Program, b: &Program) -> bool
     ensures { IsTrue result ↔ (bare_source (source_of a.now) ≡ bare_source (source_of b.now)) }
 {

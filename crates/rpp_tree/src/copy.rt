@@ -1,4 +1,4 @@
-// Copies of trees.
+// Copies of syntax trees.
 ghost use Rattle.std.specs.Prelude.{◌≡◌, IfOk};
 ghost use Rattle.rpp_tree.specs.Views.{expression_of, lvalue_of, creation_of, statement_of, block_of, optional_lvalue_of};
 

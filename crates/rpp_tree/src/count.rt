@@ -1,4 +1,4 @@
-// Counts over trees.
+// Counts over syntax trees.
 ghost use Rattle.std.specs.Prelude.{◌≡◌, ◌+◌, ◌<◌, ◌^◌};
 ghost use Rattle.rpp_tree.specs.Tree.{nodes as node_count, index_nodes, creation_nodes, receiver_nodes, statement_nodes, depth as nesting, statement_depth};
 ghost use Rattle.rpp_tree.specs.Views.{expression_of, lvalue_of, creation_of, optional_lvalue_of, statement_of, block_of};
@@ -52,9 +52,9 @@ fn receiver_count(receiver: &Option<Place>) -> u64
     }
 }
 
-/// How many expression nodes stand in a statement itself, and not in its inner statements: one for each
-/// literal, variable, element and operator, with those of indexes; an element receiver counts its
-/// index once.
+/// How many expression nodes are in a statement itself, and not in its inner statements: one for
+/// each literal, variable, element and operator, with those of indexes. An element receiver counts
+/// its index once.
 pub fn nodes(s: &Stmt) -> u64
     requires { statement_nodes (statement_of s.now) < 2 ^ 64 }
     ensures { result ≡ statement_nodes (statement_of s.now) }
@@ -79,7 +79,7 @@ pub fn nodes(s: &Stmt) -> u64
     }
 }
 
-/// The deepest nesting of statements: 0 for an empty block, and 1 where no statement holds another.
+/// The deepest nesting of statements: 0 for an empty block, and 1 if no statement holds another.
 #[cycle(nesting)]
 pub fn depth(b: &Block) -> u64
     requires { nesting (block_of b.now) < 2 ^ 64 }

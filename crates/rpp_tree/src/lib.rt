@@ -1,6 +1,6 @@
-//! The syntax tree of a program, with the names of the language and the limits of its sources.
-//! The layers above build trees, copy and compare them, and state their rules over the plain trees
-//! of `specs/`.
+//! The syntax tree of a program, with the language's names and the limits of sources. The layers
+//! above build syntax trees, copy and compare them, and state their rules over the ordinary syntax
+//! trees of `specs/`.
 #![tactic(auto)]
 
 mod alike_code;

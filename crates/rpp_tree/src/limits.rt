@@ -9,8 +9,8 @@ pub const MOST_TOKENS: u32 = 20_000;
 /// The most expression nodes of one statement.
 pub const MOST_NODES: u32 = 64;
 
-/// The most elements that stand one in the index of the next: each has a node, so this is no limit
-/// beside `MOST_NODES`.
+/// The most elements that are nested one in the index of the next: each has a node, so this is no
+/// further limit than `MOST_NODES`.
 pub const MOST_INDEX_DEPTH: u32 = 65;
 
 /// The greatest number that a source may hold.

@@ -1,4 +1,4 @@
-// Where a statement stands.
+// The offset of a statement.
 ghost use Rattle.std.specs.Prelude.{◌≡◌};
 ghost use Rattle.rpp_tree.specs.Places.{statement_place};
 ghost use Rattle.rpp_tree.specs.Views.{statement_of};

@@ -77,7 +77,7 @@ pub enum VarType {
 pub struct Place {
     /// The variable.
     pub name: Ident,
-    /// The index, where it is an element.
+    /// The index, if it is an element.
     pub index: Option<Box<Expr>>,
 }
 
@@ -240,7 +240,7 @@ pub enum Stmt {
         source: Place,
         target: Place,
     },
-    /// `call method(args)`, or `uncall` where `back` holds, on a receiver if there is one.
+    /// `call method(args)`, or `uncall` if `back` holds, on a receiver if there is one.
     Call {
         at: u32,
         back: bool,

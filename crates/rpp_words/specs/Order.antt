@@ -1,4 +1,4 @@
--- The order of a block that has room for so many words.
+-- The order of a block that has space for so many words.
 use Rattle.std.specs.Prelude.{ℕ, ◌^◌, ◌≤◌}
 
 -- the least k from 1 on such that 2 ^ k is at least the number of words

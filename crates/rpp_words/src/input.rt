@@ -1,4 +1,4 @@
-// What a run is given beside its image.
+// What a run has in addition to its image.
 
 /// The highest order of a heap.
 pub const MOST_HEAP: u64 = 20;
@@ -6,8 +6,8 @@ pub const MOST_HEAP: u64 = 20;
 pub const MOST_DEEP: u32 = 8192;
 /// The data cells before the static ones.
 pub const FIXED_CELLS: u32 = 40;
-/// The words in front of an object's fields, or of an array's elements: its class's table's address
-/// or its length, and its count.
+/// The words before an object's fields, or of an array's elements: its class's table's address or
+/// its length, and its count.
 pub const HEADER_WORDS: u32 = 2;
 /// The words of one frame of the stack.
 pub const FRAME_WORDS: u32 = 512;

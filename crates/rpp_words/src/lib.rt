@@ -1,5 +1,5 @@
-//! Words of 32 bits, and the small types that many layers share: the limits of a run, its input,
-//! and want of memory. Every operation on words stands here; no layer above adds one.
+//! Words of 32 bits, and the small types that many layers share. These are the limits of a run, its
+//! input, and `NoMemory`. Every operation on words is here; no layer above adds one.
 #![tactic(auto)]
 
 mod input;

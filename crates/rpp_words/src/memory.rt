@@ -1,7 +1,7 @@
-// Want of memory.
+// Out of memory.
 use std::alloc::{AllocError, AllocFailed};
 
-/// Want of memory: the one answer that may come from every call that takes memory.
+/// Out of memory: the one error that every call that allocates memory may return.
 #[derive(Clone, Copy, Debug, PartialEq, Eq)]
 pub struct NoMemory;
 

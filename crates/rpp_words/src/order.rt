@@ -2,7 +2,7 @@
 ghost use Rattle.std.specs.Prelude.{◌≤◌, ◌^◌};
 ghost use Rattle.rpp_words.specs.Order.{IsOrderFor};
 
-/// The order of the blocks that have room for so many words: the least `k` from 1 on with `2 ^ k`
+/// The order of the blocks that have space for so many words: the least `k` from 1 on with `2 ^ k`
 /// at least `words`.
 pub fn order_for(words: u64) -> u32
     requires { words ≤ 2 ^ 32 }

@@ -1,13 +1,13 @@
 -- The statements of a block by their places.
-use Rattle.std.proofs.Common.{◌≡◌, ℕ, zero, suc, ◌+◌, ◌<◌, ◌≤◌, ◌^◌, refl, sym, ap, ◌∙◌, arith, List, [], ◌∷◌, ◌⊎◌}
-use Rattle.std.proofs.Common.{inl, inr, length, map, get_or, Bool, true, false}
+use Rattle.std.proofs.Common.{◌≡◌, ℕ, zero, suc, ◌+◌, ◌<◌, ◌≤◌, ◌^◌, refl, sym, ap, ◌∙◌, arith, List, [], ◌∷◌}
+use Rattle.std.proofs.Common.{length, map, get_or, Bool, true, false}
 use Rattle.rpp_tree.specs.declared.tree.Stmt.{Stmt}
 use Rattle.rpp_tree.specs.declared.tree.Block.{Block}
 use Rattle.rpp_tree.specs.Tree.{Whole, Object as AnObject, Statement, Statements, New, Delete, End, Then, joined}
 use Rattle.rpp_tree.specs.Views.{statement_of, statements_of, block_of}
 use Rattle.rpp_tree.proofs.Blocks.{block_of-list}
-use Rattle.stmt_inverter.specs.Inverse.{inverse_statement, inverse}
-use Rattle.roopl_semantics.specs.Execution.{in_direction}
+use Rattle.source_steps.specs.stmt_inverter.Inverse.{inverse_statement, inverse}
+use Rattle.source_steps.specs.roopl_semantics.Execution.{in_direction}
 use Rattle.source_steps.specs.Ends.{turned}
 use Rattle.source_blocks.specs.declared.task.Task.{Task}
 use Rattle.source_blocks.specs.declared.task.Task.TheVariants as task
@@ -49,15 +49,6 @@ count_inverse (Then s rest) =
     count_joined (inverse rest) (Then (inverse_statement s) End) in
     let f = count_inverse rest in
     omega arith
-
-before_or_at : (a b : ℕ) → a < suc b → (a < b) ⊎ (a ≡ b)
-before_or_at zero zero h = inr refl
-before_or_at zero (suc b) h = inl (omega arith)
-before_or_at (suc a) zero h = absurd (omega arith)
-before_or_at (suc a) (suc b) h = elim (before_or_at a b (omega arith)) [
-  | inl l ↦ inl (omega arith)
-  | inr e ↦ inr (ap suc e)
-]
 
 pub at_inverse : (body : Statements) (at back : ℕ) → at + suc back ≡ count_of body
     → statement_at at (inverse body) ≡ inverse_statement (statement_at back body)

@@ -1,3 +1,9 @@
+pub use Rattle.rpp_tree.proofs as rpp_tree_laws
+pub use Rattle.source_steps.proofs.class_table_laws
+pub use Rattle.source_steps.proofs.roopl_semantics_laws
+pub use Rattle.source_steps.proofs.meaning_points_laws
+pub use Rattle.source_steps.proofs.meaning_machine_laws
+pub use Rattle.source_steps.proofs as source_steps_laws
 pub mod Blocks
 pub mod TurnedKinds
 pub mod Around

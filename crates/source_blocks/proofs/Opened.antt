@@ -1,10 +1,10 @@
 -- Blocks that are opened and closed, as the machine sees them.
 use Rattle.std.proofs.Common.{◌≡◌, ◌<◌, ℕ, suc, ◌+◌, refl, sym, ap, subst, ◌∙◌, arith, List, [], ◌∷◌, ◌++◌, map}
-use Rattle.std.proofs.Common.{reverse, length, All, Option, Some, option_to_list}
+use Rattle.std.proofs.Common.{reverse, length, All, Some}
 use Rattle.std.proofs.lemmas.List.{reverse-append, length-map, length-reverse}
 use Rattle.std.proofs.lemmas.List.Elements.{All-push, All-pop}
 use Rattle.rpp_tree.specs.Tree.{End}
-use Rattle.meaning_machine.specs.Machine.{Config, Open, Part as Runs, past_it, inside}
+use Rattle.source_steps.specs.meaning_machine.Machine.{Config, Open, Part as Runs, past_it, inside}
 use Rattle.source_blocks.specs.declared.task.Task.{Task}
 use Rattle.source_blocks.specs.declared.frames.Part.{Part}
 use Rattle.source_blocks.specs.declared.frames.Frame.{Frame}
@@ -66,10 +66,6 @@ module _ (run new : Run) (frame : Frame) where
     within = omega arith;
   })
 
-  popped : (r : Option Frame) → r ≡ Some frame → run.frames.items ≡ new.frames.items ++ option_to_list r
-      → run.frames.items ≡ new.frames.items ++ frame ∷ []
-  popped r is f = f ∙ ap (λ o. new.frames.items ++ option_to_list o) is
-
   pub frame_open : run.frames.items ≡ new.frames.items ++ frame ∷ [] → IsSound run → IsOpen frame
   frame_open f s = (All-pop IsOpen run.frames.items new.frames.items (Some frame) f s.opens).1
 
@@ -115,14 +111,6 @@ module _ (run new : Run) (frame next : Frame) (front : List Frame) (f : run.fram
         within = omega arith;
       })
 
-  pub turned_count : length new.frames.items ≡ length run.frames.items
-  turned_count = ap (λ (fs : List Frame). length fs) g ∙ pushed front next ∙ sym (pushed front frame)
-      ∙ sym (ap (λ (fs : List Frame). length fs) f)
-    where
-      pushed : (fs : List Frame) (o : Frame) → length (fs ++ o ∷ []) ≡ suc (length fs)
-      pushed [] o = refl
-      pushed (x ∷ fs) o = ap suc (pushed fs o)
-
 -- the part of the innermost open statement
 abbrev pub in_front : (run : Run) (front : List Frame) (frame : Frame) → run.frames.items ≡ front ++ frame ∷ []
     → HasPart (config_of run).around (part_of frame.part)
@@ -133,7 +121,7 @@ in_front run front frame f = record {
   same = refl;
 }
 
--- where a part runs, a statement is open
+-- if a part runs, a statement is open
 pub some_open : (run : Run) (part : Runs) → HasPart (config_of run).around part → 0 < length run.frames.items
 some_open run part h =
     let one : length (map open_of (reverse run.frames.items)) ≡ suc (length h.others) =

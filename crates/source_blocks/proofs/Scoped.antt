@@ -2,13 +2,13 @@
 use Rattle.std.proofs.Common.{◌≡◌, ◌<◌, ℕ, suc, sym, ap, ap₂, subst, ◌∙◌, List, ◌∷◌, ◌++◌, map, length, Bor}
 use Rattle.std.proofs.Common.{arith, [], slice_index_or, remove}
 use Rattle.std.specs.Prelude.{Result, Ok, Err, OnOk, MatchResult}
-use Rattle.roopl_semantics.specs.Store.{State}
-use Rattle.roopl_semantics.specs.Execution.{opened, closed}
+use Rattle.source_steps.specs.roopl_semantics.Store.{State}
+use Rattle.source_steps.specs.roopl_semantics.Execution.{opened, closed}
 use Rattle.rpp_tree.specs.Tree.{Statements}
-use Rattle.meaning_machine.specs.Machine.{Config, Part, inside}
-use Rattle.source_store.specs.declared.value.Value.{Value as Held}
-use Rattle.source_store.specs.HeapView.{Kept}
-use Rattle.source_store.specs.ValueView.{value_of, values_of}
+use Rattle.source_steps.specs.meaning_machine.Machine.{Config, Part, inside}
+use Rattle.source_steps.specs.source_store.declared.value.Value.{Value as Held}
+use Rattle.source_steps.specs.source_store.HeapView.{Kept}
+use Rattle.source_steps.specs.source_store.ValueView.{value_of, values_of}
 use Rattle.source_steps.specs.declared.scope.Scope.{Scope as Chain}
 use Rattle.source_steps.specs.declared.stop.Stop.{Stop}
 use Rattle.source_steps.specs.declared.stop.Stop.TheVariants as stop
@@ -47,7 +47,7 @@ module _ (run : Run) (scope : Chain) (names : names_of scope ≡ names_in run) w
       → state_of run.setting scope run.heap values ≡ state_in run
   slice_is values own = ap (λ (vs : List Held). state_of run.setting scope run.heap vs) own ∙ state_is
 
-  -- a run whose heap and values alone have changed
+  -- a run of which only the heap and the values have changed
   module _ (new : Run) (same : new ≡ record run { heap = new.heap; values = new.values }) where
     new_state : state_of run.setting scope new.heap new.values.items ≡ state_in new
     new_state = ap (λ ns. state_by run ns new.heap new.values.items) names ∙ sym (ap state_in same)

@@ -1,4 +1,4 @@
--- The kinds of statements, as they stand and undone.
+-- The kinds of statements, as they are and inverted.
 use Rattle.std.proofs.Common.{◌≡◌, refl, Bool, true, false}
 use Rattle.rpp_tree.specs.Tree.{Statement, Update, Swap, If, From, Construct, Local, New, Delete, Copy, Uncopy, Call}
 use Rattle.rpp_tree.specs.Tree.{Skip}

@@ -2,13 +2,13 @@
 use Rattle.std.specs.Prelude.{ℕ, zero, suc}
 use Rattle.rpp_tree.specs.Tree.{Statement, Statements, Skip, End, Then}
 
--- the statement behind so many of a block
+-- the statement after so many of a block
 abbrev pub statement_at : ℕ → Statements → Statement
 statement_at at End = Skip 0
 statement_at zero (Then s rest) = s
 statement_at (suc at) (Then s rest) = statement_at at rest
 
--- the statements behind so many
+-- the statements after so many
 abbrev pub rest_at : ℕ → Statements → Statements
 rest_at zero body = body
 rest_at (suc at) End = End

@@ -1,3 +1,12 @@
+pub use Rattle.source_steps.specs.rpp_words
+pub use Rattle.rpp_tree.specs as rpp_tree
+pub use Rattle.source_steps.specs.class_table
+pub use Rattle.source_steps.specs.stmt_inverter
+pub use Rattle.source_steps.specs.roopl_semantics
+pub use Rattle.source_steps.specs.meaning_points
+pub use Rattle.source_steps.specs.meaning_machine
+pub use Rattle.source_steps.specs.source_store
+pub use Rattle.source_steps.specs as source_steps
 pub mod Blocks
 pub mod Tasks
 pub mod Opens

@@ -3,12 +3,12 @@ use Rattle.std.specs.Prelude.{◌≡◌, ◌<◌, ℕ, suc, List, [], ◌∷◌,
 use Rattle.std.specs.Prelude.{None}
 use Rattle.rpp_tree.specs.Tree.{Expression, Null}
 use Rattle.rpp_tree.specs.Views.{expression_of, block_of}
-use Rattle.roopl_semantics.specs.Store.{Value}
-use Rattle.roopl_semantics.specs.Value.{Cell}
-use Rattle.roopl_semantics.specs.Execution.{in_direction}
-use Rattle.meaning_machine.specs.Machine.{Part, Chosen, First, Again, Holding, Calling, Open}
-use Rattle.meaning_machine.specs.Machine.{Caller as From}
-use Rattle.source_store.specs.ValueView.{value_of, values_of}
+use Rattle.source_steps.specs.roopl_semantics.Store.{Value}
+use Rattle.source_steps.specs.roopl_semantics.Value.{Cell}
+use Rattle.source_steps.specs.roopl_semantics.Execution.{in_direction}
+use Rattle.source_steps.specs.meaning_machine.Machine.{Part, Chosen, First, Again, Holding, Calling, Open}
+use Rattle.source_steps.specs.meaning_machine.Machine.{Caller as From}
+use Rattle.source_steps.specs.source_store.ValueView.{value_of, values_of}
 use Rattle.source_steps.specs.CellView.{cell_of}
 use Rattle.source_steps.specs.StateView.{bindings}
 use Rattle.source_blocks.specs.declared.frames.Closing.{Closing}

@@ -1,14 +1,14 @@
--- Where a run stands, as the machine sees it.
+-- The position of a run, as the machine sees it.
 use Rattle.std.specs.Prelude.{◌≡◌, ◌≤◌, ℕ, suc, List, [], ◌∷◌, ◌++◌, map, reverse, length, All}
 use Rattle.std.specs.Prelude.{Option}
 use Rattle.std.specs.Prelude.{Some, None}
 use Rattle.rpp_tree.specs.Tree.{Statement, Statements, Update, Swap, New, Delete, Copy, Uncopy}
 use Rattle.rpp_tree.specs.Tree.{Skip}
-use Rattle.roopl_semantics.specs.Store.{State}
-use Rattle.meaning_machine.specs.Machine.{Config, Open, Part, left, turned_to}
-use Rattle.source_store.specs.ValueView.{values_of}
+use Rattle.source_steps.specs.roopl_semantics.Store.{State}
+use Rattle.source_steps.specs.meaning_machine.Machine.{Config, Open, Part, left, turned_to}
+use Rattle.source_steps.specs.source_store.ValueView.{values_of}
 use Rattle.source_steps.specs.StateView.{bindings}
-use Rattle.roopl_semantics.specs.Value.{Cell}
+use Rattle.source_steps.specs.roopl_semantics.Value.{Cell}
 use Rattle.source_steps.specs.declared.cell.Cell.{Cell as Place}
 use Rattle.source_steps.specs.CellView.{cell_of}
 use Rattle.source_blocks.specs.declared.run.Run.{Run}
@@ -30,7 +30,7 @@ state_in run = record {
   log = run.heap.log;
 }
 
--- the statement that begins, and those behind it
+-- the statement that begins, and those after it
 abbrev pub here_in : Run → Statement
 here_in run = statement_at run.at (task_of run.task)
 
@@ -70,7 +70,7 @@ IsSimple (Uncopy at kind source target) = Unit {0}
 IsSimple (Skip at) = Unit {0}
 IsSimple _ = ⊥
 
--- behind the innermost open statement, if one is open
+-- after the innermost enclosing statement, if there is one
 abbrev pub leaving : Config → List Open → Config
 leaving x [] = x
 leaving x (o ∷ around) = left o around x.params x.state

@@ -4,7 +4,7 @@ use Rattle.rpp_tree.specs.Tree.{Lvalue, Whole, Object as AnObject, Statement, St
 use Rattle.rpp_tree.specs.Tree.{Delete}
 use Rattle.rpp_tree.specs.Tree.{Swap, Call, End, Then}
 use Rattle.rpp_tree.specs.Views.{lvalue_of, statement_of, block_of}
-use Rattle.roopl_semantics.specs.Execution.{in_direction, constructed, element_name}
+use Rattle.source_steps.specs.roopl_semantics.Execution.{in_direction, constructed, element_name}
 use Rattle.source_steps.specs.Ends.{turned}
 use Rattle.source_blocks.specs.declared.task.Calls.{Calls}
 use Rattle.source_blocks.specs.declared.task.Task.{Task}

@@ -1,6 +1,6 @@
 // What is open around the block that runs.
 ghost use Rattle.std.specs.Prelude.{◌≡◌, All, map};
-ghost use Rattle.meaning_machine.specs.Turned.{turned_open, turned_part};
+ghost use Rattle.source_steps.specs.meaning_machine.Turned.{turned_open, turned_part};
 ghost use Rattle.source_blocks.specs.Opens.{open_of, part_of, IsCaller, IsOpen};
 
 use crate::task::{Task, count_in, undone_task};
@@ -43,8 +43,8 @@ pub struct Receiver {
     pub value: Value,
 }
 
-/// The caller of an open call: its variables once the arguments have moved out, its object, how many
-/// calls were open, and the cells of the receiver and the arguments.
+/// The caller of an active call: its variables once the arguments have moved out, its object, how
+/// many calls were open, and the cells of the receiver and the arguments.
 #[derive(Drop)]
 pub struct Caller<'a> {
     pub params: &'a [Var],
@@ -59,13 +59,13 @@ pub struct Caller<'a> {
 /// Which part of an open statement runs.
 #[derive(Drop)]
 pub enum Part<'a> {
-    /// A side of a choice: the first where its test was true.
+    /// A side of a choice: the first if its test was true.
     Chosen {
         side: bool,
         test: &'a Expr,
         after: &'a Expr,
     },
-    /// The first part of a loop's turn.
+    /// The first part of a loop's iteration.
     First(Loop<'a>),
     /// The second.
     Again(Loop<'a>),
@@ -75,8 +75,8 @@ pub enum Part<'a> {
     Calling(Caller<'a>),
 }
 
-/// An open statement: the block that it stands in, how many statements of it are past, and the part
-/// of it that runs.
+/// An enclosing statement: the block that it is in, how many statements of it are past, and the
+/// part of it that runs.
 #[derive(Drop)]
 pub struct Frame<'a> {
     pub task: Task<'a>,

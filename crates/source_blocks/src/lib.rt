@@ -1,8 +1,8 @@
-//! What is open in a run of the source: the block that runs, the statements that are open around it
-//! and the variables and objects there, with what is done inside a block. A layer above may use that
-//! each move between blocks, each value and each statement that holds no block is what the machine
-//! of the meaning says where a `Run` stands, and that a `Run` turned round stands where the machine
-//! turned round does.
+//! The position of a run of the source, and its work inside a block. The position has the block
+//! that runs, the enclosing statements, and the variables and objects there. A layer above may use
+//! that the code does what the machine of the semantics does at the position of a `Run`: each move
+//! between blocks, each value and each statement that holds no block. A reversed `Run` is at the
+//! position of the reversed machine.
 #![tactic(auto)]
 
 mod frames;

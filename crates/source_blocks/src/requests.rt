@@ -1,8 +1,8 @@
-// Requests to the heap, taken back where the run is turned round.
+// Requests to the heap, undone if the run is reversed.
 ghost use Rattle.std.specs.Prelude.{◌≡◌, ◌≤◌, OnOk, true};
 ghost use Rattle.rpp_tree.specs.Tree.{Whole, Object as AnObject};
 ghost use Rattle.rpp_tree.specs.Views.{creation_of, lvalue_of, statement_of};
-ghost use Rattle.meaning_machine.specs.Reversed.{undeleted as undeleted_in, unmade as unmade_in};
+ghost use Rattle.source_steps.specs.meaning_machine.Reversed.{undeleted as undeleted_in, unmade as unmade_in};
 ghost use Rattle.source_steps.specs.Ends.{turned};
 ghost use Rattle.source_steps.specs.Metered.{Gives, metered};
 ghost use Rattle.source_steps.specs.StateView.{setting_of};
@@ -48,7 +48,7 @@ pub fn is_request(line: &Line) -> bool
     }
 }
 
-/// A `new` is taken back.
+/// A `new` is undone.
 fn unmake(run: &mut Run, fuel: &mut u64, place: &Place) -> Result<(), Stop>
     requires sound { IsSound run.old }
     ensures gives { Gives (λ u. state_in run.new) result fuel.new
@@ -69,7 +69,7 @@ fn unmake(run: &mut Run, fuel: &mut u64, place: &Place) -> Result<(), Stop>
     )
 }
 
-/// A `delete` is taken back.
+/// A `delete` is undone.
 fn undelete(run: &mut Run, fuel: &mut u64, made: &Made, place: &Place) -> Result<(), Stop>
     requires sound { IsSound run.old }
     ensures gives { Gives (λ u. state_in run.new) result fuel.new
@@ -91,7 +91,7 @@ fn undelete(run: &mut Run, fuel: &mut u64, made: &Made, place: &Place) -> Result
     )
 }
 
-/// The `delete` of the object of a `construct` is taken back.
+/// The `delete` of the object of a `construct` is undone.
 fn undelete_named(run: &mut Run, fuel: &mut u64, class: &Ident, name: &Ident) -> Result<(), Stop>
     requires sound { IsSound run.old }
     ensures gives { Gives (λ u. state_in run.new) result fuel.new
@@ -119,7 +119,7 @@ fn undelete_named(run: &mut Run, fuel: &mut u64, class: &Ident, name: &Ident) ->
     }
 }
 
-/// The `new` of the object of a `construct` is taken back.
+/// The `new` of the object of a `construct` is undone.
 fn unmake_named(run: &mut Run, fuel: &mut u64, name: &Ident) -> Result<(), Stop>
     requires sound { IsSound run.old }
     ensures gives { Gives (λ u. state_in run.new) result fuel.new
@@ -203,7 +203,7 @@ fn take_undone_back(run: &mut Run, fuel: &mut u64, stmt: &Stmt) -> Result<(), St
     }
 }
 
-/// A `new` or `delete` of a block that runs is taken back.
+/// A `new` or `delete` of a block that runs is undone.
 pub fn take_line_back(run: &mut Run, fuel: &mut u64, line: &Line) -> Result<(), Stop>
     requires sound { IsSound run.old }
     ensures gives { Gives (λ u. state_in run.new) result fuel.new

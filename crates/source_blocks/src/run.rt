@@ -1,7 +1,7 @@
-// Where a run stands, and its moves between blocks.
+// The position of a run, and its moves between blocks.
 ghost use Rattle.std.specs.Prelude.{◌≡◌, ◌+◌, ◌<◌, ◌≤◌, ◌^◌, ◌∷◌, ◌++◌, [], suc, map, length, OnOk, OnErr, IfErr, MatchResult};
-ghost use Rattle.meaning_machine.specs.Machine.{past_it, inside, turned_to};
-ghost use Rattle.meaning_machine.specs.Turned.{turn as turned_round};
+ghost use Rattle.source_steps.specs.meaning_machine.Machine.{past_it, inside, turned_to};
+ghost use Rattle.source_steps.specs.meaning_machine.Turned.{turn as turned_round};
 ghost use Rattle.source_steps.specs.StateView.{names_of};
 ghost use Rattle.source_blocks.specs.Blocks.{count_of};
 ghost use Rattle.source_blocks.specs.Tasks.{task_of};

@@ -1,8 +1,8 @@
 // The blocks that run, and their statements.
 ghost use Rattle.std.specs.Prelude.{◌≡◌, ◌<◌, ◌≤◌, ◌-◌, IfNone, IfSome, false};
 ghost use Rattle.rpp_tree.specs.Views.{block_of, statement_of};
-ghost use Rattle.stmt_inverter.specs.Inverse.{inverse};
-ghost use Rattle.roopl_semantics.specs.Execution.{in_direction};
+ghost use Rattle.source_steps.specs.stmt_inverter.Inverse.{inverse};
+ghost use Rattle.source_steps.specs.roopl_semantics.Execution.{in_direction};
 ghost use Rattle.source_steps.specs.Ends.{turned};
 ghost use Rattle.source_blocks.specs.Blocks.{statement_at, count_of};
 ghost use Rattle.source_blocks.specs.Tasks.{task_of, line_of};
@@ -62,7 +62,7 @@ pub enum Line<'a> {
     Call(Calls<'a>),
 }
 
-/// The statement behind so many of a block, in the direction that it runs.
+/// The statement after so many of a block, in the direction that it runs.
 #[tactic(auto, using(crate::proofs::Blocks::block_count, crate::proofs::Blocks::line_forward, crate::proofs::Blocks::line_backward))]
 fn statement_in<'a>(block: &'a Block, back: bool, at: usize) -> Option<&'a Stmt>
     ensures past { IfNone result (count_of (in_direction back (block_of block.now)) ≤ at) }
@@ -82,7 +82,7 @@ fn statement_in<'a>(block: &'a Block, back: bool, at: usize) -> Option<&'a Stmt>
     Some(first)
 }
 
-/// The statement of a `construct` behind so many.
+/// The statement of a `construct` after so many.
 #[tactic(auto, using(crate::proofs::Blocks::block_count, crate::proofs::Blocks::made_count, crate::proofs::Blocks::made_inside, crate::proofs::Blocks::made_last))]
 fn line_in_construct<'a>(made: &Construct<'a>, at: usize) -> Option<Line<'a>>
     ensures past { IfNone result (count_of (task_of (Task.Made made.now)) ≤ at) }
@@ -108,7 +108,7 @@ fn line_in_construct<'a>(made: &Construct<'a>, at: usize) -> Option<Line<'a>>
     }
 }
 
-/// The statement of a call on an element behind so many.
+/// The statement of a call on an element after so many.
 fn line_in_exchange<'a>(element: &'a Place, calls: &Calls<'a>, at: usize) -> Option<Line<'a>>
     ensures past { IfNone result (count_of (task_of (Task.Exchange element.entry calls.now)) ≤ at) }
     ensures within { IfSome result (λ line. at
@@ -130,7 +130,7 @@ fn line_in_exchange<'a>(element: &'a Place, calls: &Calls<'a>, at: usize) -> Opt
     }
 }
 
-/// The statement of a block that runs behind so many, if there is one.
+/// The statement of a block that runs after so many, if there is one.
 pub fn line_at<'a>(task: &Task<'a>, at: usize) -> Option<Line<'a>>
     ensures past { IfNone result (count_of (task_of task.now) ≤ at) }
     ensures within { IfSome result (λ line. at < count_of (task_of task.now)) }

@@ -1,8 +1,8 @@
-// The values that are read where a run stands.
+// The values that are read at the position of a run.
 ghost use Rattle.std.specs.Prelude.{◌<◌, ◌≤◌, IfOk};
 ghost use Rattle.rpp_tree.specs.Views.{expression_of};
-ghost use Rattle.roopl_semantics.specs.Value.{evaluated};
-ghost use Rattle.source_store.specs.ValueView.{value_of};
+ghost use Rattle.source_steps.specs.roopl_semantics.Value.{evaluated};
+ghost use Rattle.source_steps.specs.source_store.ValueView.{value_of};
 ghost use Rattle.source_steps.specs.Metered.{Gives, metered};
 ghost use Rattle.source_steps.specs.StateView.{setting_of};
 ghost use Rattle.source_blocks.specs.Opens.{closing_of};

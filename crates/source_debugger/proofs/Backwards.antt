@@ -4,9 +4,9 @@ use Rattle.std.proofs.Common.{false, List, [], ◌∷◌, Option, Some, None, if
 use Rattle.std.specs.Prelude.{ℤ, pos, nat_eq, nat_lt, nat_le, ◌&&◌, option_map}
 use Rattle.std.specs.Ordering.{int_eq}
 use Rattle.std.proofs.lemmas.Bool.{eqb-true, eqb-false, lt-ltb, le-ltb, ltb-true, ltb-false, le-leb, lt-leb}
-use Rattle.meaning_points.specs.Points.{Point}
-use Rattle.meaning_points.specs.Trail.{Trail}
-use Rattle.source_store.specs.HeapView.{Kept}
+use Rattle.source_meaning.specs.meaning_points.Points.{Point}
+use Rattle.source_meaning.specs.meaning_points.Trail.{Trail}
+use Rattle.source_meaning.specs.source_store.HeapView.{Kept}
 use Rattle.source_debugger.specs.declared.watching.Watching.TheVariants as watch
 use Rattle.source_debugger.specs.Watched.{Watched, Passed, Met, watched}
 use Rattle.source_debugger.specs.declared.moves.Walk.{Walk}
@@ -17,7 +17,7 @@ use Rattle.source_debugger.specs.Ended.{IsEnded, watching_of, latest_of, back_by
 use Rattle.source_debugger.specs.Walks.{ends, is_at, backward}
 use Rattle.source_debugger.proofs.Left.{IsLeft, all_left, next_left, is_there, is_nowhere}
 
--- ---- the last position at a place
+-- ---- the last position at an offset
 
 module _ (trail : Trail) (place : ℤ) (low : ℕ) where
   -- the last position below one and not below `low`
@@ -100,7 +100,7 @@ back_up trail place (suc n) (suc k) = by (is_at trail (Some place) k) (back_up t
         ∙ ap (λ t. by_latest (if t && false then Some k else latest_before trail place (suc k - suc n) k) (suc n)
         (suc k)) (sym (le-leb (suc k - suc n) k (omega arith)))
 
--- ---- a watch for the last point at a place
+-- ---- a watch for the last trace point at an offset
 
 abbrev counted_back : ℕ → Option ℕ → Option ℕ
 counted_back j latest = option_map (λ left. j - left) latest
@@ -195,8 +195,3 @@ backward_is e heap trail place n j low same is =
     back_up trail place n j ∙ ap (λ l. by_latest (latest_before trail place l j) n j) (sym same)
     ∙ ap (λ o. by_latest o n j) (sym (latest_is trail place low j e heap is))
     ∙ sym (back_to_is (latest_of (watching_of e)) n j)
-
--- no move leads behind the start
-pub back_within : (o : Option ℕ) (n j bound : ℕ) → j ≤ bound → (back_to o n j).position ≤ bound
-back_within None n j bound h = omega arith
-back_within (Some left) n j bound h = omega arith

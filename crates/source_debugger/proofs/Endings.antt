@@ -1,37 +1,37 @@
--- How a run under a watch ended, and where it stands.
+-- How a run under a watch ended, and its position.
 use Rattle.std.proofs.Common.{◌≡◌, ℕ, suc, ◌+◌, ◌-◌, ◌<◌, ◌≤◌, refl, sym, ap, subst, ◌∙◌, arith, Bool, true, false}
 use Rattle.std.proofs.Common.{List, [], ◌∷◌, ◌++◌, length, length-append, map, append-nil, Some, None, if◌then◌else◌}
 use Rattle.std.specs.Prelude.{slice_get, nat_eq, pos, ◌&&◌, ◌||◌, Result, Ok, Err, IfOk}
 use Rattle.std.specs.Ordering.{int_eq}
 use Rattle.std.proofs.lemmas.Bool.{eqb-true, eqb-false}
-use Rattle.rpp_words.specs.declared.input.FieldWord.{FieldWord}
-use Rattle.rpp_words.specs.declared.input.Limits.{Limits}
-use Rattle.rpp_words.specs.Limits.{IsLimits}
+use Rattle.source_meaning.specs.rpp_words.declared.input.FieldWord.{FieldWord}
+use Rattle.source_meaning.specs.rpp_words.declared.input.Limits.{Limits}
+use Rattle.source_meaning.specs.rpp_words.Limits.{IsLimits}
 use Rattle.rpp_tree.specs.Tree.{Source, Statements, End, Then}
 use Rattle.rpp_tree.specs.Places.{statement_place}
-use Rattle.class_table.specs.Program.{IsAccepted}
-use Rattle.roopl_semantics.specs.Run.{Run, Done, Fault, More}
-use Rattle.roopl_semantics.specs.Store.{State, Store, Binding, main_name}
-use Rattle.roopl_semantics.specs.Source.{source, IsValid}
-use Rattle.roopl_semantics.specs.Execution.{Setting}
-use Rattle.roopl_semantics.proofs.MoreFuel.{within_done, within_fault, IsDoneWithin, IsFaultWithin}
-use Rattle.meaning_points.specs.Points.{Point, behind as behind_run}
-use Rattle.meaning_points.specs.Trail.{Trail, trail}
-use Rattle.meaning_machine.specs.Machine.{Config, next, walk, seen, point_of as point_in}
-use Rattle.meaning_machine.specs.SourceLaws.{set_for, start_of}
-use Rattle.meaning_machine.specs.TrailLaws.{BeginsWith}
-use Rattle.meaning_machine.proofs.Steps.{plus, seen_plus}
-use Rattle.meaning_machine.proofs.Sources.{joined}
-use Rattle.meaning_machine.proofs.Trails.{walked}
-use Rattle.meaning_sound.specs.Sound.{name_of}
-use Rattle.meaning_sound.proofs.Stated.{end_is_sound}
-use Rattle.source_store.specs.HeapView.{Kept}
-use Rattle.source_steps.specs.Metered.{Went, Stopped, metered, Failed}
-use Rattle.source_steps.specs.declared.stop.Stop.{Stop}
-use Rattle.source_steps.specs.declared.stop.Stop.TheVariants as stop
-use Rattle.source_steps.proofs.Fuelled.{left_at_most}
-use Rattle.source_execution.specs.Variables.{binding_of}
-use Rattle.source_execution.specs.Standing.{IsOver as IsPast, config_at, setting_at, next_place}
+use Rattle.source_meaning.specs.class_table.Program.{IsAccepted}
+use Rattle.source_meaning.specs.roopl_semantics.Run.{Run, Done, Fault, More}
+use Rattle.source_meaning.specs.roopl_semantics.Store.{State, Store, Binding, main_name}
+use Rattle.source_meaning.specs.roopl_semantics.Source.{source, IsValid}
+use Rattle.source_meaning.specs.roopl_semantics.Execution.{Setting}
+use Rattle.source_meaning.proofs.roopl_semantics_laws.MoreFuel.{within_done, within_fault, IsDoneWithin, IsFaultWithin}
+use Rattle.source_meaning.specs.meaning_points.Points.{Point, behind as behind_run}
+use Rattle.source_meaning.specs.meaning_points.Trail.{Trail, trail}
+use Rattle.meaning_reversed.specs.meaning_machine.Machine.{Config, next, walk, seen, point_of as point_in}
+use Rattle.meaning_reversed.specs.meaning_machine.SourceLaws.{set_for, start_of}
+use Rattle.meaning_reversed.specs.meaning_machine.TrailLaws.{BeginsWith}
+use Rattle.meaning_reversed.proofs.meaning_machine_laws.Steps.{plus, seen_plus}
+use Rattle.meaning_reversed.proofs.meaning_machine_laws.Sources.{joined}
+use Rattle.meaning_reversed.proofs.meaning_machine_laws.Trails.{walked}
+use Rattle.source_meaning.specs.meaning_sound.Sound.{name_of}
+use Rattle.source_meaning.proofs.meaning_sound_laws.Stated.{end_is_sound}
+use Rattle.source_meaning.specs.source_store.HeapView.{Kept}
+use Rattle.source_meaning.specs.source_steps.Metered.{Went, Stopped, metered, Failed}
+use Rattle.source_meaning.specs.source_steps.declared.stop.Stop.{Stop}
+use Rattle.source_meaning.specs.source_steps.declared.stop.Stop.TheVariants as stop
+use Rattle.source_meaning.proofs.source_steps_laws.Fuelled.{left_at_most}
+use Rattle.source_meaning.specs.source_execution.Variables.{binding_of}
+use Rattle.source_meaning.specs.source_execution.Standing.{IsOver as IsPast, config_at, setting_at, next_place}
 use Rattle.source_meaning.proofs.Ending.{ends_done, ends_fault}
 use Rattle.source_debugger.specs.declared.watching.Watching.{Watching}
 use Rattle.source_debugger.specs.declared.watching.Watching.TheVariants as watch
@@ -50,7 +50,7 @@ use Rattle.source_debugger.specs.Walks.{AtPoint, AtEnd, Unknown, end_stand, poin
 use Rattle.source_debugger.proofs.Left.{FindsPosition, all_left, finds}
 use Rattle.source_debugger.proofs.Rewound.{one_more, one_fault, counts, none_behind}
 
--- ---- a watch along points
+-- ---- a watch along trace points
 
 watched_on : (w v : Watching) (xs ys : List Point) → watched w xs ≡ Passed v → watched w (xs ++ ys) ≡ watched v ys
 watched_on w v [] ys e = let same : w ≡ v = cc in ap (λ (k : Watching). watched k ys) same
@@ -62,7 +62,7 @@ watched_on w v (x ∷ xs) ys e = by (wants w x.place) e (watched_on (passed w x.
     by true e on = cc
     by false e on = on e
 
--- the statement that begins is not wanted
+-- the watch does not look for the statement that begins
 passes_by : (setting : Setting) (w : Watching) (params : ℕ) (st : State) (body : Statements)
     → wanted w (next_place body) ≡ false
     → watched w (point_in setting params st body) ≡ Passed (behind w (next_place body))
@@ -71,7 +71,7 @@ passes_by setting w params st (Then s rest) e =
     ap (λ (t : Bool). if t then Met w (record { place = statement_place s; params = params; state = st })
     else Passed (passed w (statement_place s))) e
 
--- it is wanted
+-- the watch looks for it
 meets : (setting : Setting) (w : Watching) (params place : ℕ) (st : State) (body : Statements) (more : List Point)
     → wanted w (next_place body) ≡ true → next_place body ≡ Some place
     → watched w (point_in setting params st body ++ more)
@@ -83,7 +83,7 @@ meets setting w params place st (Then s rest) more e f =
     else watched (passed w (statement_place s)) more) e
     ∙ ap (λ (at : ℕ). Met w (record { place = at; params = params; state = st })) same
 
--- ---- the points that a watch surely passes
+-- ---- the trace points that a watch surely passes
 
 no_zero : (n : ℕ) → 0 < n → nat_eq n 0 ≡ false
 no_zero n h = by (nat_eq n 0) refl
@@ -144,7 +144,7 @@ surely_passes w (x ∷ xs) h =
 
 -- ---- a run under a watch, step by step
 
--- it has come here, along points that the watch has passed
+-- it has come here, along trace points that the watch has passed
 pub record HasCome (program : Source) (limits : Limits) (input : List FieldWord) (most : ℕ) (c : Course)
     (from at : Watching) : Type 0 where
   pub way : IsUnderWay program limits input most c
@@ -200,7 +200,7 @@ module _ (program : Source) (limits : Limits) (input : List FieldWord) (n : ℕ)
       ∙ ap (λ (l : List Point). seen here steps first ++ l)
       (append-nil (point_in here x.params x.state x.rest))
 
-  -- the point where it stands is not wanted
+  -- the watch does not look for the trace point of the run
   module _ (not : wanted at (next_place x.rest) ≡ false) where
     passes : watched from (seen here (plus steps 1) first) ≡ Passed (behind at (next_place x.rest))
     passes = ap (watched from) one_seen
@@ -254,7 +254,7 @@ module _ (program : Source) (limits : Limits) (input : List FieldWord) (n : ℕ)
 
 -- ---- how it ended
 
--- what is kept of a point is that point
+-- what is kept of a trace point is that trace point
 pub stands : (x : Config) (a : Arrival) (heap : Kept) → a.params ≡ x.params
     → map binding_of a.variables.items ≡ x.state.frame → a.object ≡ x.state.self → a.depth ≡ x.state.depth
     → heap.store ≡ x.state.store → heap.log ≡ x.state.log
@@ -317,7 +317,7 @@ module _ (program : Source) (limits : Limits) (input : List FieldWord) (n : ℕ)
           done = end.0 ∙ ap (λ (st : State). Done st come.way.cost) (end_state accepted inside valid);
         }
 
-  -- at a point
+  -- at a trace point
   pub is_at : {E : Type 0} (r : Result Ended E) → wanted at (next_place (config_at c.execution).rest) ≡ true
       → IfOk r (λ e. HasStopped (config_at c.execution) (heap_of c) at c.fuel e)
       → IfOk r (λ e. IsEnded e (heap_of c) from (trail program limits input n))
@@ -356,7 +356,7 @@ module _ (program : Source) (limits : Limits) (input : List FieldWord) (n : ℕ)
   is_stopped (Ok e) heap stop.More left not failed is = absurd is
   is_stopped (Ok e) heap stop.NoMemory left not failed is = absurd is
 
--- what is kept of a place is the same where the store and the log are
+-- what is kept of an offset is the same if the store and the log are
 pub stand_as : (place : Place) (h k : Kept) → h.store ≡ k.store → h.log ≡ k.log → stand_of place h ≡ stand_of place k
 stand_as (place.Point arrival) h k s l =
     ap (λ (x : Store). AtPoint (point_of arrival (record h { store = x }))) s
@@ -365,12 +365,12 @@ stand_as place.End h k s l =
     ap (λ (x : Store). AtEnd (last_state (record h { store = x }))) s
     ∙ ap (λ y. AtEnd (last_state (record k { log = y }))) l
 
--- a run that is broken off holds
+-- a run that is aborted holds
 pub broken_holds : (program : Source) (limits : Limits) (input : List FieldWord) (c : Course) → c.broken ≡ true
     → Holds program limits input c
 broken_holds program limits input c broken whole = cc
 
--- ---- where a run stands
+-- ---- the position of a run
 
 pub placed_at : (trail : Trail) (j : ℕ) (arrival : Arrival) (heap : Kept) (last : Watching)
     → watched (watch.First None 0 j) trail.points ≡ Met last (point_of arrival heap)

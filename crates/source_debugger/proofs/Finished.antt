@@ -1,18 +1,18 @@
--- The end point is the end of the source.
+-- The end trace point is the end of the source.
 use Rattle.std.proofs.Common.{◌≡◌, ℕ, max, ap, ◌∙◌, arith, Bool, true, false, List, length, Option, Some, None}
 use Rattle.std.proofs.Common.{if◌then◌else◌}
 use Rattle.std.specs.Prelude.{slice_get, nat_eq}
 use Rattle.std.proofs.lemmas.Bool.{le-leb}
-use Rattle.rpp_words.specs.declared.input.FieldWord.{FieldWord}
-use Rattle.rpp_words.specs.declared.input.Limits.{Limits}
+use Rattle.source_meaning.specs.rpp_words.declared.input.FieldWord.{FieldWord}
+use Rattle.source_meaning.specs.rpp_words.declared.input.Limits.{Limits}
 use Rattle.rpp_tree.specs.Tree.{Source}
-use Rattle.roopl_semantics.specs.Run.{Run, Done, Fault, More}
-use Rattle.roopl_semantics.specs.Store.{State}
-use Rattle.roopl_semantics.specs.Execution.{Setting}
-use Rattle.roopl_semantics.specs.Source.{GivesDone, main_body, starting, within}
-use Rattle.meaning_points.specs.Points.{Point}
-use Rattle.meaning_points.specs.Trail.{trail}
-use Rattle.meaning_points.proofs.Growing.{points_done}
+use Rattle.source_meaning.specs.roopl_semantics.Run.{Run, Done, Fault, More}
+use Rattle.source_meaning.specs.roopl_semantics.Store.{State}
+use Rattle.source_meaning.specs.roopl_semantics.Execution.{Setting}
+use Rattle.source_meaning.specs.roopl_semantics.Source.{GivesDone, main_body, starting, within}
+use Rattle.source_meaning.specs.meaning_points.Points.{Point}
+use Rattle.source_meaning.specs.meaning_points.Trail.{trail}
+use Rattle.source_meaning.proofs.meaning_points_laws.Growing.{points_done}
 use Rattle.source_debugger.specs.Walks.{AtEnd, Unknown, end_stand, point_stand, stand_at}
 
 end_in : (s t : State) → AtEnd s ≡ AtEnd t → s ≡ t

@@ -3,14 +3,14 @@ use Rattle.std.proofs.Common.{◌≡◌, ℕ, suc, ◌+◌, ◌-◌, ◌<◌, �
 use Rattle.std.proofs.Common.{append_assoc, List, [], ◌∷◌, ◌++◌, length, get_or, take, Option, Some, None}
 use Rattle.std.specs.Prelude.{Result, Ok, Err, IfOk}
 use Rattle.std.proofs.lemmas.List.{take_more, take_all}
-use Rattle.rpp_words.specs.declared.input.FieldWord.{FieldWord}
-use Rattle.rpp_words.specs.declared.input.Limits.{Limits}
+use Rattle.source_meaning.specs.rpp_words.declared.input.FieldWord.{FieldWord}
+use Rattle.source_meaning.specs.rpp_words.declared.input.Limits.{Limits}
 use Rattle.rpp_tree.specs.declared.tree.Program.{Program}
 use Rattle.rpp_tree.specs.Tree.{Source}
 use Rattle.rpp_tree.specs.Views.{source_of}
-use Rattle.roopl_semantics.specs.Store.{Store, object_named}
-use Rattle.roopl_semantics.specs.Report.{Text}
-use Rattle.meaning_points.specs.Trail.{Trail, trail}
+use Rattle.source_meaning.specs.roopl_semantics.Store.{Store, object_named}
+use Rattle.source_meaning.specs.roopl_semantics.Report.{Text}
+use Rattle.source_meaning.specs.meaning_points.Trail.{Trail, trail}
 use Rattle.two_way_debugger.specs.declared.command.Command.{Command}
 use Rattle.source_debugger.specs.declared.running.TheConstants.{MOST_COST}
 use Rattle.source_debugger.specs.Named.{object_lines, objects_from}
@@ -40,7 +40,7 @@ standing_at program limits input position = record {
   position = position;
 }
 
--- the same by the parts of a standing
+-- the same by the parts of a debugger position
 pub leads_by : (program : Program) (limits : Limits) (input : List FieldWord) (from to : ℕ) (before : Standing)
     (command : Command) (text : Text)
     → standing_at program limits input from ≡ before → told_by (source_of program)
@@ -83,17 +83,6 @@ behind_both : (a b : Text) (o : Option Told) → behind_text a (behind_text b o)
 behind_both a b None = refl
 behind_both a b (Some t) = ap (told_at t.position) (sym (append_assoc a b t.text))
 
-behind_nothing : (o : Option Told) → o ≡ behind_text [] o
-behind_nothing None = refl
-behind_nothing (Some t) = refl
-
-pub following_first : (first : Standing) (script : List Command) → IsFollowing first script script first []
-following_first first script = record {
-  rest = behind_nothing
-      (told (source_of first.program) (run_of first) script first.position);
-  same = refl;
-}
-
 pub following_next : (first now next : Standing) (script left rest : List Command) (command : Command)
     (before text after : Text) → IsFollowing first script left now before → left ≡ command ∷ rest
     → Leads now (command ∷ []) next text → after ≡ before ++ text
@@ -119,12 +108,9 @@ following_over first now script left text is e = record {
   same = is.same;
 }
 
--- these commands have been carried out: whatever is left is told behind their text
+-- these commands have been carried out: whatever is left is printed after their text
 pub record IsFollowed (first : Standing) (done : List Command) (now : Standing) (text : Text) : Type 0 where
   pub follows : (left : List Command) → IsFollowing first (done ++ left) left now text
-
-pub followed_first : (first : Standing) → IsFollowed first [] first []
-followed_first first = record { follows = λ left. following_first first left }
 
 pub followed_next : (first now next : Standing) (done : List Command) (command : Command) (before text after : Text)
     → IsFollowed first done now before → Leads now (command ∷ []) next text → after ≡ before ++ text
@@ -180,7 +166,7 @@ objects_next program store from at count before line h e =
     ++ objects_from program store k (count - (at + 1)))) next
     ∙ ap (λ k. before ++ objects_from program store (from + at) k) (sym more)
 
--- an answer within a bound
+-- a result within a bound
 pub within_as : {A E : Type 0} (r : Result A E) (f : A → ℕ) (k bound : ℕ) → k ≤ bound → IfOk r (λ a. f a ≡ k)
     → IfOk r (λ a. f a ≤ bound)
 within_as (Ok a) f k bound h e = omega arith

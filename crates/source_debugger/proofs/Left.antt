@@ -1,11 +1,11 @@
--- What is left of a run's points behind so many.
+-- What is left of a run's trace points after so many.
 use Rattle.std.proofs.Common.{◌≡◌, ◌≢◌, ℕ, suc, ◌+◌, ◌-◌, ◌≤◌, refl, ap, ◌∙◌, arith, Bool, true, false, List, [], ◌∷◌}
 use Rattle.std.proofs.Common.{length, Option, Some, None, if◌then◌else◌}
 use Rattle.std.specs.Prelude.{ℤ, slice_get, nat_eq, ◌||◌, ◌&&◌}
 use Rattle.std.proofs.lemmas.Bool.{eqb-true, eqb-false}
-use Rattle.roopl_semantics.specs.Run.{Run, Done, Fault, More}
-use Rattle.meaning_points.specs.Points.{Point}
-use Rattle.meaning_points.specs.Trail.{Trail}
+use Rattle.source_meaning.specs.roopl_semantics.Run.{Run, Done, Fault, More}
+use Rattle.source_meaning.specs.meaning_points.Points.{Point}
+use Rattle.source_meaning.specs.meaning_points.Trail.{Trail}
 use Rattle.source_debugger.specs.declared.watching.Watching.TheVariants as watch
 use Rattle.source_debugger.specs.Watched.{Watched, Passed, Met, is_given, watched}
 use Rattle.source_debugger.specs.Ended.{left_of}
@@ -43,7 +43,7 @@ no_place place true (Done st cost) = refl
 no_place place true (Fault code cost) = refl
 no_place place true More = refl
 
--- no position behind the points is at a place
+-- no position after the trace points has an offset
 pub is_nowhere : (trail : Trail) (i d : ℕ) (place : Option ℤ) → IsLeft trail i [] → is_at trail place (i + d) ≡ false
 is_nowhere trail i d None h = refl
 is_nowhere trail i d (Some place) h =

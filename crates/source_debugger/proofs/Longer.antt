@@ -1,18 +1,18 @@
--- More fuel tells the same.
+-- More fuel prints the same.
 use Rattle.std.proofs.Common.{◌≡◌, ℕ, zero, suc, ◌+◌, ◌<◌, ◌≤◌, refl, sym, ap, ◌∙◌, arith, Bool, true, false, List, []}
 use Rattle.std.proofs.Common.{◌∷◌, ◌++◌, length, length-append, Option, Some, None, if◌then◌else◌}
 use Rattle.std.specs.Prelude.{ℤ, slice_get, nat_eq, nat_lt}
 use Rattle.std.proofs.lemmas.Bool.{lt-ltb, ltb-true, ltb-false}
-use Rattle.rpp_words.specs.declared.input.FieldWord.{FieldWord}
-use Rattle.rpp_words.specs.declared.input.Limits.{Limits}
+use Rattle.source_meaning.specs.rpp_words.declared.input.FieldWord.{FieldWord}
+use Rattle.source_meaning.specs.rpp_words.declared.input.Limits.{Limits}
 use Rattle.rpp_tree.specs.Tree.{Source}
-use Rattle.roopl_semantics.specs.Run.{Run, Done, Fault, More}
-use Rattle.roopl_semantics.specs.Store.{State}
-use Rattle.roopl_semantics.specs.Execution.{Setting, exec}
-use Rattle.roopl_semantics.specs.Source.{main_body, starting}
-use Rattle.meaning_points.specs.Points.{Point, points}
-use Rattle.meaning_points.specs.Trail.{Trail, trail}
-use Rattle.meaning_points.proofs.Growing.{points_added, points_done, points_fault}
+use Rattle.source_meaning.specs.roopl_semantics.Run.{Run, Done, Fault, More}
+use Rattle.source_meaning.specs.roopl_semantics.Store.{State}
+use Rattle.source_meaning.specs.roopl_semantics.Execution.{Setting, exec}
+use Rattle.source_meaning.specs.roopl_semantics.Source.{main_body, starting}
+use Rattle.source_meaning.specs.meaning_points.Points.{Point, points}
+use Rattle.source_meaning.specs.meaning_points.Trail.{Trail, trail}
+use Rattle.source_meaning.proofs.meaning_points_laws.Growing.{points_added, points_done, points_fault}
 use Rattle.two_way_debugger.specs.declared.command.Command.{Command}
 use Rattle.two_way_debugger.specs.declared.command.Command.TheVariants.{Step, Back, To, BackTo, Regs, Cells}
 use Rattle.source_debugger.specs.declared.moves.TheConstants.{LAST_POSITION}
@@ -23,7 +23,7 @@ use Rattle.source_debugger.specs.Walks.{Moves, Stays, beyond, onward, ends, move
 use Rattle.source_debugger.specs.Shown.{Told, line_at, regs_at, cells_at, tells, walked, told_by, behind_text, and_told}
 use Rattle.source_debugger.specs.Shown.{told}
 
--- a longer trail of the same run: the same one where the run is over, else one with more points
+-- a longer trail of the same run: the same one if the run is over, else one with more trace points
 data IsLonger (short long : Trail) : Type 0 where
   same : long ≡ short → IsLonger short long
   longer : short.end ≡ More → (more : List Point) → long.points ≡ short.points ++ more → IsLonger short long
@@ -67,7 +67,7 @@ module _ (short long : Trail) (more : List Point) (open_end : short.end ≡ More
   is_front None j h = refl
   is_front (Some place) j h = ap (has_place place) (stand_front j h)
 
-  -- behind its points the shorter trail is not known
+  -- after its trace points the shorter trail is not known
   hidden : (j : ℕ) → length short.points ≤ j → stand_at short j ≡ Unknown
   hidden j h = ap (λ o. point_stand o (if nat_eq j (length short.points) then end_stand short.end else Unknown))
       (get_past short.points j h) ∙ ap (λ end. if nat_eq j (length short.points) then end_stand end else Unknown)
@@ -136,7 +136,7 @@ module _ (short long : Trail) (more : List Point) (open_end : short.end ≡ More
       ap (λ b. if b then ends j Made else backward long place n j) (is_front place j (omega arith))
       ∙ ap (λ w. if is_at short place j then ends j Made else w) (backward_front place n j (omega arith))
 
-  -- what is told leads to a position of the shorter trail
+  -- what is printed leads to a position of the shorter trail
   record SameAnswer (a b : Option Told) (t : Told) : Type 0 where
     then_same : b ≡ Some t
     inside : t.position < length short.points

@@ -3,11 +3,11 @@ use Rattle.std.proofs.Common.{◌≡◌, ◌≢◌, ℕ, zero, suc, ◌+◌, ◌
 use Rattle.std.proofs.Common.{Bool, true, false, List, [], ◌∷◌, length, Option, Some, if◌then◌else◌}
 use Rattle.std.specs.Prelude.{ℤ, nat_eq, nat_lt, ◌||◌, ◌&&◌}
 use Rattle.std.proofs.lemmas.Bool.{eqb-true, eqb-false, lt-ltb, le-ltb, ltb-true, ltb-false}
-use Rattle.roopl_semantics.specs.Run.{Run, Done, Fault, More}
-use Rattle.roopl_semantics.specs.Store.{State}
-use Rattle.meaning_points.specs.Points.{Point}
-use Rattle.meaning_points.specs.Trail.{Trail}
-use Rattle.source_store.specs.HeapView.{Kept}
+use Rattle.source_meaning.specs.roopl_semantics.Run.{Run, Done, Fault, More}
+use Rattle.source_meaning.specs.roopl_semantics.Store.{State}
+use Rattle.source_meaning.specs.meaning_points.Points.{Point}
+use Rattle.source_meaning.specs.meaning_points.Trail.{Trail}
+use Rattle.source_meaning.specs.source_store.HeapView.{Kept}
 use Rattle.source_debugger.specs.declared.watching.Watching.TheVariants as watch
 use Rattle.source_debugger.specs.Watched.{Watched, Passed, Met, is_given, watched}
 use Rattle.source_debugger.specs.declared.moves.TheConstants.{LAST_POSITION}
@@ -46,13 +46,13 @@ at_outer trail j here h l e =
 abbrev stepped : Trail → Option ℤ → ℕ → ℕ → Option Walk
 stepped trail place m j = if is_at trail place (j + 1) then Some (ends (j + 1) Made) else forward trail place m (j + 1)
 
--- where the goal is reached, no more moves are made
+-- if the goal is reached, no more moves are made
 pub stays_there : (trail : Trail) (place : Option ℤ) (n j : ℕ) → j ≡ min (j + n) LAST_POSITION
     → forward trail place n j ≡ Some (ends j Made)
 stays_there trail place zero j h = refl
 stays_there trail place (suc m) j h = ap (λ o. move_on o j (stepped trail place m j)) (at_last trail j (omega arith))
 
--- behind the points of a run that is done nothing moves
+-- after the trace points of a run that is done nothing moves
 stays_behind : (trail : Trail) (place : Option ℤ) (n j : ℕ) (st : State) (cost : ℕ) → trail.end ≡ Done st cost
     → length trail.points ≤ j → forward trail place n j ≡ Some (ends j Made)
 stays_behind trail place zero j st cost e h = refl
@@ -88,7 +88,7 @@ module _ (points : List Point) (place : Option ℤ) (from goal : ℕ) where
   abbrev run_with : Run State → Trail
   run_with end = record { points = points; end = end }
 
-  -- behind the start, where the last point is met
+  -- after the start, if the last trace point is met
   last_moves : (end : Run State) (i m : ℕ) → IsLeft (run_with end) (i + 1) [] → from ≤ i → i < goal
       → goal ≡ min (i + suc m) LAST_POSITION
       → Says (Passed (watch.First place 0 (goal - (i + 1)))) end from goal (forward (run_with end) place (suc m) i)
@@ -127,7 +127,7 @@ module _ (points : List Point) (place : Option ℤ) (from goal : ℕ) where
       (watched (watch.First place (from + 1 - (i + 1)) (goal - (i + 1))) qs) end from goal
       (forward (run_with end) place n from)
 
-  -- behind the start: each point that is passed is one move
+  -- after the start: each trace point that is passed is one move
   on_from : (end : Run State) (ps : List Point) (i n : ℕ) → IsLeft (run_with end) (i + 1) ps → from ≤ i → i < goal
       → goal ≡ min (i + n) LAST_POSITION
       → Says (watched (watch.First place 0 (goal - (i + 1))) ps) end from goal (forward (run_with end) place n i)
@@ -176,7 +176,7 @@ module _ (points : List Point) (place : Option ℤ) (from goal : ℕ) where
       by_place below true e = met (nat_eq (goal - (i + 1)) 0) e
       by_place below false e = by_left below e (nat_eq (goal - (i + 1)) 0) refl
 
-  -- the start is behind all points
+  -- the start is after all trace points
   none_from : (end : Run State) (i n : ℕ) → IsLeft (run_with end) i [] → i ≤ from → from ≤ LAST_POSITION
       → goal ≡ min (from + n) LAST_POSITION
       → Says (Passed (watch.First place (from + 1 - i) (goal - i))) end from goal (forward (run_with end) place n from)
@@ -201,7 +201,7 @@ module _ (points : List Point) (place : Option ℤ) (from goal : ℕ) where
           ∙ ap (λ x. Some (ends x (Faulted code))) (omega arith)
   none_from More i n h l last g = tt
 
-  -- up to the start no point is wanted, unless it is the goal
+  -- up to the start the watch looks for no trace point, unless it is the goal
   up_to : (end : Run State) (n : ℕ) (ps : List Point) (i : ℕ) → IsLeft (run_with end) i ps → i ≤ from
       → from ≤ LAST_POSITION → goal ≡ min (from + n) LAST_POSITION
       → Says (watched (watch.First place (from + 1 - i) (goal - i)) ps) end from goal
@@ -253,7 +253,7 @@ module _ (points : List Point) (place : Option ℤ) (from goal : ℕ) where
           stays_there (run_with end) place n from (omega arith) ∙ some_at from (goal - (goal - i)) (omega arith)
       by below false e = skipped below (nat_eq (from + 1 - i) 0) refl (eqb-false (goal - i) 0 e)
 
--- ---- what the run to a goal answers
+-- ---- what the run to a goal returns
 
 pub goes_to : (trail : Trail) (place : Option ℤ) (from goal n : ℕ) → from ≤ LAST_POSITION
     → goal ≡ min (from + n) LAST_POSITION
@@ -281,15 +281,3 @@ forward_is (ended.Fault code last) heap trail place from goal n is l g =
     subst (λ end. Says (Passed last) end from goal (forward trail place n from)) is.fault
     (subst (λ seen. Says seen trail.end from goal (forward trail place n from)) is.seen
     (goes_to trail place from goal n l g))
-
--- no move leads behind the goal
-pub reached_within : (e : Ended) (from goal : ℕ) → from ≤ LAST_POSITION → goal ≤ LAST_POSITION
-    → (reached_by e from goal).position ≤ LAST_POSITION
-reached_within (ended.At arrival last) from goal f g = omega arith
-reached_within (ended.Over last) from goal f g = omega arith
-reached_within (ended.Fault code last) from goal f g = by (nat_eq goal from)
-  where
-    by : (b : Bool) → (if b then ends from Made else ends (max from (goal - left_of last - 1)) (Faulted code)).position
-        ≤ LAST_POSITION
-    by true = f
-    by false = omega arith

@@ -1,26 +1,26 @@
 -- A run that steps back.
 use Rattle.std.proofs.Common.{◌≡◌, ℕ, zero, suc, ◌+◌, ◌-◌, ◌<◌, ◌≤◌, refl, sym, ap, ◌∙◌, arith, Bool, true, false}
 use Rattle.std.proofs.Common.{List, [], ◌∷◌, ◌++◌, length, length-append, append-nil, Option, Some, None}
-use Rattle.rpp_words.specs.declared.input.FieldWord.{FieldWord}
-use Rattle.rpp_words.specs.declared.input.Limits.{Limits}
-use Rattle.rpp_words.specs.Limits.{IsLimits}
+use Rattle.source_meaning.specs.rpp_words.declared.input.FieldWord.{FieldWord}
+use Rattle.source_meaning.specs.rpp_words.declared.input.Limits.{Limits}
+use Rattle.source_meaning.specs.rpp_words.Limits.{IsLimits}
 use Rattle.rpp_tree.specs.Tree.{Source, Statements, End, Then}
-use Rattle.class_table.specs.Program.{IsAccepted}
-use Rattle.roopl_semantics.specs.Run.{Run, Done, Fault, More, ◌>>=◌, after_cost}
-use Rattle.roopl_semantics.specs.Store.{State}
-use Rattle.roopl_semantics.specs.Source.{IsValid}
-use Rattle.roopl_semantics.specs.Execution.{Setting}
-use Rattle.roopl_semantics.proofs.MoreFuel.{within_done, IsDoneWithin}
-use Rattle.meaning_points.specs.Points.{Point, behind as behind_run}
-use Rattle.meaning_machine.specs.Machine.{Config, Open, closing, stepped, next, walk, seen, point_of as point_in}
-use Rattle.meaning_machine.specs.SourceLaws.{set_for, start_of}
-use Rattle.meaning_machine.specs.Turned.{each_undone, turn}
-use Rattle.meaning_machine.proofs.Steps.{plus, walk_plus, seen_plus}
-use Rattle.meaning_machine.proofs.Turning.{turned_twice}
-use Rattle.meaning_machine.specs.Reversed.{back}
+use Rattle.source_meaning.specs.class_table.Program.{IsAccepted}
+use Rattle.source_meaning.specs.roopl_semantics.Run.{Run, Done, Fault, More, ◌>>=◌, after_cost}
+use Rattle.source_meaning.specs.roopl_semantics.Store.{State}
+use Rattle.source_meaning.specs.roopl_semantics.Source.{IsValid}
+use Rattle.source_meaning.specs.roopl_semantics.Execution.{Setting}
+use Rattle.source_meaning.proofs.roopl_semantics_laws.MoreFuel.{within_done, IsDoneWithin}
+use Rattle.source_meaning.specs.meaning_points.Points.{Point, behind as behind_run}
+use Rattle.meaning_reversed.specs.meaning_machine.Machine.{Config, Open, closing, stepped, next, walk, seen, point_of as point_in}
+use Rattle.meaning_reversed.specs.meaning_machine.SourceLaws.{set_for, start_of}
+use Rattle.meaning_reversed.specs.meaning_machine.Turned.{each_undone, turn}
+use Rattle.meaning_reversed.proofs.meaning_machine_laws.Steps.{plus, walk_plus, seen_plus}
+use Rattle.meaning_reversed.proofs.meaning_machine_laws.Turning.{turned_twice}
+use Rattle.meaning_reversed.specs.meaning_machine.Reversed.{back}
 use Rattle.meaning_reversed.specs.ReverseLaws.{StepsAreUndone, is_over}
-use Rattle.source_steps.specs.Metered.{Went, metered}
-use Rattle.source_execution.specs.Standing.{config_at, setting_at, next_place}
+use Rattle.source_meaning.specs.source_steps.Metered.{Went, metered}
+use Rattle.source_meaning.specs.source_execution.Standing.{config_at, setting_at, next_place}
 use Rattle.source_meaning.proofs.Ending.{ends_done}
 use Rattle.source_debugger.specs.declared.running.Course.{Course}
 use Rattle.source_debugger.specs.Watched.{counted}
@@ -51,7 +51,7 @@ module _ (setting : Setting) (steps : ℕ) (first x : Config) where
       walk_plus setting steps 1 first
       ∙ then_fault (walk setting steps first) (walk setting 1) x code cost d e (ap (λ q. q >>= walk setting 0) g)
 
--- ---- points
+-- ---- trace points
 
 pub none_behind : (setting : Setting) (r : Run Config) → behind_run r (seen setting 0) ≡ []
 none_behind setting (Done x cost) = refl
@@ -187,7 +187,7 @@ module _ (setting : Setting) (first : Config) where
       (sym (walk_plus setting m 1 first) ∙ ap (λ (k : ℕ). walk setting k first) (plus_one m) ∙ e)
       (last_step m) some
 
--- ---- a course that is turned round, and steps back
+-- ---- a course that is reversed, and steps back
 
 module _ (program : Source) (limits : Limits) (input : List FieldWord) (n : ℕ) (c later : Course) where
   abbrev here : Setting
@@ -196,7 +196,7 @@ module _ (program : Source) (limits : Limits) (input : List FieldWord) (n : ℕ)
   abbrev first : Config
   first = start_of program input
 
-  -- turned, it stands for where it stood
+  -- reversed, it represents the position that it had
   turned_to : (x : Config) → HasLed program limits input n x c → later.fuel ≡ c.fuel → later.passed ≡ c.passed
       → setting_at later.execution ≡ setting_at c.execution → later.execution.broken ≡ false
       → (y : Config) → x ≡ y → HasLed program limits input n y later
@@ -225,7 +225,7 @@ module _ (program : Source) (limits : Limits) (input : List FieldWord) (n : ℕ)
   turns_again way e fuel passed setting whole =
       turned_to (turn (config_at c.execution)) way fuel passed setting whole (config_at later.execution) (sym e)
 
-  -- a step back leads to where the run stood before its last step
+  -- a step back leads to where the run was before its last step
   module _ (law : StepsAreUndone) (accepted : IsAccepted program) (inside : IsLimits limits)
       (valid : IsValid program input) (way : IsTurned program limits input n c) (some : 0 < c.passed) where
     abbrev y : Config

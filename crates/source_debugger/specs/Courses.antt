@@ -1,19 +1,19 @@
 -- A run under way.
 use Rattle.std.specs.Prelude.{◌≡◌, ◌≤◌, ◌+◌, ℕ, false, List, length}
-use Rattle.rpp_words.specs.declared.input.FieldWord.{FieldWord}
-use Rattle.rpp_words.specs.declared.input.Limits.{Limits}
+use Rattle.source_meaning.specs.rpp_words.declared.input.FieldWord.{FieldWord}
+use Rattle.source_meaning.specs.rpp_words.declared.input.Limits.{Limits}
 use Rattle.rpp_tree.specs.Tree.{Source}
-use Rattle.roopl_semantics.specs.Run.{Done}
-use Rattle.meaning_machine.specs.Machine.{Config, walk, seen}
-use Rattle.meaning_machine.specs.SourceLaws.{set_for, start_of}
-use Rattle.meaning_machine.specs.Turned.{turn}
-use Rattle.source_store.specs.HeapView.{Kept}
-use Rattle.source_execution.specs.Standing.{config_at, setting_at}
+use Rattle.source_meaning.specs.roopl_semantics.Run.{Done}
+use Rattle.meaning_reversed.specs.meaning_machine.Machine.{Config, walk, seen}
+use Rattle.meaning_reversed.specs.meaning_machine.SourceLaws.{set_for, start_of}
+use Rattle.meaning_reversed.specs.meaning_machine.Turned.{turn}
+use Rattle.source_meaning.specs.source_store.HeapView.{Kept}
+use Rattle.source_meaning.specs.source_execution.Standing.{config_at, setting_at}
 use Rattle.source_debugger.specs.declared.running.TheConstants.{MOST_COST}
 use Rattle.source_debugger.specs.declared.running.Course.{Course}
 
--- some number of steps from the start of a program's run leads to this place, past so many points, and
--- costs no more than what a course has spent of so much fuel
+-- some number of steps from the start of a program's run leads to this offset, past so many trace
+-- points, and costs no more than what a course has spent of so much fuel
 pub record HasLed (program : Source) (limits : Limits) (input : List FieldWord) (most : ℕ)
     (x : Config) (c : Course) : Type 0 where
   pub steps : ℕ
@@ -24,22 +24,22 @@ pub record HasLed (program : Source) (limits : Limits) (input : List FieldWord) 
   pub same : setting_at c.execution ≡ set_for program limits
   pub whole : c.execution.broken ≡ false
 
--- such a run stands where its course does
+-- such a run is at the position of its course
 abbrev pub IsUnderWay : (program : Source) (limits : Limits) (input : List FieldWord) (most : ℕ)
     → Course → Type 0
 IsUnderWay program limits input most c =
     HasLed program limits input most (config_at c.execution) c
 
--- the course is turned round: it stands there once it is turned again
+-- the course is reversed: it is there once it is reversed again
 abbrev pub IsTurned : (program : Source) (limits : Limits) (input : List FieldWord) (most : ℕ)
     → Course → Type 0
 IsTurned program limits input most c =
     HasLed program limits input most (turn (config_at c.execution)) c
 
--- a run is under way, where no step failed
+-- a run is under way, if no step failed
 abbrev pub Holds : (program : Source) (limits : Limits) (input : List FieldWord) → Course → Type 0
 Holds program limits input c = c.broken ≡ false → IsUnderWay program limits input MOST_COST c
 
--- the heap where it stands
+-- the heap at its position
 abbrev pub heap_of : Course → Kept
 heap_of c = c.execution.run.heap

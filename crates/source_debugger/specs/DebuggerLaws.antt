@@ -1,16 +1,16 @@
--- Laws of what commands tell.
+-- Laws of what commands print.
 use Rattle.std.specs.Prelude.{◌≡◌, ◌≤◌, ℕ, List, Some}
-use Rattle.rpp_words.specs.declared.input.FieldWord.{FieldWord}
-use Rattle.rpp_words.specs.declared.input.Limits.{Limits}
+use Rattle.source_meaning.specs.rpp_words.declared.input.FieldWord.{FieldWord}
+use Rattle.source_meaning.specs.rpp_words.declared.input.Limits.{Limits}
 use Rattle.rpp_tree.specs.Tree.{Source}
-use Rattle.roopl_semantics.specs.Store.{State}
-use Rattle.roopl_semantics.specs.Source.{GivesDone}
-use Rattle.meaning_points.specs.Trail.{trail}
+use Rattle.source_meaning.specs.roopl_semantics.Store.{State}
+use Rattle.source_meaning.specs.roopl_semantics.Source.{GivesDone}
+use Rattle.source_meaning.specs.meaning_points.Trail.{trail}
 use Rattle.two_way_debugger.specs.declared.command.Command.{Command}
 use Rattle.source_debugger.specs.Walks.{AtEnd, stand_at}
 use Rattle.source_debugger.specs.Shown.{Told, told}
 
--- what commands tell from the start of a run on, they tell with more fuel too
+-- what commands print from the start of a run on, they print with more fuel too
 abbrev pub MoreFuelTells : Type 0
 MoreFuelTells =
     (program : Source) (limits : Limits) (input : List FieldWord) (commands : List Command)
@@ -18,7 +18,7 @@ MoreFuelTells =
     → told program (trail program limits input n) commands 0 ≡ Some t
     → told program (trail program limits input m) commands 0 ≡ Some t
 
--- the state at the end point is the one that the source gives
+-- the state at the end trace point is the one that the source gives
 abbrev pub EndIsTheSources : Type 0
 EndIsTheSources =
     (program : Source) (limits : Limits) (input : List FieldWord) (n j : ℕ) (end : State)

@@ -1,14 +1,14 @@
 -- How a run under a watch ended.
 use Rattle.std.specs.Prelude.{◌≡◌, ◌<◌, ℕ, ◌-◌, max, nat_eq, nat_lt, if◌then◌else◌, [], Option}
 use Rattle.std.specs.Prelude.{Some, None}
-use Rattle.roopl_semantics.specs.Run.{Done, Fault}
-use Rattle.roopl_semantics.specs.Store.{State, main_name}
-use Rattle.source_store.specs.HeapView.{Kept}
-use Rattle.meaning_points.specs.Trail.{Trail}
-use Rattle.meaning_machine.specs.Machine.{Config}
-use Rattle.source_steps.specs.declared.stop.Stop.{Stop}
-use Rattle.source_steps.specs.declared.stop.Stop.TheVariants as stop
-use Rattle.source_execution.specs.Standing.{next_place}
+use Rattle.source_meaning.specs.roopl_semantics.Run.{Done, Fault}
+use Rattle.source_meaning.specs.roopl_semantics.Store.{State, main_name}
+use Rattle.source_meaning.specs.source_store.HeapView.{Kept}
+use Rattle.source_meaning.specs.meaning_points.Trail.{Trail}
+use Rattle.meaning_reversed.specs.meaning_machine.Machine.{Config}
+use Rattle.source_meaning.specs.source_steps.declared.stop.Stop.{Stop}
+use Rattle.source_meaning.specs.source_steps.declared.stop.Stop.TheVariants as stop
+use Rattle.source_meaning.specs.source_execution.Standing.{next_place}
 use Rattle.source_debugger.specs.declared.watching.Watching.{Watching}
 use Rattle.source_debugger.specs.declared.watching.Watching.TheVariants as watch
 use Rattle.source_debugger.specs.declared.running.Arrival.{Arrival}
@@ -28,13 +28,13 @@ last_state heap = record {
   log = heap.log;
 }
 
--- all points are passed, and the run is done
+-- all trace points are passed, and the run is done
 pub record IsOver (heap : Kept) (first last : Watching) (trail : Trail) : Type 0 where
   pub seen : watched first trail.points ≡ Passed last
   pub cost : ℕ
   pub done : trail.end ≡ Done (last_state heap) cost
 
--- all points are passed, and the run stops with a fault
+-- all trace points are passed, and the run stops with a fault
 pub record IsFaulted (code : ℕ) (first last : Watching) (trail : Trail) : Type 0 where
   pub seen : watched first trail.points ≡ Passed last
   pub cost : ℕ
@@ -47,7 +47,7 @@ IsEnded (ended.At arrival last) heap first trail =
 IsEnded (ended.Over last) heap first trail = IsOver heap first last trail
 IsEnded (ended.Fault code last) heap first trail = IsFaulted code first last trail
 
--- a run ended at the point where it stands, with some fuel left
+-- a run ended at its trace point, with some fuel left
 pub record HasStopped (x : Config) (heap : Kept) (last : Watching) (fuel : ℕ) (e : Ended)
     : Type 0 where
   pub arrival : Arrival
@@ -69,7 +69,7 @@ watching_of (ended.At arrival last) = last
 watching_of (ended.Over last) = last
 watching_of (ended.Fault code last) = last
 
--- how many points it had left to pass, and how many at the last one at its place
+-- how many trace points it had left to pass, and how many at the last one at its offset
 abbrev pub left_of : Watching → ℕ
 left_of (watch.First place skip left) = left
 left_of (watch.Latest place skip left latest) = left

@@ -2,13 +2,13 @@
 use Rattle.std.specs.Prelude.{ℕ, zero, suc, ◌+◌, nat_lt, if◌then◌else◌, List, [], ◌∷◌, ◌++◌, length}
 use Rattle.std.specs.Prelude.{codes, Option, Some, None}
 use Rattle.std.specs.Fmt.{decimal}
-use Rattle.rpp_words.specs.Texts.{line_end}
+use Rattle.source_meaning.specs.rpp_words.Texts.{line_end}
 use Rattle.rpp_tree.specs.declared.tree.Var.{Var}
 use Rattle.rpp_tree.specs.Tree.{Source}
-use Rattle.class_table.specs.Classes.{class_fields}
-use Rattle.roopl_semantics.specs.Store.{Value, Word, Nil, Name, Head, OfClass, OfInts, OfObjects}
-use Rattle.roopl_semantics.specs.Store.{Object, Store, Binding, object_named}
-use Rattle.roopl_semantics.specs.Report.{Text, signed_decimal, head_shown}
+use Rattle.source_meaning.specs.class_table.Classes.{class_fields}
+use Rattle.source_meaning.specs.roopl_semantics.Store.{Value, Word, Nil, Name, Head, OfClass, OfInts, OfObjects}
+use Rattle.source_meaning.specs.roopl_semantics.Store.{Object, Store, Binding, object_named}
+use Rattle.source_meaning.specs.roopl_semantics.Report.{Text, signed_decimal, head_shown}
 
 -- V: a word, nil or #K, K being the name
 abbrev pub value_named : Value → Text

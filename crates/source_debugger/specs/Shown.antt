@@ -1,14 +1,14 @@
 -- What commands print along a run, and where they lead.
 use Rattle.std.specs.Prelude.{ℕ, List, [], ◌∷◌, ◌++◌, codes, Option, Some, None}
 use Rattle.std.specs.Fmt.{decimal}
-use Rattle.rpp_words.specs.Texts.{line_end}
-use Rattle.pisa_scripts.specs.Stops.{fault_line}
+use Rattle.source_meaning.specs.rpp_words.Texts.{line_end}
+use Rattle.two_way_debugger.specs.pisa_scripts.Stops.{fault_line}
 use Rattle.rpp_tree.specs.Tree.{Source}
-use Rattle.class_table.specs.Classes.{class_fields}
-use Rattle.roopl_semantics.specs.Store.{State, object_at}
-use Rattle.roopl_semantics.specs.Value.{own_class}
-use Rattle.roopl_semantics.specs.Report.{Text}
-use Rattle.meaning_points.specs.Trail.{Trail}
+use Rattle.source_meaning.specs.class_table.Classes.{class_fields}
+use Rattle.source_meaning.specs.roopl_semantics.Store.{State, object_at}
+use Rattle.source_meaning.specs.roopl_semantics.Value.{own_class}
+use Rattle.source_meaning.specs.roopl_semantics.Report.{Text}
+use Rattle.source_meaning.specs.meaning_points.Trail.{Trail}
 use Rattle.two_way_debugger.specs.declared.command.Command.{Command}
 use Rattle.two_way_debugger.specs.declared.command.Command.TheVariants.{Step, Back, To, BackTo}
 use Rattle.two_way_debugger.specs.declared.command.Command.TheVariants.{Regs, Cells}
@@ -33,8 +33,8 @@ line_at j (AtEnd end) ending = Some (codes "at " ++ decimal j ++ codes " end"
     ++ ending_shown ending)
 line_at j Unknown ending = None
 
--- the fields of the object on which the point's method runs, and the method's variables; at the end
--- the main object's fields
+-- the fields of the object on which the trace point's method runs, and the method's variables; at
+-- the end the main object's fields
 abbrev pub state_named : Source → ℕ → State → Text
 state_named program params st =
     fields_named [] (class_fields program (own_class st)) (object_at st.store st.self).cells
@@ -52,7 +52,7 @@ cells_at program from count (AtPoint point) =
 cells_at program from count (AtEnd end) = Some (objects_from program end.store from count)
 cells_at program from count Unknown = None
 
--- where a command leads, and what it prints; none where the run is not known so far
+-- where a command leads, and what it prints; none if the run is not known so far
 pub record Told : Type 0 where
   pub position : ℕ
   pub text : Text
@@ -76,7 +76,7 @@ told_by program trail Regs j = tells j (regs_at program (stand_at trail j))
 told_by program trail (Cells from count) j = tells j
     (cells_at program from count (stand_at trail j))
 
--- a text in front of what is told
+-- a text before what is printed
 abbrev pub behind_text : Text → Option Told → Option Told
 behind_text text None = None
 behind_text text (Some told) = Some (record { position = told.position; text = text ++ told.text })

@@ -1,14 +1,14 @@
 -- A debugger as contracts see it.
 use Rattle.std.specs.Prelude.{◌≡◌, ℕ, List, Some, take}
-use Rattle.rpp_words.specs.declared.input.FieldWord.{FieldWord}
-use Rattle.rpp_words.specs.declared.input.Limits.{Limits}
+use Rattle.source_meaning.specs.rpp_words.declared.input.FieldWord.{FieldWord}
+use Rattle.source_meaning.specs.rpp_words.declared.input.Limits.{Limits}
 use Rattle.rpp_tree.specs.declared.tree.Program.{Program}
 use Rattle.rpp_tree.specs.Tree.{Source}
 use Rattle.rpp_tree.specs.Views.{source_of}
-use Rattle.rpp_words.specs.Limits.{IsLimits}
-use Rattle.roopl_semantics.specs.Source.{IsValid}
-use Rattle.roopl_semantics.specs.Report.{Text}
-use Rattle.meaning_points.specs.Trail.{Trail, trail}
+use Rattle.source_meaning.specs.rpp_words.Limits.{IsLimits}
+use Rattle.source_meaning.specs.roopl_semantics.Source.{IsValid}
+use Rattle.source_meaning.specs.roopl_semantics.Report.{Text}
+use Rattle.source_meaning.specs.meaning_points.Trail.{Trail, trail}
 use Rattle.two_way_debugger.specs.declared.command.Command.{Command}
 use Rattle.source_debugger.specs.declared.running.TheConstants.{MOST_COST}
 use Rattle.source_debugger.specs.Shown.{told}
@@ -24,7 +24,7 @@ pub record Standing : Type 0 where
 abbrev pub run_of : Standing → Trail
 run_of d = trail (source_of d.program) d.limits d.input MOST_COST
 
--- commands lead from one standing to another, and print this
+-- commands lead from one debugger position to another, and print this
 pub record Leads (before : Standing) (commands : List Command) (after : Standing)
     (text : Text) : Type 0 where
   pub told : told (source_of before.program) (run_of before) commands before.position

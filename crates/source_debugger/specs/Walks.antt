@@ -2,16 +2,16 @@
 use Rattle.std.specs.Prelude.{ℕ, zero, suc, ◌+◌, ℤ, pos, Bool, false, nat_eq, nat_lt, if◌then◌else◌}
 use Rattle.std.specs.Prelude.{length, Option, Some, None, slice_get}
 use Rattle.std.specs.Ordering.{int_eq}
-use Rattle.roopl_semantics.specs.Run.{Run, Done, Fault, More}
-use Rattle.roopl_semantics.specs.Store.{State}
-use Rattle.meaning_points.specs.Points.{Point}
-use Rattle.meaning_points.specs.Trail.{Trail}
+use Rattle.source_meaning.specs.roopl_semantics.Run.{Run, Done, Fault, More}
+use Rattle.source_meaning.specs.roopl_semantics.Store.{State}
+use Rattle.source_meaning.specs.meaning_points.Points.{Point}
+use Rattle.source_meaning.specs.meaning_points.Trail.{Trail}
 use Rattle.source_debugger.specs.declared.moves.TheConstants.{LAST_POSITION}
 use Rattle.source_debugger.specs.declared.moves.Walk.{Walk}
 use Rattle.source_debugger.specs.declared.moves.Ending.{Ending}
 use Rattle.source_debugger.specs.declared.moves.Ending.TheVariants.{Made, Start, Faulted}
 
--- where a position is: at a point of the run, at its end, or not known
+-- where a position is: at a trace point of the run, at its end, or not known
 pub data Stand : Type 0 where
   AtPoint : (point : Point) → Stand
   AtEnd : (end : State) → Stand
@@ -25,7 +25,7 @@ abbrev pub point_stand : Option Point → Stand → Stand
 point_stand (Some point) other = AtPoint point
 point_stand None other = other
 
--- position j is the j-th point from 0, and behind the last one the end of a run that is done
+-- position j is the j-th trace point from 0, and after the last one the end of a run that is done
 abbrev pub stand_at : Trail → ℕ → Stand
 stand_at trail j = point_stand (slice_get trail.points j) (if nat_eq j (length trail.points)
     then end_stand trail.end else Unknown)
@@ -36,8 +36,8 @@ pub data Onward : Type 0 where
   Stays : (ending : Ending) → Onward
   Hidden : Onward
 
--- the same at the last point, or behind it: a run that is done has its end there, and a fault has
--- nothing
+-- the same at the last trace point, or after it: a run that is done has its end there, and a fault
+-- has nothing
 abbrev pub beyond : (at_point : Bool) → Run State → Onward
 beyond at_point (Done end cost) = if at_point then Moves else Stays Made
 beyond at_point (Fault code cost) = Stays (Faulted code)
@@ -57,7 +57,7 @@ abbrev pub has_place : ℤ → Stand → Bool
 has_place place (AtPoint point) = int_eq (pos point.place) place
 has_place place _ = false
 
--- whether a position is at a place, where there is one to go to
+-- whether a position is at an offset, if there is one to go to
 abbrev pub is_at : Trail → Option ℤ → ℕ → Bool
 is_at trail None j = false
 is_at trail (Some place) j = has_place place (stand_at trail j)
@@ -67,15 +67,15 @@ move_on Moves j next = next
 move_on (Stays ending) j next = Some (ends j ending)
 move_on Hidden j next = None
 
--- at most n moves forward, up to the first position at the place; none where the run is not known
--- so far
+-- at most n moves forward, up to the first position at the offset; none if the run is not known so
+-- far
 abbrev pub forward : Trail → Option ℤ → ℕ → ℕ → Option Walk
 forward trail place zero j = Some (ends j Made)
 forward trail place (suc n) j =
     move_on (onward trail j) j (if is_at trail place (j + 1) then Some (ends (j + 1) Made)
     else forward trail place n (j + 1))
 
--- at most n moves back, up to the first position at the place
+-- at most n moves back, up to the first position at the offset
 abbrev pub backward : Trail → Option ℤ → ℕ → ℕ → Walk
 backward trail place zero j = ends j Made
 backward trail place (suc n) zero = ends 0 Start

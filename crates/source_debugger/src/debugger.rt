@@ -1,7 +1,7 @@
 // Debuggers of the source.
 ghost use Rattle.std.specs.Prelude.{◌≡◌, ◌≤◌, ◌++◌, ◌∷◌, [], List, ℕ, Some, IfOk, OnOk, OnErr, string_bytes};
 ghost use Rattle.rpp_tree.specs.Views.{source_of};
-ghost use Rattle.meaning_points.specs.Trail.{trail};
+ghost use Rattle.source_meaning.specs.meaning_points.Trail.{trail};
 ghost use Rattle.source_debugger.specs.declared.running.TheConstants.{MOST_COST};
 ghost use Rattle.source_debugger.specs.declared.moves.TheConstants.{LAST_POSITION};
 ghost use Rattle.source_debugger.specs.Shown.{told_by, walked};
@@ -54,14 +54,14 @@ impl<'a> Model for SourceDebugger<'a> {
         × Holds (source_of d.checked.now) d.limits d.input.now.words.items d.course };
 }
 
-// What a command told: where it leads, and its text.
+// What a command printed: where it leads, and its text.
 #[derive(Drop)]
 struct Answer {
     position: u64,
     text: String,
 }
 
-// The answer of moves.
+// The result of moves.
 fn walk_answer<'a>(run: &Run<'a>, course: &mut Course<'a>, walk: Walk) -> Result<Answer, NoMemory>
     requires run { IsValidRun (source_of run.now.checked.now) run.now.limits
         run.now.input.now.words.items }
@@ -164,7 +164,7 @@ impl<'a> SourceDebugger<'a> {
         })
     }
 
-    /// Carries out a command, and adds what it prints to a text. After want of memory the text and
+    /// Carries out a command, and adds what it prints to a text. If memory runs out, the text and
     /// the position are as before.
     pub fn command(
         &mut self,
@@ -190,8 +190,8 @@ impl<'a> SourceDebugger<'a> {
         Ok(())
     }
 
-    /// Carries out commands, one after the other, and adds what they print to a text. After want of
-    /// memory some first commands were carried out, and the text is as before.
+    /// Carries out commands, one after the other, and adds what they print to a text. If memory
+    /// runs out, some first commands were carried out, and the text is as before.
     pub fn follow(
         &mut self,
         alloc: Global,

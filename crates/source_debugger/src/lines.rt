@@ -1,14 +1,14 @@
 // The lines of variables, objects and arrays.
 ghost use Rattle.std.specs.Prelude.{◌≡◌, ◌++◌, ◌∷◌, [], OnOk, string_bytes, codes, map};
 ghost use Rattle.std.specs.Fmt.{decimal};
-ghost use Rattle.rpp_words.specs.Texts.{line_end};
+ghost use Rattle.source_meaning.specs.rpp_words.Texts.{line_end};
 ghost use Rattle.rpp_tree.specs.Views.{source_of};
-ghost use Rattle.class_table.specs.Members.{class_at};
-ghost use Rattle.class_table.specs.Classes.{class_fields};
-ghost use Rattle.roopl_semantics.specs.Store.{object_named};
-ghost use Rattle.roopl_semantics.specs.Report.{signed_decimal, head_shown};
-ghost use Rattle.source_store.specs.ValueView.{value_of, values_of, head_of, object_of};
-ghost use Rattle.source_execution.specs.Variables.{binding_of};
+ghost use Rattle.source_meaning.specs.class_table.Members.{class_at};
+ghost use Rattle.source_meaning.specs.class_table.Classes.{class_fields};
+ghost use Rattle.source_meaning.specs.roopl_semantics.Store.{object_named};
+ghost use Rattle.source_meaning.specs.roopl_semantics.Report.{signed_decimal, head_shown};
+ghost use Rattle.source_meaning.specs.source_store.ValueView.{value_of, values_of, head_of, object_of};
+ghost use Rattle.source_meaning.specs.source_execution.Variables.{binding_of};
 ghost use Rattle.source_debugger.specs.Named.{value_named, name_line, fields_named, elements_named, cells_named, object_lines, objects_from, variable_line, params_named, frame_named};
 
 use class_table::Checked;
@@ -41,7 +41,7 @@ fn add_value(out: &mut String, value: Value) -> Result<(), AllocError>
     }
 }
 
-// The bytes of a name. All names of a program are ASCII; another one would count as want of memory.
+// The bytes of a name. All names of a program are ASCII; another one would count as `NoMemory`.
 fn add_bytes(out: &mut String, bytes: &[u8]) -> Result<(), NoMemory>
     ensures { OnOk result (string_bytes out.new ≡ string_bytes out.old ++ bytes.now) }
 {

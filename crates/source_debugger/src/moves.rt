@@ -1,7 +1,7 @@
 // Moves along the positions of a run.
 ghost use Rattle.std.specs.Prelude.{◌≡◌, ◌≤◌, ◌+◌, min, Some, IfOk};
 ghost use Rattle.rpp_tree.specs.Views.{source_of};
-ghost use Rattle.meaning_points.specs.Trail.{trail};
+ghost use Rattle.source_meaning.specs.meaning_points.Trail.{trail};
 ghost use Rattle.source_debugger.specs.declared.running.TheConstants.{MOST_COST};
 ghost use Rattle.source_debugger.specs.Walks.{forward as forward_in, backward as backward_in};
 ghost use Rattle.source_debugger.specs.Standing.{IsValidRun};
@@ -18,11 +18,11 @@ pub const LAST_POSITION: u64 = (1 << 63) - 1;
 /// How the moves of a command ended.
 #[derive(Clone, Copy, PartialEq, Eq, Debug)]
 pub(crate) enum Ending {
-    /// With the last that was wanted, at the end or at the last position.
+    /// With the last requested move, at the end or at the last position.
     Made,
-    /// At position 0, where one more move back was wanted.
+    /// At position 0, if one more move back was requested.
     Start,
-    /// At the last point before a fault, where one more move was wanted.
+    /// At the last trace point before a fault, if one more move was requested.
     Faulted(u32),
 }
 
@@ -33,14 +33,14 @@ pub(crate) struct Walk {
     pub ending: Ending,
 }
 
-// The position that is wanted.
+// The requested position.
 fn goal_of(from: u64, most: u64) -> u64
     ensures { result ≡ min (from + most) LAST_POSITION }
 {
     from.saturating_add(most).min(LAST_POSITION)
 }
 
-/// How many points a watch had left to pass.
+/// How many trace points a watch had left to pass.
 pub(crate) fn left_in(watching: Watching) -> u64
     ensures { result ≡ left_of watching }
 {
@@ -50,7 +50,7 @@ pub(crate) fn left_in(watching: Watching) -> u64
     }
 }
 
-// How many it had left at the last one at its place.
+// How many it had left at the last one at its offset.
 fn latest_in(watching: Watching) -> Option<u64>
     ensures { result ≡ latest_of watching }
 {
@@ -100,7 +100,7 @@ fn reached(ended: &Ended, from: u64, goal: u64) -> Walk
     }
 }
 
-/// Where at most so many moves forward lead, up to the place.
+/// Where at most so many moves forward lead, up to the offset.
 pub(crate) fn forward<'a>(
     run: &Run<'a>,
     course: &mut Course<'a>,
@@ -147,7 +147,8 @@ fn back_by(most: u64, from: u64) -> Walk
     }
 }
 
-// The same where the last point at a place had so many before it, counted from where they begin.
+// The same if the last trace point at an offset had so many before it, counted from where they
+// begin.
 fn back_to(latest: Option<u64>, most: u64, from: u64) -> Walk
     ensures { result ≡ back_to_latest latest most from }
 {
@@ -160,7 +161,7 @@ fn back_to(latest: Option<u64>, most: u64, from: u64) -> Walk
     }
 }
 
-/// Where at most so many moves back lead, up to the place.
+/// Where at most so many moves back lead, up to the offset.
 pub(crate) fn backward<'a>(
     run: &Run<'a>,
     course: &mut Course<'a>,

@@ -1,14 +1,14 @@
 // Runs of a program under a watch.
 ghost use Rattle.std.specs.Prelude.{◌≡◌, ◌+◌, ◌*◌, ◌<◌, ◌≤◌, true, false, length, IfOk, IfErr, OnOk, OnErr};
-ghost use Rattle.rpp_words.specs.Limits.{IsLimits};
+ghost use Rattle.source_meaning.specs.rpp_words.Limits.{IsLimits};
 ghost use Rattle.rpp_tree.specs.Views.{source_of};
-ghost use Rattle.meaning_points.specs.Trail.{trail};
-ghost use Rattle.meaning_machine.specs.Machine.{next};
-ghost use Rattle.meaning_machine.specs.Turned.{turn as turned_round};
-ghost use Rattle.meaning_machine.specs.Reversed.{back as next_back};
-ghost use Rattle.source_steps.specs.Metered.{Gives, metered};
-ghost use Rattle.source_statements.specs.Steps.{StepFalls};
-ghost use Rattle.source_execution.specs.Standing.{config_at, setting_at, next_place};
+ghost use Rattle.source_meaning.specs.meaning_points.Trail.{trail};
+ghost use Rattle.meaning_reversed.specs.meaning_machine.Machine.{next};
+ghost use Rattle.meaning_reversed.specs.meaning_machine.Turned.{turn as turned_round};
+ghost use Rattle.meaning_reversed.specs.meaning_machine.Reversed.{back as next_back};
+ghost use Rattle.source_meaning.specs.source_steps.Metered.{Gives, metered};
+ghost use Rattle.source_meaning.specs.source_statements.Steps.{StepFalls};
+ghost use Rattle.source_meaning.specs.source_execution.Standing.{config_at, setting_at, next_place};
 ghost use Rattle.source_debugger.specs.declared.running.TheConstants.{MOST_COST};
 ghost use Rattle.source_debugger.specs.Standing.{IsValidRun};
 ghost use Rattle.source_debugger.specs.Watched.{surely as surely_in, counted as counted_at};
@@ -23,8 +23,8 @@ use source_execution::{Execution, Variable};
 use source_steps::Stop;
 use std::alloc::Global;
 
-/// The most that a run costs that is looked at: longer ones would take centuries, and count as want
-/// of memory.
+/// The highest cost of a run that is looked at: longer ones would take centuries, and count as
+/// `NoMemory`.
 pub const MOST_COST: u64 = u64::MAX;
 
 /// A program's run on an input.
@@ -36,7 +36,7 @@ pub(crate) struct Run<'a> {
     pub input: &'a Input,
 }
 
-/// A run under way: where it stands, the fuel that it has left, how many points it has passed, and
+/// An active run: its position, the fuel that it has left, how many trace points it has passed, and
 /// whether a step failed. One that failed goes nowhere.
 #[derive(Drop)]
 pub(crate) struct Course<'a> {
@@ -46,8 +46,8 @@ pub(crate) struct Course<'a> {
     pub broken: bool,
 }
 
-/// A point that was met: the statement's place, how many parameters the method has, its object, the
-/// number of open calls, and the method's variables, the innermost first.
+/// A trace point that was met: the statement's offset, how many parameters the method has, its
+/// object, the number of active calls, and the method's variables, the innermost first.
 #[derive(Drop)]
 pub(crate) struct Arrival {
     pub place: u32,
@@ -60,16 +60,16 @@ pub(crate) struct Arrival {
 /// How a run under a watch ended.
 #[derive(Drop)]
 pub(crate) enum Ended {
-    /// At the wanted point.
+    /// At the trace point that the watch looks for.
     At {
         arrival: Arrival,
         watching: Watching,
     },
-    /// At the end, behind all points.
+    /// At the end, after all trace points.
     Over {
         watching: Watching,
     },
-    /// With a fault, behind all points.
+    /// With a fault, after all trace points.
     Fault {
         code: u32,
         watching: Watching,
@@ -92,8 +92,8 @@ pub(crate) fn begin<'a>(run: &Run<'a>) -> Result<Course<'a>, NoMemory>
     })
 }
 
-// How many points are passed behind the statement that begins, if one does. More than 2 ^ 64 count
-// as want of memory.
+// How many trace points are passed after the statement that begins, if one does. More than 2 ^ 64
+// count as `NoMemory`.
 fn counted(passed: u64, place: Option<u32>) -> Result<u64, Stop>
     ensures count { IfOk result (λ count. count ≡ counted_at passed place) }
     ensures memory { IfErr result (λ why. why ≡ Stop.NoMemory) }
@@ -140,7 +140,7 @@ fn step(course: &mut Course) -> Result<(), Stop>
     }
 }
 
-// How many points are passed before the one at this place, if there is one.
+// How many trace points are passed before the one at this offset, if there is one.
 fn uncounted(passed: u64, place: Option<u32>) -> u64
     requires { 0 < passed }
     ensures { passed ≡ counted_at result place }
@@ -151,7 +151,7 @@ fn uncounted(passed: u64, place: Option<u32>) -> u64
     }
 }
 
-// A step back of a run that is turned round. An error breaks the run off.
+// A step back of a run that is reversed. An error breaks the run off.
 fn step_back(course: &mut Course) -> Result<(), Stop>
     requires whole { course.old.execution.broken ≡ false }
     requires some { 0 < course.old.passed }
@@ -181,7 +181,7 @@ fn step_back(course: &mut Course) -> Result<(), Stop>
     }
 }
 
-// Steps back until no more points are passed than these, or the run stands at its start. An error
+// Steps back until no more trace points are passed than these, or the run is at its start. An error
 // breaks the run off.
 fn go_back<'a>(run: &Run<'a>, course: &mut Course<'a>, most: u64)
     requires run { IsValidRun (source_of run.now.checked.now) run.now.limits
@@ -216,8 +216,8 @@ fn turn(course: &mut Course)
     course.execution.turn();
 }
 
-// Turns round, steps back until no more points are passed than these, and turns again. An error
-// breaks the run off.
+// Turns round, steps back until no more trace points are passed than these, and turns again. An
+// error breaks the run off.
 fn rewind<'a>(run: &Run<'a>, course: &mut Course<'a>, most: u64)
     requires run { IsValidRun (source_of run.now.checked.now) run.now.limits
         run.now.input.now.words.items }
@@ -233,8 +233,8 @@ fn rewind<'a>(run: &Run<'a>, course: &mut Course<'a>, most: u64)
     }
 }
 
-// A run that has gone too far for a watch steps back. One that is broken off, or that a step back
-// breaks off, begins anew.
+// A run that has gone too far for a watch steps back. A run that is aborted, or that a step back
+// aborts, begins again.
 fn make_ready<'a>(
     run: &Run<'a>,
     course: &mut Course<'a>,
@@ -261,8 +261,8 @@ fn make_ready<'a>(
     Ok(())
 }
 
-/// Goes on to the point that is wanted, or back to before it where the run has gone too far. The
-/// only error is that memory ran out, or that the run costs more than 2 ^ 64.
+/// Goes on to the trace point that the watch looks for, or back to before it if the run has gone
+/// too far. The only error is that memory ran out, or that the run costs more than 2 ^ 64.
 pub(crate) fn run_to<'a>(
     run: &Run<'a>,
     course: &mut Course<'a>,
@@ -282,7 +282,8 @@ pub(crate) fn run_to<'a>(
     go_on(run, course, watching)
 }
 
-// Goes on to the point that is wanted. A watch passes all points that are passed.
+// Goes on to the trace point that the watch looks for. A watch passes all trace points that are
+// passed.
 fn go_on<'a>(run: &Run<'a>, course: &mut Course<'a>, watching: Watching) -> Result<Ended, NoMemory>
     requires run { IsValidRun (source_of run.now.checked.now) run.now.limits
         run.now.input.now.words.items }
@@ -310,7 +311,7 @@ fn go_on<'a>(run: &Run<'a>, course: &mut Course<'a>, watching: Watching) -> Resu
     Ok(Ended::Over { watching: watch })
 }
 
-// The end at the point where a run stands. One that has no fuel left counts as want of memory.
+// The end at the trace point of a run. One that has no fuel left counts as `NoMemory`.
 fn arrive(alloc: Global, course: &Course, watching: Watching) -> Result<Ended, NoMemory>
     ensures { IfOk result (λ ended. HasStopped (config_at course.now.execution)
         (heap_of course.now) watching course.now.fuel ended) }

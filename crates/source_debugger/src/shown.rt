@@ -1,17 +1,17 @@
 // What commands print at a position.
 ghost use Rattle.std.specs.Prelude.{◌≡◌, ◌++◌, [], Some, map, IfOk, OnOk, string_bytes};
 ghost use Rattle.rpp_tree.specs.Views.{source_of};
-ghost use Rattle.meaning_points.specs.Trail.{trail};
+ghost use Rattle.source_meaning.specs.meaning_points.Trail.{trail};
 ghost use Rattle.source_debugger.specs.declared.running.TheConstants.{MOST_COST};
 ghost use Rattle.source_debugger.specs.Walks.{stand_at};
 ghost use Rattle.source_debugger.specs.Shown.{ending_shown, line_at, regs_at, cells_at};
 ghost use Rattle.source_debugger.specs.Named.{fields_named, frame_named};
-ghost use Rattle.class_table.specs.Classes.{class_fields};
-ghost use Rattle.roopl_semantics.specs.Store.{class_of_head, object_at};
-ghost use Rattle.source_store.specs.ValueView.{values_of};
-ghost use Rattle.source_execution.specs.Variables.{binding_of};
+ghost use Rattle.source_meaning.specs.class_table.Classes.{class_fields};
+ghost use Rattle.source_meaning.specs.roopl_semantics.Store.{class_of_head, object_at};
+ghost use Rattle.source_meaning.specs.source_store.ValueView.{values_of};
+ghost use Rattle.source_meaning.specs.source_execution.Variables.{binding_of};
 ghost use Rattle.source_debugger.specs.Standing.{IsValidRun};
-ghost use Rattle.source_store.specs.HeapView.{Kept};
+ghost use Rattle.source_meaning.specs.source_store.HeapView.{Kept};
 ghost use Rattle.source_debugger.specs.Courses.{Holds, heap_of};
 ghost use Rattle.source_debugger.specs.Placed.{stand_of};
 
@@ -27,14 +27,14 @@ use source_execution::Variable;
 use source_store::{Heap, Value};
 use std::alloc::{AllocError, Global};
 
-/// Where a run stands: at a point, or at its end.
+/// The position of a run: at a trace point, or at its end.
 #[derive(Drop)]
 pub(crate) enum Place {
     Point { arrival: Arrival },
     End,
 }
 
-/// Where a position is. A position that the run does not have counts as want of memory.
+/// Where a position is. A position that the run does not have counts as `NoMemory`.
 pub(crate) fn place_at<'a>(
     run: &Run<'a>,
     course: &mut Course<'a>,
@@ -158,7 +158,7 @@ fn cells_of(heap: &Heap, name: u32) -> &[Value]
     }
 }
 
-// The lines of fields and variables at a place.
+// The lines of fields and variables at an offset.
 fn place_regs(
     alloc: Global,
     checked: &Checked,
@@ -203,7 +203,7 @@ pub(crate) fn regs_text<'a>(
     place_regs(run.alloc, run.checked, &place, course.execution.heap())
 }
 
-// The lines of objects and arrays at a place.
+// The lines of objects and arrays at an offset.
 fn place_cells(
     alloc: Global,
     checked: &Checked,

@@ -1,20 +1,21 @@
-// The point of a run that is wanted.
+// The trace point of a run that a watch looks for.
 ghost use Rattle.std.specs.Prelude.{◌≡◌, ◌&&◌, nat_eq, pos, if◌then◌else◌};
 ghost use Rattle.std.specs.Ordering.{int_eq};
 ghost use Rattle.source_debugger.specs.Watched.{wants as wants_point, passed as passed_point, is_given, wanted as wanted_at, behind as behind_place, surely as surely_in, ahead as ahead_in};
 
-/// The point of a run that is wanted. Numbers count the points that are passed before.
+/// The trace point of a run that a watch looks for. Numbers count the trace points that are passed
+/// before.
 #[derive(Clone, Copy, Debug, PartialEq, Eq)]
 pub(crate) enum Watching {
-    /// The first at the place, if one is given, that is behind `skip` points, or else the one
-    /// behind `left`.
+    /// The first at the offset, if one is given, that is after `skip` trace points, or else the one
+    /// after `left`.
     First {
         place: Option<i64>,
         skip: u64,
         left: u64,
     },
-    /// The one behind `left` points; meanwhile `latest` is how many were left at the last one at a
-    /// place behind `skip` points.
+    /// The one after `left` trace points; at the same time `latest` is how many were left at the
+    /// last one at an offset after `skip` trace points.
     Latest {
         place: i64,
         skip: u64,
@@ -23,7 +24,7 @@ pub(crate) enum Watching {
     },
 }
 
-// Whether a place is the given one.
+// Whether an offset is the given one.
 fn is_place(place: Option<i64>, at: u32) -> bool
     ensures { result ≡ is_given place at }
 {
@@ -33,7 +34,7 @@ fn is_place(place: Option<i64>, at: u32) -> bool
     }
 }
 
-// Whether a point at this place is the wanted one.
+// Whether the watch looks for a trace point at this offset.
 fn wants(watching: Watching, at: u32) -> bool
     ensures { result ≡ wants_point watching at }
 {
@@ -43,7 +44,7 @@ fn wants(watching: Watching, at: u32) -> bool
     }
 }
 
-// How many were left at the last point at the place.
+// How many were left at the last trace point at the offset.
 fn latest_at(place: i64, skip: u64, left: u64, latest: Option<u64>, at: u32) -> Option<u64>
     ensures { result ≡ (if nat_eq skip 0 && int_eq (pos at) place then Some left else latest) }
 {
@@ -54,7 +55,7 @@ fn latest_at(place: i64, skip: u64, left: u64, latest: Option<u64>, at: u32) -> 
     }
 }
 
-// The watch behind a point at this place.
+// The watch after a trace point at this offset.
 fn passed(watching: Watching, at: u32) -> Watching
     ensures { result ≡ passed_point watching at }
 {
@@ -78,7 +79,7 @@ fn passed(watching: Watching, at: u32) -> Watching
     }
 }
 
-/// Whether the statement that begins, if one does, is wanted.
+/// Whether the watch looks for the statement that begins, if one does.
 pub(crate) fn wanted(watching: Watching, place: Option<u32>) -> bool
     ensures { result ≡ wanted_at watching place }
 {
@@ -88,7 +89,7 @@ pub(crate) fn wanted(watching: Watching, place: Option<u32>) -> bool
     }
 }
 
-/// The watch behind it.
+/// The watch after it.
 pub(crate) fn behind(watching: Watching, place: Option<u32>) -> Watching
     ensures { result ≡ behind_place watching place }
 {
@@ -98,7 +99,7 @@ pub(crate) fn behind(watching: Watching, place: Option<u32>) -> Watching
     }
 }
 
-/// How many points a watch passes, whatever they are.
+/// How many trace points a watch passes, whatever they are.
 pub(crate) fn surely(watching: Watching) -> u64
     ensures { result ≡ surely_in watching }
 {
@@ -117,7 +118,7 @@ pub(crate) fn surely(watching: Watching) -> u64
     }
 }
 
-/// The watch behind so many of these.
+/// The watch after so many of these.
 pub(crate) fn ahead(watching: Watching, passed: u64) -> Watching
     ensures { result ≡ ahead_in watching passed }
 {

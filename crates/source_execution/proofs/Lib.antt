@@ -1,4 +1,7 @@
-pub mod Over
+pub use Rattle.source_statements.proofs.roopl_semantics_laws
+pub use Rattle.source_statements.proofs.meaning_points_laws
+pub use Rattle.source_statements.proofs.meaning_machine_laws
+pub use Rattle.source_statements.proofs.source_steps_laws
 pub mod Undone
 pub mod Walked
 pub mod Started

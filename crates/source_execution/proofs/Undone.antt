@@ -1,10 +1,10 @@
--- A statement undone stands where it did.
+-- An inverted statement has the offset that it had.
 use Rattle.std.proofs.Common.{◌≡◌, refl, Bool, true, false}
 use Rattle.rpp_tree.specs.Tree.{Statement, Update, Swap, If, From, Construct, Local, New, Delete, Copy, Uncopy, Call}
 use Rattle.rpp_tree.specs.Tree.{Skip}
 use Rattle.rpp_tree.specs.Places.{statement_place}
-use Rattle.stmt_inverter.specs.Inverse.{inverse_statement}
-use Rattle.source_steps.specs.Ends.{turned}
+use Rattle.source_statements.specs.stmt_inverter.Inverse.{inverse_statement}
+use Rattle.source_statements.specs.source_steps.Ends.{turned}
 
 place_undone : (s : Statement) → statement_place s ≡ statement_place (inverse_statement s)
 place_undone (Update at op target value) = refl

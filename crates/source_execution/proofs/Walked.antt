@@ -1,21 +1,15 @@
 -- Steps of a run, one after another.
-use Rattle.std.proofs.Common.{◌≡◌, ◌<◌, ◌≤◌, ◌+◌, ◌*◌, ℕ, refl, sym, ap, subst, ◌∙◌, arith, List, [], ◌∷◌}
-use Rattle.std.proofs.Common.{false, length, reverse}
-use Rattle.std.proofs.lemmas.List.{length-map, length-reverse}
-use Rattle.std.specs.Prelude.{Result, Ok, Err, OnOk}
+use Rattle.std.proofs.Common.{◌≡◌, ◌≤◌, ℕ, refl, sym, ap, subst, ◌∙◌, arith, [], ◌∷◌}
+use Rattle.std.proofs.Common.{false}
+use Rattle.std.specs.Prelude.{Result, Ok, Err}
 use Rattle.std.specs.Result.{IsErrAnd}
-use Rattle.rpp_tree.specs.Tree.{Statements, End, Then}
-use Rattle.roopl_semantics.specs.Run.{◌>>=◌}
-use Rattle.roopl_semantics.specs.Execution.{Setting}
-use Rattle.meaning_machine.specs.Machine.{Config, Open, next, walk}
-use Rattle.meaning_machine.proofs.Steps.{plus, walk_plus}
-use Rattle.source_steps.specs.declared.stop.Stop.{Stop}
-use Rattle.source_steps.specs.Metered.{Went, metered, Failed}
-use Rattle.source_steps.proofs.Fuelled.{goes, fails, gives}
-use Rattle.source_blocks.specs.declared.run.Run.{Run}
-use Rattle.source_blocks.specs.Opens.{open_of}
-use Rattle.source_blocks.specs.Runs.{config_of}
-use Rattle.source_statements.specs.Steps.{FallsBehind, StepFalls}
+use Rattle.source_statements.specs.roopl_semantics.Run.{◌>>=◌}
+use Rattle.source_statements.specs.roopl_semantics.Execution.{Setting}
+use Rattle.source_statements.specs.meaning_machine.Machine.{Config, next, walk}
+use Rattle.source_statements.proofs.meaning_machine_laws.Steps.{plus, walk_plus}
+use Rattle.source_statements.specs.source_steps.declared.stop.Stop.{Stop}
+use Rattle.source_statements.specs.source_steps.Metered.{Went, metered, Failed}
+use Rattle.source_statements.proofs.source_steps_laws.Fuelled.{goes, fails, gives}
 use Rattle.source_execution.specs.Standing.{Standing, Walks, config_at, setting_at}
 
 -- so many steps have come here
@@ -75,7 +69,7 @@ gone_fails first now later before fuel left why h e =
           (fails fuel left (next (setting_at first) (config_at now)) (walk (setting_at first) 0) why run);
     }
 
--- the same of an error that is handed on
+-- the same of an error that is passed on
 pub gone_breaks : {E : Type 0} (first now later : Standing) (before fuel left : ℕ) (why : Stop) (r : Result E Stop)
     → IsErrAnd r (λ e. e ≡ why) → HasGone first now before fuel
     → Failed why left (metered fuel (next (setting_at now) (config_at now))) → Walks first later before r left
@@ -83,24 +77,3 @@ gone_breaks first now later before fuel left why (Ok x) e h f = absurd e
 gone_breaks {E = E} first now later before fuel left why (Err k) e h f =
     subst (λ (w : Stop). Walks {E = E} first later before (Err w) left) (sym e)
     (gone_fails {E = E} first now later before fuel left why h f)
-
--- what falls at a step of a run that is not over
-pub falls_on : (rest : Statements) (around : List Open) (after first : ℕ)
-    → ((rest ≡ End) × (around ≡ []) → ⊥) → FallsBehind rest around after first → after < first
-falls_on End [] after first not l = absurd (not (refl, refl))
-falls_on End (o ∷ around) after first not l = l
-falls_on (Then s rest) around after first not l = l
-
--- as many statements are open as there are frames
-pub around_count : (run : Run) → length (config_of run).around ≡ length run.frames.items
-around_count run = length-map (reverse run.frames.items) open_of ∙ length-reverse run.frames.items
-
-pub falls_around : {E : Type 0} (result : Result E Stop) (old new : Run) (fuel left : ℕ)
-    → OnOk result (StepFalls (config_of old) (2 * left + length new.frames.items) (2 * fuel + length old.frames.items))
-    → OnOk result (StepFalls (config_of old) (2 * left + length (config_of new).around)
-    (2 * fuel + length (config_of old).around))
-falls_around (Ok u) old new fuel left l =
-    let at : ℕ → ℕ → Type 0 = λ (n : ℕ) (m : ℕ). StepFalls (config_of old) (2 * left + n) (2 * fuel + m) in
-    subst (λ (m : ℕ). at (length (config_of new).around) m) (sym (around_count old))
-    (subst (λ (n : ℕ). at n (length old.frames.items)) (sym (around_count new)) l)
-falls_around (Err why) old new fuel left l = tt

@@ -1,2 +1,11 @@
+pub use Rattle.source_statements.specs.rpp_words
+pub use Rattle.rpp_tree.specs as rpp_tree
+pub use Rattle.source_statements.specs.class_table
+pub use Rattle.source_statements.specs.roopl_semantics
+pub use Rattle.source_statements.specs.meaning_points
+pub use Rattle.source_statements.specs.meaning_machine
+pub use Rattle.source_statements.specs.source_store
+pub use Rattle.source_statements.specs.source_steps
+pub use Rattle.source_statements.specs as source_statements
 pub mod Standing
 pub mod Variables

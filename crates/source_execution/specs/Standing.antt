@@ -1,20 +1,20 @@
 -- A run as contracts see it.
 use Rattle.std.specs.Prelude.{◌≡◌, ℕ, Bool, List, [], ◌∷◌, Option, Some, None, Result}
-use Rattle.rpp_words.specs.declared.input.FieldWord.{FieldWord}
+use Rattle.source_statements.specs.rpp_words.declared.input.FieldWord.{FieldWord}
 use Rattle.rpp_tree.specs.Tree.{Source, Statements, End, Then}
 use Rattle.rpp_tree.specs.Places.{statement_place}
-use Rattle.roopl_semantics.specs.Store.{main_name}
-use Rattle.roopl_semantics.specs.Source.{main_object}
-use Rattle.roopl_semantics.specs.Execution.{Setting}
-use Rattle.meaning_machine.specs.Machine.{Config, walk}
-use Rattle.source_store.specs.HeapView.{Kept}
-use Rattle.source_steps.specs.declared.stop.Stop.{Stop}
-use Rattle.source_steps.specs.Metered.{metered, Gives}
-use Rattle.source_steps.specs.StateView.{setting_of}
-use Rattle.source_blocks.specs.declared.run.Run.{Run}
-use Rattle.source_blocks.specs.Runs.{config_of}
+use Rattle.source_statements.specs.roopl_semantics.Store.{main_name}
+use Rattle.source_statements.specs.roopl_semantics.Source.{main_object}
+use Rattle.source_statements.specs.roopl_semantics.Execution.{Setting}
+use Rattle.source_statements.specs.meaning_machine.Machine.{Config, walk}
+use Rattle.source_statements.specs.source_store.HeapView.{Kept}
+use Rattle.source_statements.specs.source_steps.declared.stop.Stop.{Stop}
+use Rattle.source_statements.specs.source_steps.Metered.{metered, Gives}
+use Rattle.source_statements.specs.source_steps.StateView.{setting_of}
+use Rattle.source_statements.specs.source_blocks.declared.run.Run.{Run}
+use Rattle.source_statements.specs.source_blocks.Runs.{config_of}
 
--- where a run stands, and whether it is broken off
+-- the position of a run, and whether it is aborted
 pub record Standing : Type 0 where
   pub run : Run
   pub broken : Bool
@@ -23,7 +23,7 @@ pub record Standing : Type 0 where
 abbrev pub setting_at : Standing → Setting
 setting_at here = setting_of here.run.setting
 
--- where it stands, as the machine sees it
+-- its position, as the machine sees it
 abbrev pub config_at : Standing → Config
 config_at here = config_of here.run
 

@@ -1,16 +1,16 @@
 // A run of the source, as a layer above sees it.
 ghost use Rattle.std.specs.Prelude.{◌≡◌, ◌+◌, ◌*◌, ◌≤◌, ◌↔◌, IsTrue, false, IfOk, OnOk, length, map, slice_set};
-ghost use Rattle.rpp_words.specs.Limits.{IsLimits};
+ghost use Rattle.source_statements.specs.rpp_words.Limits.{IsLimits};
 ghost use Rattle.rpp_tree.specs.Views.{source_of};
-ghost use Rattle.roopl_semantics.specs.Store.{Word};
-ghost use Rattle.roopl_semantics.specs.Source.{with_input, main_body};
-ghost use Rattle.meaning_machine.specs.Machine.{next};
-ghost use Rattle.meaning_machine.specs.Turned.{turn as turned_round};
-ghost use Rattle.meaning_machine.specs.SourceLaws.{set_for, start_of};
-ghost use Rattle.meaning_machine.specs.Reversed.{back as next_back};
-ghost use Rattle.source_store.specs.ValueView.{values_of};
-ghost use Rattle.source_steps.specs.Metered.{Gives, metered};
-ghost use Rattle.source_blocks.specs.Tasks.{task_of};
+ghost use Rattle.source_statements.specs.roopl_semantics.Store.{Word};
+ghost use Rattle.source_statements.specs.roopl_semantics.Source.{with_input, main_body};
+ghost use Rattle.source_statements.specs.meaning_machine.Machine.{next};
+ghost use Rattle.source_statements.specs.meaning_machine.Turned.{turn as turned_round};
+ghost use Rattle.source_statements.specs.meaning_machine.SourceLaws.{set_for, start_of};
+ghost use Rattle.source_statements.specs.meaning_machine.Reversed.{back as next_back};
+ghost use Rattle.source_statements.specs.source_store.ValueView.{values_of};
+ghost use Rattle.source_statements.specs.source_steps.Metered.{Gives, metered};
+ghost use Rattle.source_statements.specs.source_blocks.Tasks.{task_of};
 ghost use Rattle.source_statements.specs.Steps.{StepFalls, step_in};
 ghost use Rattle.source_execution.specs.Variables.{binding_of};
 ghost use Rattle.source_execution.specs.Standing.{IsOver, Walks, config_at, setting_at, next_place, starting_heap};
@@ -41,7 +41,7 @@ fn set_input(cells: &mut Vec<Value>, words: &[FieldWord])
     }
 }
 
-/// The heap before a run: the main object alone, with the input's words.
+/// The heap before a run: only the main object, with the input's words.
 fn first_heap(
     alloc: Global,
     checked: &Checked,
@@ -72,7 +72,7 @@ fn main_task<'a>(checked: &'a Checked) -> Task<'a>
     }
 }
 
-/// A run of the source: where it stands, and what is open around it.
+/// A run of the source: its position, and what encloses it.
 #[derive(Drop)]
 pub struct Execution<'a> {
     run: Run<'a>,
@@ -86,7 +86,7 @@ impl<'a> Model for Execution<'a> {
     ghost use Rattle.std.specs.Coded.{codes};
     ghost use Rattle.std.specs.Prelude.{◌≡◌, false};
     ghost use Rattle.source_execution.specs.Standing.{Standing};
-    ghost use Rattle.source_blocks.specs.Runs.{IsSound};
+    ghost use Rattle.source_statements.specs.source_blocks.Runs.{IsSound};
 
     ghost Value = { Standing };
 
@@ -147,8 +147,8 @@ impl<'a> Execution<'a> {
         }
     }
 
-    /// A step of the run: one of the machine of the meaning, where it is not broken off. A fault, or
-    /// want of fuel or memory, breaks it off.
+    /// A step of the run: one of the machine of the semantics, if it is not aborted. A fault, or
+    /// running out of fuel or memory, aborts it.
     pub fn step(&mut self, fuel: &mut u64) -> Result<(), Stop>
         requires whole { self.old.broken ≡ false }
         ensures gives { Gives (λ u. config_at self.new) result fuel.new
@@ -163,8 +163,8 @@ impl<'a> Execution<'a> {
         self.go(fuel, false)
     }
 
-    /// A step of the run that is turned round: one of the machine that is turned round, in which
-    /// `new` and `delete` take requests to the heap back. What breaks off a step breaks it off.
+    /// A step of the reversed run: one of the reversed machine, in which `new` and `delete` undo
+    /// requests to the heap. What breaks off a step breaks it off.
     pub fn step_back(&mut self, fuel: &mut u64) -> Result<(), Stop>
         requires whole { self.old.broken ≡ false }
         ensures gives { Gives (λ u. config_at self.new) result fuel.new
@@ -179,7 +179,7 @@ impl<'a> Execution<'a> {
         self.go(fuel, true)
     }
 
-    // A step, turned round or not. An error breaks the run off.
+    // A step, reversed or not. An error breaks the run off.
     fn go(&mut self, fuel: &mut u64, back: bool) -> Result<(), Stop>
         requires whole { self.old.broken ≡ false }
         ensures gives { Gives (λ u. config_at self.new) result fuel.new
@@ -210,7 +210,7 @@ impl<'a> Execution<'a> {
         turn(&mut self.run);
     }
 
-    /// Steps until the run is over, where it is not broken off.
+    /// Steps until the run is over, if it is not aborted.
     pub fn run(&mut self, fuel: &mut u64) -> Result<(), Stop>
         requires whole { self.old.broken ≡ false }
         ensures over { OnOk result (IsOver (config_at self.new)) }
@@ -256,7 +256,7 @@ impl<'a> Execution<'a> {
         self.run.setting.depth
     }
 
-    /// The present object.
+    /// The current object.
     pub fn object(&self) -> u32
         ensures { result ≡ (config_at self.now).state.self }
     {

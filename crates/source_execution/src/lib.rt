@@ -1,5 +1,5 @@
-//! A run of the source that goes step by step: what is open stands in a list on the heap. A layer
-//! above may use that a step is one of the machine of the meaning, and that a run is its steps.
+//! A step-by-step run of the source: a list on the heap holds what is active. A layer above may use
+//! that a step is one of the machine of the semantics, and that a run is its steps.
 #![tactic(auto)]
 
 mod execution;

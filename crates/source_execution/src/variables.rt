@@ -1,7 +1,7 @@
 // The variables of a method, copied with their names.
 ghost use Rattle.std.specs.Prelude.{◌≡◌, ◌++◌, map, IfOk, OnOk};
-ghost use Rattle.source_store.specs.ValueView.{values_of};
-ghost use Rattle.source_steps.specs.StateView.{bindings};
+ghost use Rattle.source_statements.specs.source_store.ValueView.{values_of};
+ghost use Rattle.source_statements.specs.source_steps.StateView.{bindings};
 ghost use Rattle.source_execution.specs.Variables.{binding_of};
 
 use rpp_tree::text::Text;
@@ -18,7 +18,7 @@ pub struct Variable {
     pub value: Value,
 }
 
-// Puts the parameters with their values behind others.
+// Puts the parameters with their values after others.
 fn add_params(
     alloc: Global,
     params: &[Var],
@@ -44,7 +44,7 @@ fn add_params(
     }
 }
 
-// Puts the variables with their values behind others.
+// Puts the variables with their values after others.
 fn add_variables(
     alloc: Global,
     locals: &[&[u8]],

@@ -3,25 +3,25 @@ use Rattle.std.proofs.Common.{◌≡◌, ◌<◌, ℕ, ◌-◌, ◌≤◌, refl,
 use Rattle.std.proofs.Common.{Some, None, List}
 use Rattle.std.proofs.lemmas.Bool.{leb-true, leb-false}
 use Rattle.std.specs.Prelude.{nat_le, Result, Ok, Err, IfOk}
-use Rattle.rpp_words.specs.declared.input.FieldWord.{FieldWord}
-use Rattle.rpp_words.specs.declared.input.Limits.{Limits}
-use Rattle.rpp_words.specs.Limits.{IsLimits}
-use Rattle.rpp_tree.specs.Tree.{Source}
-use Rattle.class_table.specs.Program.{IsAccepted}
-use Rattle.roopl_semantics.specs.Run.{Run, Done, Fault, More}
-use Rattle.roopl_semantics.specs.Store.{Store}
-use Rattle.roopl_semantics.specs.Source.{within, source, IsValid}
-use Rattle.roopl_semantics.specs.Execution.{Setting}
-use Rattle.roopl_semantics.specs.Laws.{CountsReferences}
-use Rattle.roopl_semantics.proofs.MoreFuel.{source_done, source_fault, within_done, within_fault}
-use Rattle.meaning_machine.specs.Machine.{Config, walk}
-use Rattle.meaning_machine.specs.SourceLaws.{set_for, start_of, Exceeds}
-use Rattle.meaning_machine.proofs.Sources.{joined}
-use Rattle.meaning_sound.proofs.Stated.{counts_are_held}
+use Rattle.source_execution.specs.rpp_words.declared.input.FieldWord.{FieldWord}
+use Rattle.source_execution.specs.rpp_words.declared.input.Limits.{Limits}
+use Rattle.source_execution.specs.rpp_words.Limits.{IsLimits}
+use Rattle.source_execution.specs.rpp_tree.Tree.{Source}
+use Rattle.source_execution.specs.class_table.Program.{IsAccepted}
+use Rattle.source_execution.specs.roopl_semantics.Run.{Run, Done, Fault, More}
+use Rattle.source_execution.specs.roopl_semantics.Store.{Store}
+use Rattle.source_execution.specs.roopl_semantics.Source.{within, source, IsValid}
+use Rattle.source_execution.specs.roopl_semantics.Execution.{Setting}
+use Rattle.source_execution.specs.roopl_semantics.Laws.{CountsReferences}
+use Rattle.source_execution.proofs.roopl_semantics_laws.MoreFuel.{source_done, source_fault, within_done, within_fault}
+use Rattle.source_execution.specs.meaning_machine.Machine.{Config, walk}
+use Rattle.source_execution.specs.meaning_machine.SourceLaws.{set_for, start_of, Exceeds}
+use Rattle.source_execution.proofs.meaning_machine_laws.Sources.{joined}
+use Rattle.meaning_inverse.proofs.meaning_sound_laws.Stated.{counts_are_held}
 use Rattle.meaning_inverse.proofs.Law.{leads_back}
-use Rattle.source_steps.specs.declared.stop.Stop.{Stop}
-use Rattle.source_steps.specs.declared.stop.Stop.TheVariants as stop
-use Rattle.source_steps.specs.Metered.{Went, Stopped, Out, went, stopped, metered, left_of, Failed}
+use Rattle.source_execution.specs.source_steps.declared.stop.Stop.{Stop}
+use Rattle.source_execution.specs.source_steps.declared.stop.Stop.TheVariants as stop
+use Rattle.source_execution.specs.source_steps.Metered.{Went, Stopped, Out, went, stopped, metered, left_of, Failed}
 use Rattle.source_execution.specs.Standing.{Standing, IsOver, Walks, config_at, setting_at}
 use Rattle.source_meaning.specs.declared.outcome.Outcome.{Outcome}
 use Rattle.source_meaning.specs.declared.outcome.Outcome.TheVariants as outcome
@@ -59,17 +59,6 @@ no_end : {A : Type 0} (t : Bool) (fuel cost code : ℕ) (end : A) (left : ℕ)
 no_end true fuel cost code end left e = cc
 no_end false fuel cost code end left e = cc
 
-out_done : {A : Type 0} (t : Bool) (fuel cost : ℕ) (x : A) → went x (if t then Some (fuel - cost) else None) ≡ Out
-    → (if t then Done x cost else More) ≡ More
-out_done true fuel cost x e = cc
-out_done false fuel cost x e = refl
-
-out_fault : {A : Type 0} (t : Bool) (fuel cost code : ℕ)
-    → stopped {A = A} code (if t then Some (fuel - cost) else None) ≡ Out
-    → if◌then◌else◌ {A = Run A} t (Fault code cost) More ≡ More
-out_fault true fuel cost code e = cc
-out_fault false fuel cost code e = refl
-
 pub ends_done : {A : Type 0} (fuel : ℕ) (run : Run A) (end : A) (left : ℕ) → metered fuel run ≡ Went end left
     → within fuel run ≡ Done end (fuel - left)
 ends_done fuel (Done x cost) end left e = by_done (nat_le cost fuel) fuel cost x end left (leb-true cost fuel) e
@@ -81,11 +70,6 @@ pub ends_fault : {A : Type 0} (fuel : ℕ) (run : Run A) (code left : ℕ) → m
 ends_fault fuel (Done x cost) code left e = absurd (no_fault (nat_le cost fuel) fuel cost x code left e)
 ends_fault fuel (Fault x cost) code left e = by_fault (nat_le cost fuel) fuel cost x code left (leb-true cost fuel) e
 ends_fault fuel More code left e = cc
-
-pub ends_more : {A : Type 0} (fuel : ℕ) (run : Run A) → metered fuel run ≡ Out → within fuel run ≡ More
-ends_more fuel (Done x cost) e = out_done (nat_le cost fuel) fuel cost x e
-ends_more fuel (Fault code cost) e = out_fault (nat_le cost fuel) fuel cost code e
-ends_more fuel More e = refl
 
 -- ---- a run of the machine
 
@@ -136,7 +120,7 @@ module _ (program : Source) (limits : Limits) (input : List FieldWord) (fuel lef
 
 module _ (program : Source) (limits : Limits) (input : List FieldWord) (fuel left : ℕ) (first now : Standing)
     (setting : setting_at first ≡ set_for program limits) (start : config_at first ≡ start_of program input) where
-  -- where the run is over
+  -- if the run is over
   module _ {E : Type 0} (e : E) (walks : Walks first now fuel (Ok e) left) (over : IsOver (config_at now))
       (store : Store) (same : store ≡ (config_at now).state.store) where
     over_is : source program limits input fuel ≡ Done (config_at now).state (fuel - left)
@@ -151,7 +135,7 @@ module _ (program : Source) (limits : Limits) (input : List FieldWord) (fuel lef
     main_counts accepted inside valid = subst CountsReferences (sym same)
         (counts_are_held program limits input fuel (config_at now).state (fuel - left) accepted inside valid over_is)
 
-  -- where it stops before its end
+  -- if it stops before its end
   pub main_stops : {E F : Type 0} (r : Result Outcome E) (why : Stop) → Walks {E = F} first now fuel (Err why) left
       → IfOk r (λ o. IsStop why (fuel - left) o) → IfOk r (λ o. IsOutcome o (source program limits input fuel))
   main_stops (Err none) why walks is = tt
@@ -173,7 +157,7 @@ pub done_as : {E : Type 0} (r : Result Outcome E) (x : Outcome) (P : Outcome →
 done_as (Err why) x P p e = tt
 done_as (Ok o) x P p e = subst P (sym e) p
 
--- ---- the laws of an answer
+-- ---- the laws of a result
 
 pub stays_so : {E : Type 0} (r : Result Outcome E) (program : Source) (limits : Limits) (input : List FieldWord)
     (fuel : ℕ)

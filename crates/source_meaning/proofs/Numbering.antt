@@ -5,8 +5,8 @@ use Rattle.std.proofs.lemmas.Bool.{eqb-true, eqb-false, ltb-true, ltb-false}
 use Rattle.std.proofs.lemmas.Option.{slice_get_past}
 use Rattle.std.specs.Prelude.{slice_get, nat_eq, nat_lt}
 use Rattle.std.specs.Option.{unwrap_or, option_map}
-use Rattle.roopl_semantics.specs.Store.{object_named}
-use Rattle.source_store.specs.HeapView.{Kept}
+use Rattle.source_execution.specs.roopl_semantics.Store.{object_named}
+use Rattle.source_execution.specs.source_store.HeapView.{Kept}
 use Rattle.source_meaning.specs.declared.store.Object.{Object as Seen}
 use Rattle.source_meaning.specs.Numbers.{Numbers, numbers_of, seen_object, AreNumbers}
 
@@ -17,9 +17,6 @@ kept_at objects name = option_map seen_object (unwrap_or (slice_get objects name
 pub record AreListed (heap : Kept) (objects : List (Option Seen)) (below : ℕ) : Type 0 where
   pub size : length objects ≡ below
   pub each : (name : ℕ) → name < below → kept_at objects name ≡ option_map numbers_of (object_named heap.store name)
-
-pub none_listed : (heap : Kept) → AreListed heap [] 0
-none_listed heap = record { size = refl; each = λ name h. absurd (omega arith) }
 
 pushed_before : {A : Type 0} (xs : List A) (x : A) (k : ℕ) → k < length xs → slice_get (xs ++ x ∷ []) k ≡ slice_get xs k
 pushed_before [] x k h = absurd (omega arith)

@@ -1,9 +1,9 @@
 -- Objects as readers outside see them: by numbers.
 use Rattle.std.specs.Prelude.{◌≡◌, ℕ, List, map, Option, None, slice_get}
 use Rattle.std.specs.Option.{unwrap_or, option_map}
-use Rattle.roopl_semantics.specs.Store.{Head, Object, number_of, object_named}
-use Rattle.source_store.specs.ValueView.{head_of}
-use Rattle.source_store.specs.HeapView.{Kept}
+use Rattle.source_execution.specs.roopl_semantics.Store.{Head, Object, number_of, object_named}
+use Rattle.source_execution.specs.source_store.ValueView.{head_of}
+use Rattle.source_execution.specs.source_store.HeapView.{Kept}
 use Rattle.source_meaning.specs.declared.store.Object.{Object as Seen}
 
 -- an object or array with the number in each field or element

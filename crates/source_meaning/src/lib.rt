@@ -1,7 +1,7 @@
-//! The interpreter of the source: it does what the definition of the meaning says, statement by
-//! statement. A layer above may use that `interpret` ends in the same case as the definition, with
-//! the same code, cost and store; that more fuel gives the same; that the counts in a `Store` are the
-//! numbers of references; and that the inverse undoes what was done.
+//! The interpreter of the source. It does what the semantics says, statement by statement. A layer
+//! above may use that `interpret` ends in the same case as the definition, with the same code, cost
+//! and store. More fuel gives the same. The reference counts in a `Store` are the numbers of
+//! references, and the inverse undoes what was done.
 #![tactic(auto)]
 
 mod outcome;

@@ -1,10 +1,10 @@
 // The objects and arrays that a run leaves.
 ghost use Rattle.std.specs.Prelude.{◌≡◌, ◌<◌, ◌≤◌, ◌^◌, ℕ, IfOk, length, map, slice_get, Some, None};
 ghost use Rattle.std.specs.Option.{unwrap_or, option_map};
-ghost use Rattle.roopl_semantics.specs.Store.{Nil, main_name, number_of, object_at, object_named};
-ghost use Rattle.roopl_semantics.specs.Laws.{CountsReferences};
-ghost use Rattle.roopl_semantics.specs.Report.{live_count};
-ghost use Rattle.source_store.specs.ValueView.{object_of, values_of};
+ghost use Rattle.source_execution.specs.roopl_semantics.Store.{Nil, main_name, number_of, object_at, object_named};
+ghost use Rattle.source_execution.specs.roopl_semantics.Laws.{CountsReferences};
+ghost use Rattle.source_execution.specs.roopl_semantics.Report.{live_count};
+ghost use Rattle.source_execution.specs.source_store.ValueView.{object_of, values_of};
 ghost use Rattle.source_meaning.specs.Numbers.{numbers_of, seen_object, AreNumbers};
 
 use rpp_words::NoMemory;
@@ -34,9 +34,9 @@ pub struct Store {
 
 impl Model for Store {
     ghost use Rattle.std.specs.Prelude.{◌≡◌};
-    ghost use Rattle.roopl_semantics.specs.Store.{Store};
-    ghost use Rattle.roopl_semantics.specs.Laws.{CountsReferences};
-    ghost use Rattle.roopl_semantics.specs.Report.{live_count};
+    ghost use Rattle.source_execution.specs.roopl_semantics.Store.{Store};
+    ghost use Rattle.source_execution.specs.roopl_semantics.Laws.{CountsReferences};
+    ghost use Rattle.source_execution.specs.roopl_semantics.Report.{live_count};
     ghost use Rattle.source_meaning.specs.Numbers.{AreNumbers};
 
     ghost Value = { Store };
@@ -62,7 +62,7 @@ impl Store {
         })
     }
 
-    /// The object or array of a name, none where the name is not in the store.
+    /// The object or array of a name, none if the name is not in the store.
     pub fn object(&self, name: u32) -> Option<&Object>
         ensures object { option_map (λ object. seen_object object.now) result
             ≡ option_map numbers_of (object_named self.now name) }
@@ -80,7 +80,7 @@ impl Store {
         self.heap.part(1, field as usize).number()
     }
 
-    /// How many objects and arrays live but for the main object.
+    /// How many objects and arrays are live except the main object.
     pub fn live(&self) -> u32
         ensures { result ≡ live_count self.now }
     {
@@ -159,7 +159,7 @@ fn all_numbers(alloc: Global, heap: &Heap) -> Result<Vec<Option<Object>>, NoMemo
     Ok(objects)
 }
 
-// How many live but for the main object.
+// How many are live except the main object.
 fn live_number(heap: &Heap) -> u32
     ensures { result ≡ live_count heap.now.store }
 {

@@ -1,9 +1,9 @@
 // The interpreter: what the source does from its main object on.
 ghost use Rattle.std.specs.Prelude.{◌≡◌, ◌≤◌, IfOk};
-ghost use Rattle.rpp_words.specs.Limits.{IsLimits};
-ghost use Rattle.rpp_tree.specs.Views.{source_of};
-ghost use Rattle.roopl_semantics.specs.Source.{source, IsValid};
-ghost use Rattle.roopl_semantics.specs.Laws.{CountsReferences};
+ghost use Rattle.source_execution.specs.rpp_words.Limits.{IsLimits};
+ghost use Rattle.source_execution.specs.rpp_tree.Views.{source_of};
+ghost use Rattle.source_execution.specs.roopl_semantics.Source.{source, IsValid};
+ghost use Rattle.source_execution.specs.roopl_semantics.Laws.{CountsReferences};
 ghost use Rattle.source_meaning.specs.Outcomes.{IsOutcome, IsStop, StaysSo, IsUndone};
 
 use crate::outcome::Outcome;
@@ -77,11 +77,11 @@ pub fn interpret(
         (λ outcome. IsOutcome outcome (source (source_of checked.now) limits input.now.words.items
         fuel)) }
 
-    // Where the run is over, more fuel gives the same.
+    // If the run is over, more fuel gives the same.
     ensures more { IfOk result (λ outcome. StaysSo outcome (source_of checked.now) limits
         input.now.words.items fuel) }
 
-    // Where it is done, the inverse of the body of `main` leads from the final state back to one
+    // If it is done, the inverse of the body of `main` leads from the final state back to one
     // that agrees with the start.
     ensures back { IfOk result (λ outcome. IsUndone outcome (source_of checked.now) limits
         input.now.words.items fuel) }

@@ -1,11 +1,11 @@
--- Requests to the heap that are taken back.
+-- Requests to the heap that are undone.
 use Rattle.std.proofs.Common.{◌≡◌, refl, ap, ◌∙◌, true, false}
 use Rattle.rpp_tree.specs.Tree.{Statement, Statements, Update, Swap, If, From, Construct, Local, New, Delete, Copy}
 use Rattle.rpp_tree.specs.Tree.{Uncopy, Call, Skip}
-use Rattle.roopl_semantics.specs.Run.{Run as Run', ◌>>=◌, give}
-use Rattle.roopl_semantics.specs.Execution.{Setting}
-use Rattle.meaning_machine.specs.Machine.{Config, past_it, begun}
-use Rattle.source_steps.specs.StateView.{setting_of}
+use Rattle.source_blocks.specs.roopl_semantics.Run.{Run as Run', ◌>>=◌, give}
+use Rattle.source_blocks.specs.roopl_semantics.Execution.{Setting}
+use Rattle.source_blocks.specs.meaning_machine.Machine.{Config, past_it, begun}
+use Rattle.source_blocks.specs.source_steps.StateView.{setting_of}
 use Rattle.source_blocks.specs.declared.run.Run.{Run}
 use Rattle.source_blocks.specs.Requests.{is_request, taken_back}
 use Rattle.source_statements.specs.Steps.{begun_in}

@@ -6,28 +6,28 @@ use Rattle.rpp_tree.specs.declared.tree.Var.{Var}
 use Rattle.rpp_tree.specs.Tree.{Expression, Null, Lvalue}
 use Rattle.rpp_tree.specs.Tree.{Statement, Statements, Update, Swap, If, From, Construct, Local, New}
 use Rattle.rpp_tree.specs.Tree.{Delete, Copy, Uncopy, Call, Skip}
-use Rattle.roopl_semantics.specs.Run.{Run as Run', More, ◌>>=◌, give, fault_if}
-use Rattle.roopl_semantics.specs.Store.{Value, State}
-use Rattle.roopl_semantics.specs.Value.{evaluated}
-use Rattle.roopl_semantics.specs.Execution.{Setting, holds, loop_fault, opened, constructed, statement}
-use Rattle.meaning_machine.specs.Machine.{Config, Chosen, First, Holding, past_it, inside, simply, begun, held_local}
-use Rattle.meaning_machine.specs.Machine.{called}
-use Rattle.source_steps.specs.StateView.{setting_of}
+use Rattle.source_blocks.specs.roopl_semantics.Run.{Run as Run', More, ◌>>=◌, give, fault_if}
+use Rattle.source_blocks.specs.roopl_semantics.Store.{Value, State}
+use Rattle.source_blocks.specs.roopl_semantics.Value.{evaluated}
+use Rattle.source_blocks.specs.roopl_semantics.Execution.{Setting, holds, loop_fault, opened, constructed, statement}
+use Rattle.source_blocks.specs.meaning_machine.Machine.{Config, Chosen, First, Holding, past_it, inside, simply, begun, held_local}
+use Rattle.source_blocks.specs.meaning_machine.Machine.{called}
+use Rattle.source_blocks.specs.source_steps.StateView.{setting_of}
 use Rattle.source_blocks.specs.declared.run.Run.{Run}
 use Rattle.source_blocks.specs.Runs.{IsSimple, config_of, state_in, here_in, rest_in}
-use Rattle.source_steps.specs.declared.stop.Stop.{Stop}
-use Rattle.source_steps.specs.declared.stop.Stop.TheVariants as stop
-use Rattle.source_steps.specs.Metered.{Went, metered, Failed, Gives}
-use Rattle.source_steps.proofs.Fuelled.{goes, fails, gives}
+use Rattle.source_blocks.specs.source_steps.declared.stop.Stop.{Stop}
+use Rattle.source_blocks.specs.source_steps.declared.stop.Stop.TheVariants as stop
+use Rattle.source_blocks.specs.source_steps.Metered.{Went, metered, Failed, Gives}
+use Rattle.source_blocks.proofs.source_steps_laws.Fuelled.{goes, fails, gives}
 
--- a call that can lack memory alone comes to what is given
+-- a call whose only error is `NoMemory` leads to what is given
 pub given_as : {E : Type 0} (result : Result E Stop) (left : ℕ) (x y : Config)
     → MatchResult result (λ u. x ≡ y) (λ why. why ≡ stop.NoMemory)
     → Gives (λ (e : E). x) result left (metered left (give y))
 given_as (Ok e) left x y m = gives left y ∙ ap (λ z. Went z left) (sym m)
 given_as (Err why) left x y m = subst (λ w. Failed w left (metered left (give y))) (sym m) tt
 
--- goes on behind a part that went well
+-- goes on after a part that went well
 pub through : {A B E : Type 0} (f : E → B) (result : Result E Stop) (fuel g left : ℕ) (run : Run' A) (a : A)
     (next : A → Run' B) → metered fuel run ≡ Went a g → Gives f result left (metered g (next a))
     → Gives f result left (metered fuel (run >>= next))
@@ -169,7 +169,7 @@ changed : (old mid : Run) (st : State) → mid ≡ record old { heap = mid.heap;
     → past_it (config_of mid) (here_in mid) (rest_in mid) st ≡ past_it (config_of old) (here_in old) (rest_in old) st
 changed old mid st e = ap (λ r. past_it (config_of r) (here_in r) (rest_in r) st) e
 
--- a statement that changes the state alone, and is past
+-- a statement that changes only the state, and is past
 module _ (old : Run) (fuel : ℕ) (ran : Run' State) (whole : Run' Config)
     (is : whole ≡ ran >>= (λ st. give (past_it (config_of old) (here_in old) (rest_in old) st))) where
   pub alone_fails : (left : ℕ) (why : Stop) → Failed why left (metered fuel ran)

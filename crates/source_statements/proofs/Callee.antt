@@ -6,18 +6,18 @@ use Rattle.std.proofs.lemmas.List.{length-map}
 use Rattle.std.specs.Prelude.{Result, Ok, Err, MatchResult}
 use Rattle.rpp_tree.specs.declared.tree.Var.{Var}
 use Rattle.rpp_tree.specs.Tree.{Statements, End, Procedure}
-use Rattle.roopl_semantics.specs.Store.{State, Value, Binding}
-use Rattle.roopl_semantics.specs.Value.{Cell, read}
-use Rattle.roopl_semantics.specs.Execution.{bound, moved_out, in_direction}
-use Rattle.meaning_machine.specs.Machine.{Config, Part as Runs, Calling, inside, entered}
-use Rattle.meaning_machine.specs.Machine.{Caller as From}
-use Rattle.source_store.specs.declared.value.Value.{Value as Held}
-use Rattle.source_store.specs.ValueView.{value_of, values_of}
-use Rattle.source_steps.specs.declared.stop.Stop.{Stop}
-use Rattle.source_steps.specs.declared.stop.Stop.TheVariants as stop
-use Rattle.source_steps.specs.CellView.{cell_of}
-use Rattle.source_steps.specs.StateView.{bindings, setting_of}
-use Rattle.source_steps.proofs.Moves.{bound_cut}
+use Rattle.source_blocks.specs.roopl_semantics.Store.{State, Value, Binding}
+use Rattle.source_blocks.specs.roopl_semantics.Value.{Cell, read}
+use Rattle.source_blocks.specs.roopl_semantics.Execution.{bound, moved_out, in_direction}
+use Rattle.source_blocks.specs.meaning_machine.Machine.{Config, Part as Runs, Calling, inside, entered}
+use Rattle.source_blocks.specs.meaning_machine.Machine.{Caller as From}
+use Rattle.source_blocks.specs.source_store.declared.value.Value.{Value as Held}
+use Rattle.source_blocks.specs.source_store.ValueView.{value_of, values_of}
+use Rattle.source_blocks.specs.source_steps.declared.stop.Stop.{Stop}
+use Rattle.source_blocks.specs.source_steps.declared.stop.Stop.TheVariants as stop
+use Rattle.source_blocks.specs.source_steps.CellView.{cell_of}
+use Rattle.source_blocks.specs.source_steps.StateView.{bindings, setting_of}
+use Rattle.source_blocks.proofs.source_steps_laws.Moves.{bound_cut}
 use Rattle.source_blocks.specs.declared.frames.Caller.{Caller}
 use Rattle.source_blocks.specs.declared.frames.Part.TheVariants as runs
 use Rattle.source_blocks.specs.declared.run.Run.{Run}
@@ -85,7 +85,7 @@ module _ (run mid callee : Run) (same : mid ≡ record run { heap = mid.heap; va
       locals = callee.locals;
       values = callee.values;
     }) (bare : callee.locals.items ≡ []) where
-  -- what opens around it stands where the caller stood
+  -- what it opens is enclosed by what enclosed the caller
   abbrev opens_at : Run → Runs → Statements → State → Config
   opens_at r part body st = inside (config_of r) (here_in r) (rest_in r) part body st
 

@@ -8,16 +8,16 @@ use Rattle.std.specs.Prelude.{Option, slice_get, nat_lt, position}
 use Rattle.std.specs.Option.{unwrap_or}
 use Rattle.std.specs.Str.{bytes_eq}
 use Rattle.rpp_tree.specs.Tree.{Procedure, Source}
-use Rattle.class_table.specs.declared.method.MethodId.{MethodId}
-use Rattle.class_table.specs.Table.{Table, table_of, slots_in, slot_in, dispatch_in}
-use Rattle.class_table.specs.Rules.{class_names}
-use Rattle.class_table.specs.Chains.{parents, parent_named, chain, with_last}
-use Rattle.class_table.specs.Members.{class_at, no_class, no_procedure, slots, slots_of, slots_along, with_methods}
-use Rattle.class_table.specs.Overrides.{run_at}
-use Rattle.class_table.specs.Classes.{class_slots, method_named}
-use Rattle.class_table.proofs.Numbers.{length-each_below}
-use Rattle.class_table.proofs.Tables.{table_reads}
-use Rattle.source_steps.specs.Ends.{slot_or_first}
+use Rattle.source_blocks.specs.class_table.declared.method.MethodId.{MethodId}
+use Rattle.source_blocks.specs.class_table.Table.{Table, table_of, slots_in, slot_in, dispatch_in}
+use Rattle.source_blocks.specs.class_table.Rules.{class_names}
+use Rattle.source_blocks.specs.class_table.Chains.{parents, parent_named, chain, with_last}
+use Rattle.source_blocks.specs.class_table.Members.{class_at, no_class, no_procedure, slots, slots_of, slots_along, with_methods}
+use Rattle.source_blocks.specs.class_table.Overrides.{run_at}
+use Rattle.source_blocks.specs.class_table.Classes.{class_slots, method_named}
+use Rattle.source_blocks.proofs.class_table_laws.Numbers.{length-each_below}
+use Rattle.source_blocks.proofs.class_table_laws.Tables.{table_reads}
+use Rattle.source_blocks.specs.source_steps.Ends.{slot_or_first}
 
 chain_slots : (n : ℕ) (program : Source) (class : ℕ) → slice_get (parents program) class ≡ None
     → slice_get program.classes class ≡ None → slots_along program []
@@ -27,7 +27,7 @@ chain_slots (suc n) program class e f =
     ap (λ p. slots_along program [] (unwrap_or (with_last class (chain n (parents program) (unwrap_or p None))) [])) e
     ∙ ap (λ o. with_methods class 0 (unwrap_or o no_class).methods []) f
 
--- the table's slots are those of the class, also where there is no such class
+-- the table's slots are those of the class, also if there is no such class
 pub slots_read : (program : Source) (class : ℕ) → slots_in (table_of program) class ≡ class_slots program class
 slots_read program class = by (nat_lt class (length program.classes)) refl
   where

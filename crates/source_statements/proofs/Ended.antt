@@ -3,17 +3,17 @@ use Rattle.std.proofs.Common.{◌≡◌, ℕ, refl, sym, ap, subst, ◌∙◌, a
 use Rattle.std.proofs.Common.{false, if◌then◌else◌}
 use Rattle.std.specs.Prelude.{not, Result, MatchResult}
 use Rattle.rpp_tree.specs.Tree.{Expression, Statements}
-use Rattle.roopl_semantics.specs.Run.{Run, ◌>>=◌, give, fault_if}
-use Rattle.roopl_semantics.specs.Store.{Value, State, same_value}
-use Rattle.roopl_semantics.specs.Value.{Cell, Slot, evaluated, read}
-use Rattle.roopl_semantics.specs.Execution.{Setting, holds, fi_fault, loop_fault, delocal_fault, closed, moved_back}
-use Rattle.meaning_machine.specs.Machine.{Config, Part, Chosen, First, Again, Holding, Calling, closing, ended, left}
-use Rattle.meaning_machine.specs.Machine.{Caller as From, turned_to, turned_first}
-use Rattle.source_steps.specs.declared.stop.Stop.{Stop}
-use Rattle.source_steps.specs.declared.stop.Stop.TheVariants as stop
-use Rattle.source_steps.specs.Metered.{Went, metered, Failed, Gives}
-use Rattle.source_steps.specs.StateView.{bindings}
-use Rattle.source_steps.proofs.Fuelled.{goes, fails, gives}
+use Rattle.source_blocks.specs.roopl_semantics.Run.{Run, ◌>>=◌, give, fault_if}
+use Rattle.source_blocks.specs.roopl_semantics.Store.{Value, State, same_value}
+use Rattle.source_blocks.specs.roopl_semantics.Value.{Cell, Slot, evaluated, read}
+use Rattle.source_blocks.specs.roopl_semantics.Execution.{Setting, holds, fi_fault, loop_fault, delocal_fault, closed, moved_back}
+use Rattle.source_blocks.specs.meaning_machine.Machine.{Config, Part, Chosen, First, Again, Holding, Calling, closing, ended, left}
+use Rattle.source_blocks.specs.meaning_machine.Machine.{Caller as From, turned_to, turned_first}
+use Rattle.source_blocks.specs.source_steps.declared.stop.Stop.{Stop}
+use Rattle.source_blocks.specs.source_steps.declared.stop.Stop.TheVariants as stop
+use Rattle.source_blocks.specs.source_steps.Metered.{Went, metered, Failed, Gives}
+use Rattle.source_blocks.specs.source_steps.StateView.{bindings}
+use Rattle.source_blocks.proofs.source_steps_laws.Fuelled.{goes, fails, gives}
 use Rattle.source_blocks.specs.Runs.{leaving, going_on}
 use Rattle.source_blocks.specs.Opens.{HasPart}
 use Rattle.source_statements.proofs.Begun.{given_as, through}
@@ -93,7 +93,7 @@ module _ (setting : Setting) (x : Config) (fuel : ℕ) where
           ∙ gives l (left in_part.inmost in_part.others x.params (closed x.state))
           ∙ ap (λ z. Went z l) (sym (gone ∙ ap (leaving (record x { state = closed x.state })) in_part.is))
 
-  -- the parts of a loop's turn
+  -- the parts of a loop's iteration
   module _ (entry : Expression) (first again : Statements) (exit : Expression) where
     abbrev first_then : HasPart x.around (First entry first again exit) → Value → Run Config
     first_then in_part v = give (turned_first setting x in_part.inmost in_part.others

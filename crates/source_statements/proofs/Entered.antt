@@ -1,20 +1,20 @@
 -- Calls that begin, with so much fuel.
-use Rattle.std.proofs.Common.{◌≡◌, ℕ, ◌+◌, sym, ap, subst, ◌∙◌, List, [], ◌∷◌, ◌++◌, map, length, Bool, Some, None}
+use Rattle.std.proofs.Common.{◌≡◌, ℕ, ◌+◌, sym, ap, subst, ◌∙◌, List, [], ◌∷◌, ◌++◌, map, length, Bool, None}
 use Rattle.std.specs.Prelude.{Result, MatchResult}
 use Rattle.rpp_tree.specs.declared.tree.Ident.{Ident}
-use Rattle.rpp_tree.specs.Tree.{Statement, Statements, End, Whole, Procedure}
-use Rattle.class_table.specs.Classes.{method_named}
-use Rattle.roopl_semantics.specs.Run.{Run, ◌>>=◌, give, spend, fault_if}
-use Rattle.roopl_semantics.specs.Store.{State, Value, Binding, is_nil, number_of}
-use Rattle.roopl_semantics.specs.Value.{Cell, cell_named, own_class, read}
-use Rattle.roopl_semantics.specs.Execution.{Setting, is_too_deep, cells_named, class_of, bound, moved_out, in_direction}
-use Rattle.meaning_machine.specs.Machine.{Config, Calling, called, entered}
-use Rattle.meaning_machine.specs.Machine.{Caller as From}
-use Rattle.source_steps.specs.declared.stop.Stop.{Stop}
-use Rattle.source_steps.specs.declared.stop.Stop.TheVariants as stop
-use Rattle.source_steps.specs.Metered.{Went, metered, Failed, Gives}
-use Rattle.source_steps.proofs.Fuelled.{goes, fails}
-use Rattle.source_steps.proofs.Moves.{moved_out_both}
+use Rattle.rpp_tree.specs.Tree.{Statement, Statements, End, Procedure}
+use Rattle.source_blocks.specs.class_table.Classes.{method_named}
+use Rattle.source_blocks.specs.roopl_semantics.Run.{Run, ◌>>=◌, give, spend, fault_if}
+use Rattle.source_blocks.specs.roopl_semantics.Store.{State, Value, Binding}
+use Rattle.source_blocks.specs.roopl_semantics.Value.{Cell, cell_named, own_class, read}
+use Rattle.source_blocks.specs.roopl_semantics.Execution.{Setting, is_too_deep, cells_named, bound, moved_out, in_direction}
+use Rattle.source_blocks.specs.meaning_machine.Machine.{Config, Calling, called, entered}
+use Rattle.source_blocks.specs.meaning_machine.Machine.{Caller as From}
+use Rattle.source_blocks.specs.source_steps.declared.stop.Stop.{Stop}
+use Rattle.source_blocks.specs.source_steps.declared.stop.Stop.TheVariants as stop
+use Rattle.source_blocks.specs.source_steps.Metered.{Went, metered, Failed, Gives}
+use Rattle.source_blocks.proofs.source_steps_laws.Fuelled.{goes, fails}
+use Rattle.source_blocks.proofs.source_steps_laws.Moves.{moved_out_both}
 use Rattle.source_statements.proofs.Begun.{given_as, through}
 
 module _ (setting : Setting) (x : Config) (s : Statement) (rest : Statements) (at : ℕ) (back : Bool) (method : Ident)
@@ -22,7 +22,7 @@ module _ (setting : Setting) (x : Config) (s : Statement) (rest : Statements) (a
   abbrev st : State
   st = x.state
 
-  -- a call on the present object
+  -- a call on the current object
   abbrev own_call : Run Config
   own_call = called setting x s rest at back None method args
 
@@ -61,59 +61,6 @@ module _ (setting : Setting) (x : Config) (s : Statement) (rest : Statements) (a
   module _ (name : Ident) where
     abbrev cell : Cell
     cell = cell_named setting.program st name.text
-
-    abbrev on_call : Run Config
-    on_call = called setting x s rest at back (Some (Whole name)) method args
-
-    abbrev on_entered : Config
-    on_entered = entered setting x s rest back (method_named setting.program
-        (class_of setting st (number_of (read st cell))) method.text) (number_of (read st cell)) (cell ∷ [])
-        (cells_named setting st args)
-
-    abbrev on_deep : Run Config
-    on_deep = fault_if 14 (is_too_deep setting st) >>= (λ v. give on_entered)
-
-    abbrev on_there : Run Config
-    on_there = fault_if 5 (is_nil (read st cell)) >>= (λ u. on_deep)
-
-    pub on_unpaid : (left : ℕ) (why : Stop) → Failed why left (metered fuel (spend cost))
-        → Failed why left (metered fuel on_call)
-    on_unpaid left why e = fails fuel left (spend (length args)) (λ u. on_there) why
-        (subst (λ k. Failed why left (metered fuel (spend k))) paid e)
-
-    pub on_nil : (one left : ℕ) (why : Stop) (nil : Bool) → metered fuel (spend cost) ≡ Went tt one
-        → Failed why left (metered one (fault_if 5 nil)) → nil ≡ is_nil (read st cell)
-        → Failed why left (metered fuel on_call)
-    on_nil one left why nil p e d =
-        subst (λ m. Failed why left m)
-        (sym (goes fuel one (spend (length args)) tt (λ u. on_there) (ap (λ k. metered fuel (spend k)) (sym paid) ∙ p)))
-        (fails one left (fault_if 5 (is_nil (read st cell))) (λ v. on_deep) why
-        (subst (λ t. Failed why left (metered one (fault_if 5 t))) d e))
-
-    pub on_too_deep : (one two left : ℕ) (why : Stop) (nil deep : Bool) → metered fuel (spend cost) ≡ Went tt one
-        → metered one (fault_if 5 nil) ≡ Went tt two → nil ≡ is_nil (read st cell)
-        → Failed why left (metered two (fault_if 14 deep)) → deep ≡ is_too_deep setting st
-        → Failed why left (metered fuel on_call)
-    on_too_deep one two left why nil deep p q n e d =
-        subst (λ m. Failed why left m)
-        (sym (goes fuel one (spend (length args)) tt (λ u. on_there) (ap (λ k. metered fuel (spend k)) (sym paid) ∙ p)
-        ∙ goes one two (fault_if 5 (is_nil (read st cell))) tt (λ u. on_deep)
-        (ap (λ t. metered one (fault_if 5 t)) (sym n) ∙ q)))
-        (fails two left (fault_if 14 (is_too_deep setting st)) (λ v. give on_entered) why
-        (subst (λ t. Failed why left (metered two (fault_if 14 t))) d e))
-
-    pub on_goes : {E : Type 0} (result : Result E Stop) (one two three : ℕ) (nil deep : Bool) (y : Config)
-        → metered fuel (spend cost) ≡ Went tt one → metered one (fault_if 5 nil) ≡ Went tt two
-        → metered two (fault_if 14 deep) ≡ Went tt three → nil ≡ is_nil (read st cell)
-        → deep ≡ is_too_deep setting st → MatchResult result (λ u. y ≡ on_entered) (λ why. why ≡ stop.NoMemory)
-        → Gives (λ (e : E). y) result three (metered fuel on_call)
-    on_goes result one two three nil deep y p q r n d m =
-        through (λ e. y) result fuel one three (spend (length args)) tt (λ u. on_there)
-        (ap (λ k. metered fuel (spend k)) (sym paid) ∙ p)
-        (through (λ e. y) result one two three (fault_if 5 (is_nil (read st cell))) tt (λ u. on_deep)
-        (ap (λ t. metered one (fault_if 5 t)) (sym n) ∙ q)
-        (through (λ e. y) result two three three (fault_if 14 (is_too_deep setting st)) tt (λ v. give on_entered)
-        (ap (λ t. metered two (fault_if 14 t)) (sym d) ∙ r) (given_as result three y on_entered m)))
 
 -- ---- what a call leads to
 

@@ -1,7 +1,6 @@
 -- The last of a list, and what the innermost open statement is.
 use Rattle.std.proofs.Common.{◌≡◌, ◌-◌, suc, refl, ap, ◌∙◌, arith, List, [], ◌∷◌, ◌++◌, map, reverse, length, Some}
 use Rattle.std.specs.Prelude.{slice_get}
-use Rattle.meaning_machine.specs.Machine.{Part as Runs}
 use Rattle.source_blocks.specs.declared.frames.Frame.{Frame}
 use Rattle.source_blocks.specs.Opens.{open_of, part_of, HasPart}
 use Rattle.source_blocks.proofs.Opened.{around_more}
@@ -34,7 +33,3 @@ part_at_end frames frame e =
       is = ap (λ (fs : List Frame). map open_of (reverse fs)) last.is ∙ around_more last.front frame;
       same = refl;
     }
-
-pub part_as : (frames : List Frame) (part part' : Runs) → part ≡ part' → HasPart (map open_of (reverse frames)) part
-    → HasPart (map open_of (reverse frames)) part'
-part_as frames part part' e h = record { inmost = h.inmost; others = h.others; is = h.is; same = h.same ∙ e }

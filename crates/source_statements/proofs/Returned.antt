@@ -3,17 +3,17 @@ use Rattle.std.proofs.Common.{◌≡◌, ℕ, suc, sym, ap, ap₂, subst, ◌∙
 use Rattle.std.proofs.Common.{length, Some}
 use Rattle.std.proofs.lemmas.List.{length-map}
 use Rattle.std.proofs.lemmas.List.Elements.{All-pop}
-use Rattle.roopl_semantics.specs.Store.{State}
-use Rattle.roopl_semantics.specs.Execution.{moved_back}
-use Rattle.meaning_machine.specs.Machine.{Config, Open, closing, left}
-use Rattle.source_store.specs.declared.value.Value.{Value as Held}
-use Rattle.source_store.specs.HeapView.{Kept}
-use Rattle.source_store.specs.ValueView.{value_of, values_of}
-use Rattle.source_steps.specs.declared.expressions.Setting.{Setting as Here}
-use Rattle.source_steps.specs.declared.stop.Stop.{Stop}
-use Rattle.source_steps.specs.CellView.{cell_of}
-use Rattle.source_steps.specs.Metered.{Went, metered, Failed}
-use Rattle.source_steps.specs.StateView.{setting_of}
+use Rattle.source_blocks.specs.roopl_semantics.Store.{State}
+use Rattle.source_blocks.specs.roopl_semantics.Execution.{moved_back}
+use Rattle.source_blocks.specs.meaning_machine.Machine.{Config, Open, closing, left}
+use Rattle.source_blocks.specs.source_store.declared.value.Value.{Value as Held}
+use Rattle.source_blocks.specs.source_store.HeapView.{Kept}
+use Rattle.source_blocks.specs.source_store.ValueView.{value_of, values_of}
+use Rattle.source_blocks.specs.source_steps.declared.expressions.Setting.{Setting as Here}
+use Rattle.source_blocks.specs.source_steps.declared.stop.Stop.{Stop}
+use Rattle.source_blocks.specs.source_steps.CellView.{cell_of}
+use Rattle.source_blocks.specs.source_steps.Metered.{Went, metered, Failed}
+use Rattle.source_blocks.specs.source_steps.StateView.{setting_of}
 use Rattle.source_blocks.specs.declared.frames.Caller.{Caller}
 use Rattle.source_blocks.specs.declared.frames.Frame.{Frame}
 use Rattle.source_blocks.specs.declared.frames.Part.TheVariants as runs

@@ -1,14 +1,14 @@
 -- A step of a run.
 use Rattle.std.proofs.Common.{◌≡◌, ◌<◌, ◌≤◌, ◌+◌, ◌*◌, ℕ, sym, ap, subst, arith, Bool, true, false}
 use Rattle.std.specs.Prelude.{Result, Ok, Err, OnOk}
-use Rattle.roopl_semantics.specs.Run.{◌>>=◌, spend}
-use Rattle.roopl_semantics.specs.Execution.{Setting}
-use Rattle.meaning_machine.specs.Machine.{Config, closing, stepped}
-use Rattle.meaning_machine.specs.Reversed.{stepped_back}
-use Rattle.source_steps.specs.declared.stop.Stop.{Stop}
-use Rattle.source_steps.specs.Metered.{Went, metered, Failed, Gives}
-use Rattle.source_steps.specs.StateView.{setting_of}
-use Rattle.source_steps.proofs.Fuelled.{goes, fails}
+use Rattle.source_blocks.specs.roopl_semantics.Run.{◌>>=◌, spend}
+use Rattle.source_blocks.specs.roopl_semantics.Execution.{Setting}
+use Rattle.source_blocks.specs.meaning_machine.Machine.{Config, closing, stepped}
+use Rattle.source_blocks.specs.meaning_machine.Reversed.{stepped_back}
+use Rattle.source_blocks.specs.source_steps.declared.stop.Stop.{Stop}
+use Rattle.source_blocks.specs.source_steps.Metered.{Went, metered, Failed, Gives}
+use Rattle.source_blocks.specs.source_steps.StateView.{setting_of}
+use Rattle.source_blocks.proofs.source_steps_laws.Fuelled.{goes, fails}
 use Rattle.source_blocks.specs.declared.run.Run.{Run}
 use Rattle.source_blocks.specs.Blocks.{count_of}
 use Rattle.source_blocks.specs.Tasks.{task_of}

@@ -2,13 +2,13 @@
 use Rattle.std.specs.Prelude.{◌≡◌, ◌<◌, ℕ, Bool, List, [], ◌∷◌, length}
 use Rattle.rpp_tree.specs.Tree.{Expression}
 use Rattle.rpp_tree.specs.Views.{expression_of}
-use Rattle.roopl_semantics.specs.Store.{State, Value}
-use Rattle.roopl_semantics.specs.Value.{Cell}
-use Rattle.meaning_machine.specs.Machine.{Config, Open, Chosen, Calling, Caller as From}
-use Rattle.source_store.specs.HeapView.{Kept}
-use Rattle.source_store.specs.ValueView.{values_of}
-use Rattle.source_steps.specs.StateView.{bindings}
-use Rattle.source_steps.specs.declared.expressions.Setting.{Setting as Here}
+use Rattle.source_blocks.specs.roopl_semantics.Store.{State, Value}
+use Rattle.source_blocks.specs.roopl_semantics.Value.{Cell}
+use Rattle.source_blocks.specs.meaning_machine.Machine.{Config, Open, Chosen, Calling, Caller as From}
+use Rattle.source_blocks.specs.source_store.HeapView.{Kept}
+use Rattle.source_blocks.specs.source_store.ValueView.{values_of}
+use Rattle.source_blocks.specs.source_steps.StateView.{bindings}
+use Rattle.source_blocks.specs.source_steps.declared.expressions.Setting.{Setting as Here}
 use Rattle.source_blocks.specs.declared.frames.Caller.{Caller}
 use Rattle.source_blocks.specs.declared.frames.Part.TheVariants as runs
 use Rattle.source_statements.specs.declared.ends.Ending.{Ending}
@@ -53,7 +53,7 @@ pub record HasRoom (here : Here) (caller : Caller) (heap : Kept) : Type 0 where
   pub each : length caller.values.items ≡ length (caller_names caller)
   pub order : heap.order ≡ here.limits.heap
 
--- a measure falls where a statement is open
+-- a measure falls if a statement is open
 abbrev pub Falls : List Open → ℕ → ℕ → Type 0
 Falls [] after first = Unit {0}
 Falls (o ∷ around) after first = after < first

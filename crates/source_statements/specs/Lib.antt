@@ -1,2 +1,12 @@
+pub use Rattle.source_blocks.specs.rpp_words
+pub use Rattle.rpp_tree.specs as rpp_tree
+pub use Rattle.source_blocks.specs.class_table
+pub use Rattle.source_blocks.specs.stmt_inverter
+pub use Rattle.source_blocks.specs.roopl_semantics
+pub use Rattle.source_blocks.specs.meaning_points
+pub use Rattle.source_blocks.specs.meaning_machine
+pub use Rattle.source_blocks.specs.source_store
+pub use Rattle.source_blocks.specs.source_steps
+pub use Rattle.source_blocks.specs as source_blocks
 pub mod Endings
 pub mod Steps

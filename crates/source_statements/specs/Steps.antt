@@ -1,14 +1,13 @@
--- Steps of a run, also of one that is turned round: there `new` and `delete` take requests to the
--- heap back.
+-- Steps of a run, also of a reversed one: there `new` and `delete` undo requests to the heap.
 use Rattle.std.specs.Prelude.{◌<◌, ℕ, Bool, true, false, List}
 use Rattle.rpp_tree.specs.Tree.{Statement, Statements, End, Then}
-use Rattle.roopl_semantics.specs.Run.{Run}
-use Rattle.roopl_semantics.specs.Execution.{Setting}
-use Rattle.meaning_machine.specs.Machine.{Config, Open, begun, next}
-use Rattle.meaning_machine.specs.Reversed.{begun_back, back}
+use Rattle.source_blocks.specs.roopl_semantics.Run.{Run}
+use Rattle.source_blocks.specs.roopl_semantics.Execution.{Setting}
+use Rattle.source_blocks.specs.meaning_machine.Machine.{Config, Open, begun, next}
+use Rattle.source_blocks.specs.meaning_machine.Reversed.{begun_back, back}
 use Rattle.source_statements.specs.Endings.{Falls}
 
--- a statement that begins, and a step, where the run is turned round or not
+-- a statement that begins, and a step, whether the run is reversed or not
 abbrev pub begun_in : Bool → Setting → Config → Statement → Statements → Run Config
 begun_in true setting x s rest = begun_back setting x s rest
 begun_in false setting x s rest = begun setting x s rest

@@ -2,12 +2,12 @@
 ghost use Rattle.std.specs.Prelude.{◌≡◌, ◌+◌, ◌<◌, ◌≤◌, ◌^◌, OnOk, MatchResult, length, true, if◌then◌else◌};
 ghost use Rattle.rpp_tree.specs.Tree.{If, From as Repeat, Null};
 ghost use Rattle.rpp_tree.specs.Views.{expression_of, block_of, statement_of};
-ghost use Rattle.roopl_semantics.specs.Execution.{in_direction, opened};
-ghost use Rattle.meaning_machine.specs.Machine.{begun, held_local, inside, Chosen, Holding};
-ghost use Rattle.source_store.specs.ValueView.{value_of};
-ghost use Rattle.source_steps.specs.Ends.{turned};
-ghost use Rattle.source_steps.specs.Metered.{Gives, metered};
-ghost use Rattle.source_steps.specs.StateView.{setting_of};
+ghost use Rattle.source_blocks.specs.roopl_semantics.Execution.{in_direction, opened};
+ghost use Rattle.source_blocks.specs.meaning_machine.Machine.{begun, held_local, inside, Chosen, Holding};
+ghost use Rattle.source_blocks.specs.source_store.ValueView.{value_of};
+ghost use Rattle.source_blocks.specs.source_steps.Ends.{turned};
+ghost use Rattle.source_blocks.specs.source_steps.Metered.{Gives, metered};
+ghost use Rattle.source_blocks.specs.source_steps.StateView.{setting_of};
 ghost use Rattle.source_blocks.specs.Blocks.{count_of};
 ghost use Rattle.source_blocks.specs.Tasks.{task_of, line_of};
 ghost use Rattle.source_blocks.specs.Opens.{closing_of};
@@ -88,7 +88,7 @@ fn open_side<'a>(run: &mut Run<'a>, side: bool, choice: &Choice<'a>) -> Result<(
     }
 }
 
-/// A loop begins: its first part is open where its entry holds.
+/// A loop begins: its first part is open if its entry holds.
 fn repeat<'a>(run: &mut Run<'a>, fuel: &mut u64, at: u32, turns: &Loop<'a>) -> Result<(), Stop>
     requires sound { IsSound run.old }
     requires within { run.old.at < count_of (task_of run.old.task) }

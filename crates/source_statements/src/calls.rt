@@ -3,15 +3,15 @@ ghost use Rattle.std.specs.Prelude.{◌≡◌, ◌+◌, ◌<◌, ◌≤◌, ◌^
 ghost use Rattle.std.specs.Option.{unwrap_or, option_map};
 ghost use Rattle.rpp_tree.specs.Tree.{Whole, Procedure};
 ghost use Rattle.rpp_tree.specs.Views.{procedure_of, optional_lvalue_of};
-ghost use Rattle.class_table.specs.Members.{no_procedure};
-ghost use Rattle.class_table.specs.Classes.{method_named};
-ghost use Rattle.roopl_semantics.specs.Value.{read, cell_named};
-ghost use Rattle.roopl_semantics.specs.Execution.{in_direction, cells_named, class_of, moved_out, bound};
-ghost use Rattle.meaning_machine.specs.Machine.{called, entered, held_local};
-ghost use Rattle.source_store.specs.ValueView.{value_of, values_of};
-ghost use Rattle.source_steps.specs.CellView.{cell_of};
-ghost use Rattle.source_steps.specs.Metered.{Gives, metered};
-ghost use Rattle.source_steps.specs.StateView.{setting_of};
+ghost use Rattle.source_blocks.specs.class_table.Members.{no_procedure};
+ghost use Rattle.source_blocks.specs.class_table.Classes.{method_named};
+ghost use Rattle.source_blocks.specs.roopl_semantics.Value.{read, cell_named};
+ghost use Rattle.source_blocks.specs.roopl_semantics.Execution.{in_direction, cells_named, class_of, moved_out, bound};
+ghost use Rattle.source_blocks.specs.meaning_machine.Machine.{called, entered, held_local};
+ghost use Rattle.source_blocks.specs.source_store.ValueView.{value_of, values_of};
+ghost use Rattle.source_blocks.specs.source_steps.CellView.{cell_of};
+ghost use Rattle.source_blocks.specs.source_steps.Metered.{Gives, metered};
+ghost use Rattle.source_blocks.specs.source_steps.StateView.{setting_of};
 ghost use Rattle.source_blocks.specs.Blocks.{count_of};
 ghost use Rattle.source_blocks.specs.Tasks.{task_of};
 ghost use Rattle.source_blocks.specs.Opens.{cells_in, values_in, part_of, IsCaller};
@@ -31,7 +31,7 @@ use source_store::Value;
 use std::mem::replace;
 use std::slice::from_ref;
 
-/// What the body of a method is, in the direction of its call: nothing where there is no method.
+/// What the body of a method is, in the direction of its call: nothing if there is no method.
 fn task_for<'a>(method: Option<&'a Method>, back: bool) -> Task<'a>
     ensures { task_of result ≡ in_direction back
         (unwrap_or (option_map (λ method. procedure_of method.now) method.entry) no_procedure).body }
@@ -65,7 +65,7 @@ fn params_for<'a>(method: Option<&'a Method>, inside: &mut Vec<Value>) -> &'a [V
     }
 }
 
-/// The receiver of a call with its value, where it is a variable or a field.
+/// The receiver of a call with its value, if it is a variable or a field.
 fn receiver_of(run: &Run, cell: Option<Cell>) -> Option<Receiver>
     requires sound { IsSound run.now }
     ensures cells { cells_in result ≡ only_cell cell }
@@ -92,7 +92,7 @@ fn empty(run: &mut Run, cells: &[Cell])
     move_out(&run.setting, &scope, &mut run.heap, &mut run.values, cells);
 }
 
-/// A cell alone.
+/// Only a cell.
 pub fn alone(cell: &Cell) -> &[Cell]
     ensures cell { map cell_of result.now ≡ cell_of cell.now ∷ [] }
     ensures one { length result.now ≡ 1 }
@@ -266,7 +266,7 @@ fn values_in_order(run: &Run, cells: &Vec<Cell>) -> Result<Vec<Value>, Stop>
     }
 }
 
-/// A call of a method of the present object begins.
+/// A call of a method of the current object begins.
 fn call_own<'a>(run: &mut Run<'a>, fuel: &mut u64, calls: &Calls<'a>) -> Result<(), Stop>
     requires sound { IsSound run.old }
     requires within { run.old.at < count_of (task_of run.old.task) }
@@ -335,7 +335,7 @@ fn named(run: &Run, name: &Text) -> (Cell, Value)
     (cell, value)
 }
 
-/// A call begins: on an element, a local variable holds the element meanwhile.
+/// A call begins: on an element, a local variable holds the element during the call.
 pub fn call<'a>(
     run: &mut Run<'a>,
     fuel: &mut u64,

@@ -1,13 +1,13 @@
 // The end of a block.
 ghost use Rattle.std.specs.Prelude.{◌≡◌, ◌+◌, ◌*◌, ◌<◌, ◌≤◌, ◌^◌, ◌++◌, [], suc, not, if◌then◌else◌, OnOk, OnErr, length, map, reverse};
 ghost use Rattle.rpp_tree.specs.Views.{expression_of};
-ghost use Rattle.roopl_semantics.specs.Value.{Slot, read};
-ghost use Rattle.roopl_semantics.specs.Execution.{closed, moved_back};
-ghost use Rattle.meaning_machine.specs.Machine.{closing};
-ghost use Rattle.source_store.specs.ValueView.{value_of, values_of};
-ghost use Rattle.source_steps.specs.CellView.{cell_of};
-ghost use Rattle.source_steps.specs.Metered.{Gives, metered};
-ghost use Rattle.source_steps.specs.StateView.{setting_of};
+ghost use Rattle.source_blocks.specs.roopl_semantics.Value.{Slot, read};
+ghost use Rattle.source_blocks.specs.roopl_semantics.Execution.{closed, moved_back};
+ghost use Rattle.source_blocks.specs.meaning_machine.Machine.{closing};
+ghost use Rattle.source_blocks.specs.source_store.ValueView.{value_of, values_of};
+ghost use Rattle.source_blocks.specs.source_steps.CellView.{cell_of};
+ghost use Rattle.source_blocks.specs.source_steps.Metered.{Gives, metered};
+ghost use Rattle.source_blocks.specs.source_steps.StateView.{setting_of};
 ghost use Rattle.source_blocks.specs.Blocks.{past_at, rest_at, count_of};
 ghost use Rattle.source_blocks.specs.Tasks.{task_of};
 ghost use Rattle.source_blocks.specs.Opens.{open_of, part_of, caller_of, caller_names, cells_in, values_in, HasPart};
@@ -34,7 +34,7 @@ pub enum Ending<'a> {
         test: &'a Expr,
         after: &'a Expr,
     },
-    /// The first part of a loop's turn.
+    /// The first part of a loop's iteration.
     First(Loop<'a>),
     /// The second.
     Again(Loop<'a>),
@@ -95,7 +95,7 @@ fn end_side(run: &mut Run, fuel: &mut u64, side: bool, after: &Expr) -> Result<(
     }
 }
 
-/// The first part of a loop's turn ends: the loop is left where its exit holds.
+/// The first part of a loop's iteration ends: the loop is left if its exit holds.
 fn end_first<'a>(run: &mut Run<'a>, fuel: &mut u64, turns: &Loop<'a>) -> Result<(), Stop>
     requires sound { IsSound run.old }
     requires within { HasPart (config_of run.old).around (part_of (Part.First turns.now)) }
@@ -124,7 +124,8 @@ fn end_first<'a>(run: &mut Run<'a>, fuel: &mut u64, turns: &Loop<'a>) -> Result<
     }
 }
 
-/// The second part of a loop's turn ends: the next turn begins where the entry does not hold.
+/// The second part of a loop's iteration ends: the next iteration begins if the entry does not
+/// hold.
 fn end_again<'a>(run: &mut Run<'a>, fuel: &mut u64, turns: &Loop<'a>) -> Result<(), Stop>
     requires sound { IsSound run.old }
     requires within { HasPart (config_of run.old).around (part_of (Part.Again turns.now)) }
@@ -174,8 +175,8 @@ fn innermost(run: &Run) -> Value
     read_cell(&run.setting, &scope, &run.heap, &run.values, Cell::Slot(0))
 }
 
-/// The block of a local variable ends: its value is compared with the closing one, and it goes.
-/// Where no local variable is open, that is refused, as want of memory.
+/// The block of a local variable ends: its value is compared with the closing one, and it goes. If
+/// no local variable is in scope, that is refused, as `NoMemory`.
 fn end_local(run: &mut Run, fuel: &mut u64, local: &Local) -> Result<(), Stop>
     requires sound { IsSound run.old }
     requires within { HasPart (config_of run.old).around (part_of (Part.Holding local.now)) }
@@ -203,7 +204,7 @@ fn end_local(run: &mut Run, fuel: &mut u64, local: &Local) -> Result<(), Stop>
     }
 }
 
-/// The values of a receiver and of the arguments move back to a caller. Where one finds its cell
+/// The values of a receiver and of the arguments move back to a caller. If one finds its cell
 /// written, all stays.
 fn give_back(
     setting: &Setting,
@@ -251,7 +252,7 @@ fn give_back(
     }
 }
 
-/// A method is past: what its caller stood in is open again.
+/// A method is past: what encloses its caller is active again.
 fn become_caller<'a>(run: &mut Run<'a>, task: Task<'a>, at: usize, caller: Caller<'a>)
     requires within { at < count_of (task_of task) }
     requires sound { IsSound run.old }
@@ -282,7 +283,7 @@ fn become_caller<'a>(run: &mut Run<'a>, task: Task<'a>, at: usize, caller: Calle
     run.at = at + 1;
 }
 
-/// What a caller stands in.
+/// What encloses a caller.
 fn caller_setting<'a>(setting: &Setting<'a>, caller: &Caller) -> Setting<'a>
     ensures { result ≡ record setting.now {
       object = caller.now.object;

@@ -1,7 +1,7 @@
-//! How the statements of a run of the source begin, and how their blocks end: choices, loops, local
-//! variables, `construct` and calls. A layer above may use that `step` is a step of the machine of
-//! the meaning, also of the one turned round, with the fuel that is left, and that fuel and open
-//! statements bound the steps; and `method_at`, the text of a method.
+//! The begin of statements in a run of the source, and the end of their blocks. These are choices,
+//! loops, local variables, `construct` and calls. A layer above may use that `step` is a step of
+//! the machine of the semantics, also of the reversed one, with the fuel that is left. Fuel and
+//! enclosing statements bound the steps. It may also use `method_at`, the source of a method.
 #![tactic(auto)]
 
 mod begins;

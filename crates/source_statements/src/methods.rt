@@ -2,10 +2,10 @@
 ghost use Rattle.std.specs.Prelude.{◌≡◌, ◌+◌, ◌<◌, ◌≤◌, map, min, length, take, slice_get, not, nat_lt};
 ghost use Rattle.std.specs.Option.{unwrap_or, option_map};
 ghost use Rattle.rpp_tree.specs.Views.{source_of, procedure_of};
-ghost use Rattle.class_table.specs.Members.{class_at, no_procedure};
-ghost use Rattle.class_table.specs.Classes.{method_named};
-ghost use Rattle.source_steps.specs.Ends.{slot_or_first};
-ghost use Rattle.source_steps.specs.StateView.{setting_of};
+ghost use Rattle.source_blocks.specs.class_table.Members.{class_at, no_procedure};
+ghost use Rattle.source_blocks.specs.class_table.Classes.{method_named};
+ghost use Rattle.source_blocks.specs.source_steps.Ends.{slot_or_first};
+ghost use Rattle.source_blocks.specs.source_steps.StateView.{setting_of};
 
 use class_table::{MethodId, methods_at};
 use rpp_tree::text::Text;
@@ -67,7 +67,7 @@ pub fn begin<'a>(inside: &mut Vec<Value>, method: &'a Method) -> &'a [Var]
     &method.params[..count]
 }
 
-/// One more open call.
+/// One more active call.
 fn deeper(depth: u32, deep: u32) -> u32
     requires { depth < deep }
     ensures { result ≡ 1 + depth }
@@ -75,7 +75,7 @@ fn deeper(depth: u32, deep: u32) -> u32
     depth + 1
 }
 
-/// What a called method stands in.
+/// The setting of a called method.
 pub fn called<'a>(setting: &Setting<'a>, object: u32) -> Setting<'a>
     requires { setting.now.depth < (setting_of setting.now).limits.deep }
     ensures { result ≡ record {
@@ -102,7 +102,7 @@ pub fn cost_of(args: &[Ident]) -> u64
     args.len() as u64
 }
 
-/// Whether as many calls are open as may be.
+/// Whether as many calls are active as there may be.
 pub fn is_deep(setting: &Setting) -> bool
     ensures { result ≡ not (nat_lt setting.now.depth (setting_of setting.now).limits.deep) }
 {

@@ -1,7 +1,7 @@
 // A step of a run: a statement of the block that runs begins, or the block ends.
 ghost use Rattle.std.specs.Prelude.{◌≡◌, ◌+◌, ◌*◌, ◌<◌, ◌≤◌, OnOk, length, true};
-ghost use Rattle.source_steps.specs.Metered.{Gives, metered};
-ghost use Rattle.source_steps.specs.StateView.{setting_of};
+ghost use Rattle.source_blocks.specs.source_steps.Metered.{Gives, metered};
+ghost use Rattle.source_blocks.specs.source_steps.StateView.{setting_of};
 ghost use Rattle.source_blocks.specs.Blocks.{count_of};
 ghost use Rattle.source_blocks.specs.Tasks.{task_of, line_of};
 ghost use Rattle.source_blocks.specs.Requests.{is_request as asks};
@@ -13,7 +13,7 @@ use crate::ends::end;
 use source_blocks::{Line, Run, is_request, line_at, pass, take_line_back};
 use source_steps::{Stop, spend};
 
-/// A `new` or `delete` begins where the run is turned round, and is past.
+/// A `new` or `delete` begins in a reversed run, and is past.
 fn begin_request(run: &mut Run, fuel: &mut u64, line: &Line) -> Result<(), Stop>
     requires sound { IsSound run.old }
     requires within { run.old.at < count_of (task_of run.old.task) }
@@ -36,7 +36,7 @@ fn begin_request(run: &mut Run, fuel: &mut u64, line: &Line) -> Result<(), Stop>
     }
 }
 
-/// A statement of the block that runs begins, where the run is turned round or not.
+/// A statement of the block that runs begins, whether the run is reversed or not.
 fn begin_line<'a>(
     run: &mut Run<'a>,
     fuel: &mut u64,
@@ -63,7 +63,7 @@ fn begin_line<'a>(
     begin(run, fuel, line)
 }
 
-/// A step of a run, turned round or not.
+/// A step of a run, reversed or not.
 pub fn step<'a>(run: &mut Run<'a>, fuel: &mut u64, back: bool) -> Result<(), Stop>
     requires sound { IsSound run.old }
     ensures gives { Gives (λ u. config_of run.new) result fuel.new

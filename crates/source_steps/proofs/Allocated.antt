@@ -1,22 +1,18 @@
 -- New objects and arrays.
 use Rattle.std.proofs.Common.{◌≡◌, ℕ, ◌+◌, refl, sym, ap, subst, ◌∙◌, List, ◌∷◌, length, Bool, true, false}
 use Rattle.std.specs.Prelude.{◌||◌, nat_lt, is_none}
-use Rattle.buddy_book.specs.Place.{Taken, count_taken, place}
-use Rattle.roopl_semantics.specs.Run.{Run, ◌>>=◌, give, fault_if}
-use Rattle.roopl_semantics.specs.Store.{State, Value, Name, Head}
-use Rattle.roopl_semantics.specs.Value.{Cell, written}
-use Rattle.roopl_semantics.specs.Execution.{Setting, allocated, order_of_cells, new_object, heap_full_fault}
+use Rattle.source_store.specs.buddy_book.Place.{Taken, count_taken, place}
+use Rattle.source_store.specs.roopl_semantics.Run.{Run, ◌>>=◌, give, fault_if}
+use Rattle.source_store.specs.roopl_semantics.Store.{State, Value, Name, Head}
+use Rattle.source_store.specs.roopl_semantics.Value.{Cell, written}
+use Rattle.source_store.specs.roopl_semantics.Execution.{Setting, allocated, order_of_cells, new_object, heap_full_fault}
 use Rattle.source_store.specs.declared.value.Value.{Value as Held}
-use Rattle.source_store.specs.HeapView.{Kept, asked_for, TookBlock, TookNone}
+use Rattle.source_store.specs.HeapView.{Kept, asked_for, TookBlock}
 use Rattle.source_steps.specs.declared.scope.Scope.{Scope as Chain}
 use Rattle.source_steps.specs.declared.expressions.Setting.{Setting as Here}
-use Rattle.source_steps.specs.Metered.{Went, Stopped, stopped, metered}
+use Rattle.source_steps.specs.Metered.{Went, metered}
 use Rattle.source_steps.specs.StateView.{state_of, setting_of}
-use Rattle.source_steps.proofs.Fuelled.{gives, left_none}
-
-abbrev full : Setting → ℕ → State → Bool
-full setting size st = nat_lt setting.limits.heap (order_of_cells size) || is_none
-    (place setting.limits.heap (Taken (2 + count_taken st.log) (order_of_cells size) ∷ st.log))
+use Rattle.source_steps.proofs.Fuelled.{gives}
 
 abbrev with_new : ℕ → Cell → Head → List Value → State → State
 with_new size cell head cells st =
@@ -27,40 +23,12 @@ with_new size cell head cells st =
 abbrev by_full : ℕ → Cell → Head → List Value → State → Bool → Run State
 by_full size cell head cells st t = fault_if heap_full_fault t >>= (λ u. give (with_new size cell head cells st))
 
-full_stops : (size : ℕ) (cell : Cell) (head : Head) (cells : List Value) (st : State) (fuel : ℕ)
-    → metered fuel (by_full size cell head cells st true) ≡ Stopped heap_full_fault fuel
-full_stops size cell head cells st fuel = ap (stopped heap_full_fault) (left_none fuel)
-
 room_goes : (size : ℕ) (cell : Cell) (head : Head) (cells : List Value) (st : State) (fuel : ℕ)
     → metered fuel (by_full size cell head cells st false) ≡ Went (with_new size cell head cells st) fuel
 room_goes size cell head cells st fuel = gives fuel (with_new size cell head cells st)
 
--- the order is above the heap's
-pub too_large : (setting : Setting) (size fuel : ℕ) (cell : Cell) (head : Head) (cells : List Value) (st : State)
-    → nat_lt setting.limits.heap (order_of_cells size) ≡ true
-    → metered fuel (allocated setting size cell head cells st) ≡ Stopped heap_full_fault fuel
-too_large setting size fuel cell head cells st e =
-    ap (λ t. metered fuel (by_full size cell head cells st
-    (t || is_none (place setting.limits.heap (Taken (2 + count_taken st.log) (order_of_cells size) ∷ st.log)))))
-    e
-    ∙ full_stops size cell head cells st fuel
-
 or_none : (a b : Bool) → a ≡ false → a || b ≡ b
 or_none a b e = ap (λ t. t || b) e
-
--- the heap has no block
-pub no_block : (setting : Setting) (size fuel : ℕ) (cell : Cell) (head : Head) (cells : List Value) (st : State)
-    (old new : Kept) → nat_lt setting.limits.heap (order_of_cells size) ≡ false → old.order ≡ setting.limits.heap
-    → old.log ≡ st.log → TookNone old new size
-    → metered fuel (allocated setting size cell head cells st) ≡ Stopped heap_full_fault fuel
-no_block setting size fuel cell head cells st old new e o l took =
-    ap (λ t. metered fuel (by_full size cell head cells st t))
-    (or_none (nat_lt setting.limits.heap (order_of_cells size))
-    (is_none (place setting.limits.heap (Taken (2 + count_taken st.log) (order_of_cells size) ∷ st.log))) e
-    ∙ ap (λ h. is_none (place h (Taken (2 + count_taken st.log) (order_of_cells size) ∷ st.log))) (sym o)
-    ∙ ap (λ log. is_none (place old.order (Taken (2 + count_taken log) (order_of_cells size) ∷ log))) (sym l)
-    ∙ took.no_block)
-    ∙ full_stops size cell head cells st fuel
 
 -- the heap has a block
 pub a_block : (setting : Setting) (fuel name : ℕ) (cell : Cell) (head : Head) (cells : List Value) (st : State)

@@ -5,9 +5,9 @@ use Rattle.std.specs.Prelude.{◌||◌}
 use Rattle.rpp_tree.specs.declared.tree.Ident.{Ident}
 use Rattle.rpp_tree.specs.declared.tree.BinOp.TheVariants as op
 use Rattle.rpp_tree.specs.Tree.{Expression, Number, Null, Variable, Element, Binary, Source}
-use Rattle.roopl_semantics.specs.Store.{State, same_value}
-use Rattle.roopl_semantics.specs.Value.{variable_value}
-use Rattle.roopl_semantics.specs.Elements.{elements, is_among}
+use Rattle.source_store.specs.roopl_semantics.Store.{State, same_value}
+use Rattle.source_store.specs.roopl_semantics.Value.{variable_value}
+use Rattle.source_store.specs.roopl_semantics.Elements.{elements, is_among}
 use Rattle.source_steps.specs.Apart.{count_elements, meets}
 
 pub count_one : (e : Expression) → length (elements e) ≡ count_elements e

@@ -4,14 +4,11 @@ use Rattle.std.proofs.Common.{false, Some, None, if◌then◌else◌}
 use Rattle.std.proofs.lemmas.Bool.{leb-true, leb-false, le-leb}
 use Rattle.std.specs.Prelude.{nat_le, Option, Result, Ok, Err}
 use Rattle.std.specs.Result.{IsErrAnd}
-use Rattle.rpp_tree.specs.Tree.{Statement, Statements, Then}
-use Rattle.roopl_semantics.specs.Store.{State}
-use Rattle.roopl_semantics.specs.Execution.{Setting, statement, exec}
-use Rattle.roopl_semantics.proofs.CostBound.{exec_done_within, exec_fault_within}
-use Rattle.roopl_semantics.specs.Run.{Run, Done, Fault, More, after_cost, ◌>>=◌, give, spend}
+use Rattle.source_store.specs.roopl_semantics.Store.{State}
+use Rattle.source_store.specs.roopl_semantics.Run.{Run, Done, Fault, More, after_cost, ◌>>=◌, give}
 use Rattle.source_steps.specs.declared.stop.Stop.{Stop}
 use Rattle.source_steps.specs.declared.stop.Stop.TheVariants as stop
-use Rattle.source_steps.specs.Metered.{Metered, Went, Stopped, Out, left_of, went, stopped, metered, chain, Failed}
+use Rattle.source_steps.specs.Metered.{Metered, Went, Out, left_of, went, stopped, metered, chain, Failed}
 use Rattle.source_steps.specs.Metered.{Gives}
 
 pub left_yes : (fuel cost : ℕ) → cost ≤ fuel → left_of fuel cost ≡ Some (fuel - cost)
@@ -97,7 +94,7 @@ metered_then fuel (Done x cost) next = metered_after fuel cost (next x) ∙ chai
 metered_then fuel (Fault code cost) next = chain_stopped (left_of fuel cost) code (λ a left. metered left (next a))
 metered_then fuel More next = refl
 
--- goes on behind a run that went well
+-- goes on after a run that went well
 pub goes : {A B : Type 0} (fuel left : ℕ) (run : Run A) (a : A) (next : A → Run B) → metered fuel run ≡ Went a left
     → metered fuel (run >>= next) ≡ metered left (next a)
 goes fuel left run a next e = metered_then fuel run next ∙ ap (λ m. chain m (λ b l. metered l (next b))) e
@@ -113,106 +110,6 @@ fails fuel left run next stop.NoMemory e = tt
 -- gives at no cost
 pub gives : {A : Type 0} (fuel : ℕ) (a : A) → metered fuel (give a) ≡ Went a fuel
 gives fuel a = ap (went a) (left_none fuel)
-
--- where the first run is over within the fuel, the second is the same
-pub record Over {A : Type 0} (fuel : ℕ) (r s : Run A) : Type 0 where
-  pub done : (x : A) (cost : ℕ) → r ≡ Done x cost → cost ≤ fuel → s ≡ Done x cost
-  pub fault : (code cost : ℕ) → r ≡ Fault code cost → cost ≤ fuel → s ≡ Fault code cost
-
-out_too : {A : Type 0} (fuel : ℕ) (r s : Run A) → Over fuel s r → metered fuel r ≡ Out → metered fuel s ≡ Out
-out_too fuel r (Done x cost) over out = by (nat_le cost fuel) refl
-  where
-    by : (t : Bool) → nat_le cost fuel ≡ t → metered fuel (Done x cost) ≡ Out
-    by true e =
-        let l : cost ≤ fuel = leb-true cost fuel e in
-        ap (metered fuel) (sym (over.done x cost refl l)) ∙ out
-    by false e = ap (went x) (left_no fuel cost (leb-false cost fuel e))
-out_too {A = A} fuel r (Fault code cost) over out = by (nat_le cost fuel) refl
-  where
-    by : (t : Bool) → nat_le cost fuel ≡ t → metered {A = A} fuel (Fault code cost) ≡ Out
-    by true e =
-        let l : cost ≤ fuel = leb-true cost fuel e in
-        ap (metered fuel) (sym (over.fault code cost refl l)) ∙ out
-    by false e = ap (stopped code) (left_no fuel cost (leb-false cost fuel e))
-out_too fuel r More over out = refl
-
-same_metered : {A : Type 0} (fuel : ℕ) (r s : Run A) → Over fuel r s → Over fuel s r → metered fuel r ≡ metered fuel s
-same_metered fuel (Done x cost) s there back = by (nat_le cost fuel) refl
-  where
-    by : (t : Bool) → nat_le cost fuel ≡ t → metered fuel (Done x cost) ≡ metered fuel s
-    by true e = ap (metered fuel) (sym (there.done x cost refl (leb-true cost fuel e)))
-    by false e =
-        let out : metered fuel (Done x cost) ≡ Out = ap (went x) (left_no fuel cost (leb-false cost fuel e)) in
-        out ∙ sym (out_too fuel (Done x cost) s back out)
-same_metered {A = A} fuel (Fault code cost) s there back = by (nat_le cost fuel) refl
-  where
-    by : (t : Bool) → nat_le cost fuel ≡ t → metered fuel (Fault code cost) ≡ metered fuel s
-    by true e = ap (metered fuel) (sym (there.fault code cost refl (leb-true cost fuel e)))
-    by false e =
-        let out : metered {A = A} fuel (Fault code cost) ≡ Out =
-        ap (stopped code) (left_no fuel cost (leb-false cost fuel e)) in
-        out ∙ sym (out_too fuel (Fault code cost) s back out)
-same_metered fuel More s there back = sym (out_too fuel More s back refl)
-
--- so much fuel is bound enough
-pub enough : (setting : Setting) (fuel n : ℕ) (body : Statements) (st : State) → fuel ≤ n
-    → metered fuel (exec setting n body st) ≡ metered fuel (exec setting fuel body st)
-enough setting fuel n body st h =
-    same_metered fuel (exec setting n body st) (exec setting fuel body st)
-    (record {
-      done = λ x cost e l. exec_done_within setting n fuel body st x cost e l;
-      fault = λ code cost e l. exec_fault_within setting n fuel body st code cost e l;
-    })
-    (record {
-      done = λ x cost e l. exec_done_within setting fuel n body st x cost e (omega arith);
-      fault = λ code cost e l. exec_fault_within setting fuel n body st code cost e (omega arith);
-    })
-
--- the first statement of a block that has fuel for it
-pub block_next : (setting : Setting) (n fuel one left : ℕ) (s : Statement) (rest : Statements) (st end : State) → 1 ≤ n
-    → metered fuel (spend 1) ≡ Went tt one → metered one (statement setting (n - 1) (exec setting (n - 1)) s st)
-    ≡ Went end left → metered fuel (exec setting n (Then s rest) st) ≡ metered left (exec setting (n - 1) rest end)
-block_next setting zero fuel one left s rest st end h e f = absurd (omega arith)
-block_next setting (suc n) fuel one left s rest st end h e f =
-    let same : suc n - 1 ≡ n = omega arith in
-    let g : metered one (statement setting n (exec setting n) s st) ≡ Went end left =
-    ap (λ k. metered one (statement setting k (exec setting k) s st)) (sym same) ∙ f in
-    goes fuel one (spend 1) tt (λ u. statement setting n (exec setting n) s st >>= (λ next. exec setting n rest next)) e
-    ∙ (goes one left (statement setting n (exec setting n) s st) end (λ next. exec setting n rest next) g
-    ∙ ap (λ k. metered left (exec setting k rest end)) (sym same))
-
-pub block_out : (setting : Setting) (n fuel : ℕ) (s : Statement) (rest : Statements) (st : State)
-    → metered fuel (spend 1) ≡ Out → metered fuel (exec setting n (Then s rest) st) ≡ Out
-block_out setting zero fuel s rest st e = refl
-block_out setting (suc n) fuel s rest st e = metered_then fuel (spend 1) _
-    ∙ ap (λ m. chain m (λ b l. metered l (statement setting n (exec setting n) s st >>=
-    (λ next. exec setting n rest next)))) e
-
-pub block_fails : (setting : Setting) (n fuel one left : ℕ) (s : Statement) (rest : Statements) (st : State)
-    (why : Stop) → 1 ≤ n → metered fuel (spend 1) ≡ Went tt one
-    → Failed why left (metered one (statement setting (n - 1) (exec setting (n - 1)) s st))
-    → Failed why left (metered fuel (exec setting n (Then s rest) st))
-block_fails setting zero fuel one left s rest st why h e k = absurd (omega arith)
-block_fails setting (suc n) fuel one left s rest st why h e k =
-    let same : suc n - 1 ≡ n = omega arith in
-    let k' : Failed why left (metered one (statement setting n (exec setting n) s st)) =
-    subst (λ m. Failed why left (metered one (statement setting m (exec setting m) s st))) same k in
-    subst (λ m. Failed why left m) (sym (goes fuel one (spend 1) tt
-    (λ u. statement setting n (exec setting n) s st >>= (λ next. exec setting n rest next)) e))
-    (fails one left (statement setting n (exec setting n) s st) (λ next. exec setting n rest next) why k')
-
-pub spend_fails : (setting : Setting) (n fuel left : ℕ) (s : Statement) (rest : Statements) (st : State) (why : Stop)
-    → Failed why left (metered fuel (spend 1)) → Failed why left (metered fuel (exec setting n (Then s rest) st))
-spend_fails setting zero fuel left s rest st (stop.Fault code) e = absurd (no_fault (left_of fuel 1) code left e)
-  where
-    no_fault : (o : Option ℕ) (code left : ℕ) → went {A = Unit {0}} tt o ≡ Stopped code left → ⊥
-    no_fault None code left e = cc
-    no_fault (Some k) code left e = cc
-spend_fails setting (suc n) fuel left s rest st (stop.Fault code) e =
-    fails fuel left (spend 1) (λ u. statement setting n (exec setting n) s st >>= (λ next. exec setting n rest next))
-    (stop.Fault code) e
-spend_fails setting n fuel left s rest st stop.More e = block_out setting n fuel s rest st e
-spend_fails setting n fuel left s rest st stop.NoMemory e = tt
 
 -- ---- what is left
 
@@ -240,10 +137,7 @@ left_at_most {A = A} fuel (Fault code cost) x left e = absurd (no_end (left_of f
     no_end (Some k) q = cc
 left_at_most fuel More x left e = cc
 
-pub spent_one : (fuel n : ℕ) (u : Unit {0}) (one : ℕ) → metered fuel (spend 1) ≡ Went u one → fuel ≤ suc n → one ≤ n
-spent_one fuel n u one e h = let k = left_is fuel 1 tt u one e in omega arith
-
--- an error that is handed on
+-- an error that is passed on
 pub handed : {E : Type 0} (result : Result E Stop) (why : Stop) (g : E → State) (left : ℕ) (run : Metered State)
     → IsErrAnd result (λ e. e ≡ why) → Failed why left run → Gives g result left run
 handed (Ok x) why g left run e k = absurd e

@@ -1,3 +1,9 @@
+pub use Rattle.rpp_tree.proofs as rpp_tree_laws
+pub use Rattle.source_store.proofs.class_table_laws
+pub use Rattle.source_store.proofs.stmt_inverter_laws
+pub use Rattle.source_store.proofs.roopl_semantics_laws
+pub use Rattle.source_store.proofs.meaning_points_laws
+pub use Rattle.source_store.proofs.meaning_machine_laws
 pub mod Tables
 pub mod Fuelled
 pub mod LocalRuns
@@ -6,4 +12,3 @@ pub mod Moves
 pub mod Allocated
 pub mod Scopes
 pub mod Restored
-pub mod TakenBack

@@ -1,62 +1,12 @@
 -- Blocks with a local variable.
-use Rattle.std.proofs.Common.{◌≡◌, ℕ, sym, ap, subst, ◌∙◌, List, ◌∷◌, map}
-use Rattle.rpp_tree.specs.Tree.{Expression, Statements, Lvalue, Source}
-use Rattle.roopl_semantics.specs.Run.{Run, ◌>>=◌}
-use Rattle.roopl_semantics.specs.Store.{State, Value, Binding}
-use Rattle.roopl_semantics.specs.Value.{Cell, evaluated, found}
-use Rattle.roopl_semantics.specs.Execution.{exec, opened, with_local}
+use Rattle.std.proofs.Common.{◌≡◌, ℕ, sym, subst, ◌∙◌, ◌∷◌}
+use Rattle.rpp_tree.specs.Tree.{Expression, Lvalue, Source}
+use Rattle.source_store.specs.roopl_semantics.Run.{Run, ◌>>=◌}
+use Rattle.source_store.specs.roopl_semantics.Store.{State, Value}
+use Rattle.source_store.specs.roopl_semantics.Value.{Cell, evaluated, found}
 use Rattle.source_steps.specs.declared.stop.Stop.{Stop}
-use Rattle.source_store.specs.declared.value.Value.{Value as Held}
-use Rattle.source_steps.specs.declared.scope.Scope.{Scope as Chain}
-use Rattle.source_store.specs.HeapView.{Kept as Heap}
-use Rattle.source_steps.specs.declared.expressions.Setting.{Setting as Here}
-use Rattle.source_store.specs.ValueView.{value_of}
 use Rattle.source_steps.specs.Metered.{Went, metered, Failed}
-use Rattle.source_steps.specs.StateView.{IsInner, names_of, bindings, state_of, setting_of}
-use Rattle.source_steps.specs.Ends.{runs, local_end}
 use Rattle.source_steps.proofs.Fuelled.{goes, fails}
-
-pub opened_state : (here : Here) (scope inner : Chain) (heap : Heap) (name : List ℕ) (v : Held)
-    (values items : List Held) → IsInner name scope inner → items ≡ v ∷ values
-    → state_of here inner heap items ≡ opened name (value_of v) (state_of here scope heap values)
-opened_state here scope inner heap name v values items i e =
-    let build : List Binding → State = λ frame. record {
-      frame = frame;
-      self = here.object;
-      depth = here.depth;
-      store = heap.store;
-      log = heap.log;
-    } in
-    ap build (ap (λ names. bindings names (map value_of items)) i.names
-    ∙ ap (λ vs. bindings (name ∷ names_of scope) (map value_of vs)) e)
-
-module _ (here : Here) (scope inner : Chain) (n fuel g : ℕ) (name : List ℕ) (value : Expression) (body : Statements)
-    (end_value : Expression) (heap : Heap) (values items : List Held) (v : Held) (i : IsInner name scope inner)
-    (e : items ≡ v ∷ values)
-    (first : metered fuel (evaluated (setting_of here).program value (state_of here scope heap values))
-    ≡ Went (value_of v) g) where
-  local_body : metered fuel (with_local (setting_of here) (exec (setting_of here) n) name value body end_value
-      (state_of here scope heap values)) ≡ metered g (exec (setting_of here) n body (state_of here inner heap items)
-      >>= local_end (setting_of here) end_value)
-  local_body =
-      goes fuel g (evaluated (setting_of here).program value (state_of here scope heap values)) (value_of v)
-      (λ v. exec (setting_of here) n body (opened name v (state_of here scope heap values)) >>= local_end
-      (setting_of here) end_value) first
-      ∙ ap (λ st. metered g (exec (setting_of here) n body st >>= local_end (setting_of here) end_value))
-      (sym (opened_state here scope inner heap name v values items i e))
-
-  pub local_fails : (g' : ℕ) (why : Stop) → Failed why g' (runs here n g body (state_of here inner heap items))
-      → Failed why g' (metered fuel (with_local (setting_of here) (exec (setting_of here) n) name value body end_value
-      (state_of here scope heap values)))
-  local_fails g' why f = subst (λ m. Failed why g' m) (sym local_body)
-      (fails g g' (exec (setting_of here) n body (state_of here inner heap items))
-      (local_end (setting_of here) end_value) why f)
-
-  pub local_ends : (g' : ℕ) (end : State) → runs here n g body (state_of here inner heap items) ≡ Went end g'
-      → metered fuel (with_local (setting_of here) (exec (setting_of here) n) name value body end_value
-      (state_of here scope heap values)) ≡ metered g' (local_end (setting_of here) end_value end)
-  local_ends g' end f = local_body ∙ goes g g' (exec (setting_of here) n body (state_of here inner heap items)) end
-      (local_end (setting_of here) end_value) f
 
 -- two places and then their check
 module _ (program : Source) (source target : Lvalue) (st : State) (check : Run (Unit {0}))

@@ -2,9 +2,9 @@
 use Rattle.std.proofs.Common.{◌≡◌, ℕ, zero, suc, refl, sym, ap, ◌∙◌, List, [], ◌∷◌, Bool, true, false, Some}
 use Rattle.std.specs.Prelude.{nat_eq, slice_get, slice_set, if◌then◌else◌}
 use Rattle.std.specs.Option.{unwrap_or}
-use Rattle.roopl_semantics.specs.Store.{Value, Nil, Object, Store, Binding, State, object_at, object_named}
-use Rattle.roopl_semantics.specs.Store.{no_object, changed_at}
-use Rattle.roopl_semantics.specs.Value.{Cell, Slot, Part, read, written, value_at, with_value}
+use Rattle.source_store.specs.roopl_semantics.Store.{Value, Nil, Object, Store, Binding, State, object_at, object_named}
+use Rattle.source_store.specs.roopl_semantics.Store.{no_object, changed_at}
+use Rattle.source_store.specs.roopl_semantics.Value.{Cell, Slot, Part, read, written, value_at, with_value}
 
 frame_back : (frame : List Binding) (index : ℕ) (v : Value)
     → with_value (with_value frame index v) index (value_at frame index) ≡ frame

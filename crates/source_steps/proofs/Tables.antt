@@ -7,18 +7,16 @@ use Rattle.std.proofs.lemmas.List.{length-map, map-set}
 use Rattle.std.specs.Prelude.{Option, slice_get, slice_set, nat_lt, position}
 use Rattle.std.specs.Option.{unwrap_or}
 use Rattle.std.specs.Str.{bytes_eq}
-use Rattle.rpp_tree.specs.declared.tree.Var.{Var}
 use Rattle.rpp_tree.specs.Tree.{Source}
-use Rattle.class_table.specs.Table.{Table, table_of, fields_in, field_in}
-use Rattle.class_table.specs.Rules.{class_names}
-use Rattle.class_table.specs.Chains.{parents, parent_named, chain, with_last}
-use Rattle.class_table.specs.Members.{field_of, fields, fields_of, fields_along, no_class}
-use Rattle.class_table.proofs.Numbers.{length-each_below}
-use Rattle.class_table.specs.Classes.{class_fields}
-use Rattle.class_table.proofs.Tables.{table_reads}
-use Rattle.roopl_semantics.specs.Store.{Value, Nil, State}
-use Rattle.roopl_semantics.specs.Value.{Slot, Part, value_at, with_value, slot_of, slot_or_field, cell_named, own_class}
-use Rattle.roopl_semantics.specs.Execution.{bound}
+use Rattle.source_store.specs.class_table.Table.{Table, table_of, fields_in, field_in}
+use Rattle.source_store.specs.class_table.Rules.{class_names}
+use Rattle.source_store.specs.class_table.Chains.{parents, parent_named, chain, with_last}
+use Rattle.source_store.specs.class_table.Members.{field_of, fields, fields_of, fields_along, no_class}
+use Rattle.source_store.proofs.class_table_laws.Numbers.{length-each_below}
+use Rattle.source_store.specs.class_table.Classes.{class_fields}
+use Rattle.source_store.proofs.class_table_laws.Tables.{table_reads}
+use Rattle.source_store.specs.roopl_semantics.Store.{Value, Nil, State}
+use Rattle.source_store.specs.roopl_semantics.Value.{Slot, Part, value_at, with_value, slot_of, slot_or_field, cell_named, own_class}
 use Rattle.source_store.specs.declared.value.Value.{Value as Held}
 use Rattle.source_store.specs.ValueView.{value_of}
 use Rattle.source_steps.specs.declared.scope.Scope.{Scope as Chain}
@@ -47,13 +45,6 @@ binding_names [] values h = refl
 binding_names (name ∷ names) [] h = absurd (omega arith)
 binding_names (name ∷ names) (v ∷ values) h = ap (λ rest. name ∷ rest) (binding_names names values (omega arith))
 
-pub bound_bindings : (vars : List Var) (values : List Value)
-    → bound vars values ≡ bindings (map (λ var. var.name.text) vars) values
-bound_bindings [] values = refl
-bound_bindings (var ∷ vars) [] = refl
-bound_bindings (var ∷ vars) (v ∷ values) = ap (λ rest. record { name = var.name.text; value = v } ∷ rest)
-    (bound_bindings vars values)
-
 pub slot_value : (scope : Chain) (values : List Held) (index : ℕ) → length values ≡ length (names_of scope)
     → value_at (frame_of scope values) index ≡ unwrap_or (slice_get (map value_of values) index) Nil
 slot_value scope values index h = binding_at (names_of scope) (map value_of values) index
@@ -72,7 +63,7 @@ chain_fields (suc n) program class e f =
     ap (λ p. fields_along program (unwrap_or (with_last class (chain n (parents program) (unwrap_or p None))) [])) e
     ∙ ap (λ o. (unwrap_or o no_class).fields ++ []) f
 
--- the table's fields are those of the class, also where there is no such class
+-- the table's fields are those of the class, also if there is no such class
 pub fields_read : (program : Source) (class : ℕ) → fields_in (table_of program) class ≡ class_fields program class
 fields_read program class = by (nat_lt class (length program.classes)) refl
   where

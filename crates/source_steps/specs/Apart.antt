@@ -2,9 +2,9 @@
 use Rattle.std.specs.Prelude.{ℕ, ◌+◌, Bool, false, ◌||◌, List, [], Option, Some, None}
 use Rattle.rpp_tree.specs.declared.tree.Ident.{Ident}
 use Rattle.rpp_tree.specs.Tree.{Expression, Number, Null, Variable, Element, Binary, Source}
-use Rattle.roopl_semantics.specs.Store.{State, Value, same_value}
-use Rattle.roopl_semantics.specs.Value.{variable_value}
-use Rattle.roopl_semantics.specs.Elements.{elements}
+use Rattle.source_store.specs.roopl_semantics.Store.{State, Value, same_value}
+use Rattle.source_store.specs.roopl_semantics.Value.{variable_value}
+use Rattle.source_store.specs.roopl_semantics.Elements.{elements}
 
 -- the number of an expression's elements
 abbrev pub count_elements : Expression → ℕ

@@ -1,5 +1,5 @@
 -- What contracts see of cells.
-use Rattle.roopl_semantics.specs.Value.{Cell, Slot, Part}
+use Rattle.source_store.specs.roopl_semantics.Value.{Cell, Slot, Part}
 use Rattle.source_steps.specs.declared.cell.Cell.{Cell as Place}
 use Rattle.source_steps.specs.declared.cell.Cell.TheVariants as place
 

@@ -1,22 +1,22 @@
 -- How a statement ends.
-use Rattle.std.specs.Prelude.{ℕ, suc, ◌+◌, List, Bool, true, false, not, ◌||◌, nat_eq, length, map}
+use Rattle.std.specs.Prelude.{ℕ, suc, ◌+◌, List, Bool, true, false, not, ◌||◌, nat_eq, length}
 use Rattle.std.specs.Prelude.{replicate, Option, Some, None, Result}
 use Rattle.std.specs.Option.{unwrap_or}
-use Rattle.rpp_words.specs.Words.{is_less}
-use Rattle.rpp_tree.specs.Tree.{Expression, Lvalue, Statement, Statements, Source}
-use Rattle.class_table.specs.Classes.{class_number, class_fields, method_slot}
-use Rattle.stmt_inverter.specs.Inverse.{inverse_statement}
-use Rattle.roopl_semantics.specs.Run.{Run, More, ◌>>=◌, give, spend, fault_if}
-use Rattle.roopl_semantics.specs.Store.{State, Value, Word, Nil, Head, OfClass, OfInts, OfObjects}
-use Rattle.roopl_semantics.specs.Store.{is_nil, number_of, same_value, object_at, zero_values}
-use Rattle.roopl_semantics.specs.Execution.{Setting, statement, exec, closed, counted, one_less}
-use Rattle.roopl_semantics.specs.Execution.{same_cell, is_of_class, all_zero, allocated, freed}
-use Rattle.roopl_semantics.specs.Execution.{moved_out, moved_back, delocal_fault, not_nil_fault}
-use Rattle.roopl_semantics.specs.Execution.{not_same_fault, class_differs_fault}
-use Rattle.roopl_semantics.specs.Execution.{length_differs_fault, length_fault, count_fault}
-use Rattle.roopl_semantics.specs.Execution.{not_empty_fault}
-use Rattle.roopl_semantics.specs.Value.{Cell, Slot, read, written, evaluated, found, nil_fault}
-use Rattle.meaning_machine.specs.Reversed.{ungiven}
+use Rattle.source_store.specs.rpp_words.Words.{is_less}
+use Rattle.rpp_tree.specs.Tree.{Expression, Lvalue, Statement, Source}
+use Rattle.source_store.specs.class_table.Classes.{class_number, class_fields, method_slot}
+use Rattle.source_store.specs.stmt_inverter.Inverse.{inverse_statement}
+use Rattle.source_store.specs.roopl_semantics.Run.{Run, More, ◌>>=◌, give, spend, fault_if}
+use Rattle.source_store.specs.roopl_semantics.Store.{State, Value, Word, Nil, Head, OfClass, OfInts, OfObjects}
+use Rattle.source_store.specs.roopl_semantics.Store.{is_nil, number_of, same_value, object_at, zero_values}
+use Rattle.source_store.specs.roopl_semantics.Execution.{Setting, statement, closed, counted, one_less}
+use Rattle.source_store.specs.roopl_semantics.Execution.{same_cell, is_of_class, all_zero, allocated, freed}
+use Rattle.source_store.specs.roopl_semantics.Execution.{delocal_fault, not_nil_fault}
+use Rattle.source_store.specs.roopl_semantics.Execution.{not_same_fault, class_differs_fault}
+use Rattle.source_store.specs.roopl_semantics.Execution.{length_differs_fault, length_fault, count_fault}
+use Rattle.source_store.specs.roopl_semantics.Execution.{not_empty_fault}
+use Rattle.source_store.specs.roopl_semantics.Value.{Cell, Slot, read, written, evaluated, found, nil_fault}
+use Rattle.source_store.specs.meaning_machine.Reversed.{ungiven}
 use Rattle.source_store.specs.declared.value.Value.{Value as Held}
 use Rattle.source_store.specs.HeapView.{Kept as Heap}
 use Rattle.source_steps.specs.declared.stop.Stop.{Stop}
@@ -36,44 +36,32 @@ abbrev pub Ends : {E : Type 0} → Here → Chain → Result E Stop → Heap →
 Ends here scope result heap values left run =
     Gives (λ u. state_of here scope heap values) result left run
 
--- a statement, with blocks bounded by n
-abbrev pub step : Here → ℕ → Statement → State → Run State
-step here n s st = statement (setting_of here) n (exec (setting_of here) n) s st
-
--- what a statement comes to with so much fuel
-abbrev pub does : Here → ℕ → ℕ → Statement → State → Metered State
-does here n fuel s st = metered fuel (step here n s st)
-
--- what a block comes to with so much fuel
-abbrev pub runs : Here → ℕ → ℕ → Statements → State → Metered State
-runs here n fuel body st = metered fuel (exec (setting_of here) n body st)
-
 -- what a statement that holds no block comes to
 abbrev pub does_simply : Here → ℕ → Statement → State → Metered State
 does_simply here fuel s st = metered fuel (statement (setting_of here) 0 (λ body st. More) s st)
 
--- behind a local's block
+-- after a local's block
 abbrev pub local_end : Setting → Expression → State → Run State
 local_end setting end_value end = do
   w ← evaluated setting.program end_value end
   _ ← fault_if delocal_fault (not (same_value (read end (Slot 0)) w))
   give (closed end)
 
--- behind the places and the check of an `uncopy`
+-- after the places and the check of an `uncopy`
 abbrev pub uncopied : Cell → Cell → State → Run State
 uncopied a b st = do
   _ ← fault_if nil_fault (is_nil (read st a))
   _ ← fault_if not_same_fault (not (same_value (read st a) (read st b)) || same_cell a b)
   give (counted one_less (written st b Nil) (number_of (read st a)))
 
--- behind the places and the check of a `copy`
+-- after the places and the check of a `copy`
 abbrev pub copied : Cell → Cell → State → Run State
 copied a b st = do
   _ ← fault_if nil_fault (is_nil (read st a))
   _ ← fault_if not_nil_fault (not (is_nil (read st b)))
   give (counted suc (written st b (read st a)) (number_of (read st a)))
 
--- behind the place and the check of a `new` of an object
+-- after the place and the check of a `new` of an object
 abbrev pub made : Setting → List ℕ → Cell → State → Run State
 made setting class cell st = do
   _ ← fault_if not_nil_fault (not (is_nil (read st cell)))
@@ -97,7 +85,7 @@ filled setting cell head element n st = do
   _ ← spend n
   give st'
 
--- behind the place and the length of a `new` of an array
+-- after the place and the length of a `new` of an array
 abbrev pub made_array : Setting → Cell → (ℕ → Head) → Value → Value → State → Run State
 made_array setting cell head element v st = do
   let n = number_of v
@@ -108,14 +96,14 @@ made_array setting cell head element v st = do
   _ ← spend n
   give st'
 
--- behind the other checks of a `delete`
+-- after the other checks of a `delete`
 abbrev pub emptied : Setting → ℕ → Cell → ℕ → State → Run State
 emptied setting cost cell name st = do
   _ ← spend cost
   _ ← fault_if not_empty_fault (not (all_zero (object_at st.store name).cells))
   give (freed setting cell name st)
 
--- behind the place and the check of a `delete` of an object
+-- after the place and the check of a `delete` of an object
 abbrev pub gone : Setting → List ℕ → Cell → State → Run State
 gone setting class cell st = do
   let name = number_of (read st cell)
@@ -128,7 +116,7 @@ gone setting class cell st = do
   _ ← fault_if not_empty_fault (not (all_zero object.cells))
   give (freed setting cell name st)
 
--- behind the place and the length of a `delete` of an array
+-- after the place and the length of a `delete` of an array
 abbrev pub gone_array : Setting → Cell → Value → State → Run State
 gone_array setting cell v st = do
   let name = number_of (read st cell)
@@ -150,18 +138,18 @@ abbrev pub first_element : Option ℕ → Value
 first_element None = Word 0
 first_element (Some class) = Nil
 
--- behind the place of a `delete` of an object that is taken back
+-- after the place of a `delete` of an object that is undone
 abbrev pub there_again : Setting → List ℕ → Cell → State → Run State
 there_again setting class cell st =
     let number = unwrap_or (class_number setting.program class) 0 in
     ungiven st.log cell (OfClass number) (zero_values (class_fields setting.program number)) st
 
--- behind the place and the length of a `delete` of an array that is taken back
+-- after the place and the length of a `delete` of an array that is undone
 abbrev pub array_again : Cell → (ℕ → Head) → Value → Value → State → Run State
 array_again cell head element v st =
     ungiven st.log cell (head (number_of v)) (replicate (number_of v) element) st
 
--- a `delete` of an array that is taken back
+-- a `delete` of an array that is undone
 abbrev pub array_undeleted : Setting → Lvalue → Expression → (ℕ → Head) → Value → State → Run State
 array_undeleted setting target size head element st = do
   cell ← found setting.program target st
@@ -171,11 +159,6 @@ array_undeleted setting target size head element st = do
 -- the slot of a name, or 0
 abbrev pub slot_or_first : Source → ℕ → List ℕ → ℕ
 slot_or_first program class name = unwrap_or (method_slot program class name) 0
-
--- a call of no method
-abbrev pub invoked_nothing : List Cell → List Cell → State → Run State
-invoked_nothing receiver args st =
-    moved_back receiver (map (read st) receiver) (moved_out args (moved_out receiver st))
 
 -- a call's direction, as it stands or undone
 abbrev pub call_turned : Bool → Bool → Bool

@@ -1,3 +1,11 @@
+pub use Rattle.source_store.specs.rpp_words
+pub use Rattle.rpp_tree.specs as rpp_tree
+pub use Rattle.source_store.specs.class_table
+pub use Rattle.source_store.specs.stmt_inverter
+pub use Rattle.source_store.specs.roopl_semantics
+pub use Rattle.source_store.specs.meaning_points
+pub use Rattle.source_store.specs.meaning_machine
+pub use Rattle.source_store.specs as source_store
 pub mod CellView
 pub mod Metered
 pub mod StateView

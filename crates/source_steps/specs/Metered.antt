@@ -3,7 +3,7 @@ use Rattle.std.specs.Prelude.{◌≡◌, ℕ, ◌-◌, nat_le, Option, Some, Non
 use Rattle.std.specs.Prelude.{Result, Ok, Err}
 use Rattle.source_steps.specs.declared.stop.Stop.{Stop}
 use Rattle.source_steps.specs.declared.stop.Stop.TheVariants as stop
-use Rattle.roopl_semantics.specs.Run.{Run, Done, Fault, More}
+use Rattle.source_store.specs.roopl_semantics.Run.{Run, Done, Fault, More}
 
 -- a result or a fault with the fuel that is left, or no fuel is left
 pub data Metered (A : Type 0) : Type 0 where
@@ -11,7 +11,7 @@ pub data Metered (A : Type 0) : Type 0 where
   Stopped : (code left : ℕ) → Metered A
   Out : Metered A
 
--- fuel after a cost, where there is enough
+-- fuel after a cost, if there is enough
 abbrev pub left_of : ℕ → ℕ → Option ℕ
 left_of fuel cost = if nat_le cost fuel then Some (fuel - cost) else None
 
@@ -35,13 +35,13 @@ chain (Went result left) next = next result left
 chain (Stopped code left) next = Stopped code left
 chain Out next = Out
 
--- a run that stopped so; a run that is broken off for want of memory says nothing
+-- a run that stopped so; a run that is aborted because memory ran out says nothing
 abbrev pub Failed : {B : Type 0} → Stop → ℕ → Metered B → Type 0
 Failed (stop.Fault code) left run = run ≡ Stopped code left
 Failed stop.More left run = run ≡ Out
 Failed stop.NoMemory left run = Unit {0}
 
--- what a call that answered so gave: its value, or why it stopped
+-- what a call that returned so gave: its value, or why it stopped
 abbrev pub Gives : {A B : Type 0} → (A → B) → Result A Stop → ℕ → Metered B → Type 0
 Gives f (Ok a) left run = run ≡ Went (f a) left
 Gives f (Err why) left run = Failed why left run

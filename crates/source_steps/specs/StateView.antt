@@ -3,9 +3,9 @@ use Rattle.std.specs.Prelude.{◌≡◌, ℕ, ◌+◌, nat_lt, if◌then◌else�
 use Rattle.std.specs.Prelude.{Result, Ok, Err}
 use Rattle.rpp_tree.specs.declared.tree.Var.{Var}
 use Rattle.rpp_tree.specs.Views.{source_of}
-use Rattle.roopl_semantics.specs.Store.{Value, Name, object_at, Store, Binding, State}
-use Rattle.roopl_semantics.specs.Execution.{Setting, bound}
-use Rattle.roopl_semantics.specs.Value.{Cell, Part, nil_fault, index_fault}
+use Rattle.source_store.specs.roopl_semantics.Store.{Value, Name, object_at, Store, Binding, State}
+use Rattle.source_store.specs.roopl_semantics.Execution.{Setting, bound}
+use Rattle.source_store.specs.roopl_semantics.Value.{Cell, Part, nil_fault, index_fault}
 use Rattle.source_store.specs.declared.value.Value.{Value as Held}
 use Rattle.source_store.specs.ValueView.{values_of}
 use Rattle.source_store.specs.HeapView.{Kept}
@@ -68,7 +68,3 @@ entered here params object heap values =
       store = heap.store;
       log = heap.log;
     }
-
--- the values are those of the variables
-pub record OwnValues (params : List Var) (values : List Held) : Type 0 where
-  pub own : map (λ binding. binding.value) (bound params (values_of values)) ≡ values_of values

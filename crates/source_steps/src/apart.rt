@@ -2,8 +2,8 @@
 ghost use Rattle.std.specs.Prelude.{◌≡◌, ◌≤◌, ◌++◌, ◌||◌, ◌∷◌, [], length, OnOk, IfSome};
 ghost use Rattle.std.specs.Option.{option_map};
 ghost use Rattle.rpp_tree.specs.Views.{expression_of, lvalue_of};
-ghost use Rattle.roopl_semantics.specs.Run.{spend as spending};
-ghost use Rattle.roopl_semantics.specs.Elements.{elements, index_elements, own_element, is_among, kept_apart};
+ghost use Rattle.source_store.specs.roopl_semantics.Run.{spend as spending};
+ghost use Rattle.source_store.specs.roopl_semantics.Elements.{elements, index_elements, own_element, is_among, kept_apart};
 ghost use Rattle.source_store.specs.ValueView.{value_of};
 ghost use Rattle.source_steps.specs.Apart.{count_elements, meets as meets_in, reads_of};
 ghost use Rattle.source_steps.specs.Metered.{left_of, Gives, metered};

@@ -1,8 +1,8 @@
-// Requests to the heap taken back.
+// Requests to the heap undone.
 ghost use Rattle.std.specs.Prelude.{◌≡◌, ◌≤◌, ◌<◌, ◌^◌, OnOk, length};
 ghost use Rattle.rpp_tree.specs.Tree.{Object as AnObject};
 ghost use Rattle.rpp_tree.specs.Views.{creation_of, expression_of, lvalue_of};
-ghost use Rattle.meaning_machine.specs.Reversed.{untaken, ungiven, unmade as unmade_in, undeleted as undeleted_in};
+ghost use Rattle.source_store.specs.meaning_machine.Reversed.{untaken, ungiven, unmade as unmade_in, undeleted as undeleted_in};
 ghost use Rattle.source_store.specs.ValueView.{value_of, values_of, head_of};
 ghost use Rattle.source_steps.specs.CellView.{cell_of};
 ghost use Rattle.source_steps.specs.Ends.{Ends, array_head, first_element, there_again, array_again, array_undeleted};
@@ -19,7 +19,7 @@ use rpp_tree::text::Text;
 use rpp_tree::tree::{Expr, Ident, Made, Place};
 use source_store::{Head, Heap, Value};
 
-/// What a cell names goes, with the newest request, where that was for a new object.
+/// What a cell names goes, with the newest request, if that was for a new object.
 fn untake(
     setting: &Setting,
     scope: &Scope,
@@ -42,7 +42,7 @@ fn untake(
     }
 }
 
-/// A `new` taken back.
+/// A `new` undone.
 pub fn unmade(
     setting: &Setting,
     scope: &Scope,
@@ -90,7 +90,7 @@ fn ungive(
     }
 }
 
-/// Behind the place of a `delete` of an object that is taken back.
+/// After the place of a `delete` of an object that is undone.
 fn put_object(
     setting: &Setting,
     scope: &Scope,
@@ -121,7 +121,7 @@ fn put_object(
     )
 }
 
-/// `delete` of an object, taken back.
+/// `delete` of an object, undone.
 pub fn undelete_object(
     setting: &Setting,
     scope: &Scope,
@@ -142,8 +142,8 @@ pub fn undelete_object(
     put_object(setting, scope, heap, values, fuel, cell, &class.text)
 }
 
-/// Behind the place and the length of a `delete` of an array that is taken back. More elements than
-/// a heap has words are refused, as want of memory.
+/// After the place and the length of a `delete` of an array that is undone. More elements than a
+/// heap has words are refused, as `NoMemory`.
 fn put_array(
     setting: &Setting,
     scope: &Scope,
@@ -178,7 +178,7 @@ fn put_array(
     )
 }
 
-/// `delete` of an array, taken back.
+/// `delete` of an array, undone.
 fn undelete_array(
     setting: &Setting,
     scope: &Scope,
@@ -202,7 +202,7 @@ fn undelete_array(
     put_array(setting, scope, heap, values, fuel, cell, kind, value)
 }
 
-/// A `delete` taken back.
+/// A `delete` undone.
 pub fn undeleted(
     setting: &Setting,
     scope: &Scope,

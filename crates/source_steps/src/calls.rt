@@ -1,7 +1,7 @@
 // The values that move into a call and back.
 ghost use Rattle.std.specs.Prelude.{◌≡◌, ◌≤◌, ◌++◌, IfOk, OnOk, OnErr, MatchResult, length, map, not};
-ghost use Rattle.roopl_semantics.specs.Value.{read};
-ghost use Rattle.roopl_semantics.specs.Execution.{cells_named, moved_out, moved_back};
+ghost use Rattle.source_store.specs.roopl_semantics.Value.{read};
+ghost use Rattle.source_store.specs.roopl_semantics.Execution.{cells_named, moved_out, moved_back};
 ghost use Rattle.source_store.specs.ValueView.{value_of, values_of};
 ghost use Rattle.source_steps.specs.CellView.{cell_of};
 ghost use Rattle.source_steps.specs.Metered.{metered};
@@ -18,7 +18,7 @@ use rpp_words::NoMemory;
 use source_store::{Heap, Value};
 use std::alloc::Global;
 
-/// The cells of these names, behind some others.
+/// The cells of these names, after some others.
 pub fn name_cells(
     setting: &Setting,
     scope: &Scope,
@@ -78,7 +78,7 @@ pub fn move_out(
     }
 }
 
-/// The values move back, each into a cell that still reads 0 or nil. Where one does not, all stays.
+/// The values move back, each into a cell that still reads 0 or nil. If one does not, all stays.
 #[tactic(auto, using(crate::proofs::Restored::taken_back, crate::proofs::Fuelled::handed))]
 pub fn move_back(
     setting: &Setting,
@@ -140,7 +140,7 @@ pub fn cells_of(
     }
 }
 
-/// The values of a receiver and of arguments move back. Where one finds its cell written, all stays.
+/// The values of a receiver and of arguments move back. If one finds its cell written, all stays.
 #[tactic(auto, using(crate::proofs::Restored::taken_back, crate::proofs::Fuelled::handed))]
 pub fn return_values(
     setting: &Setting,

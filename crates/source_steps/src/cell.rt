@@ -1,10 +1,10 @@
 // Cells: variables of the frame, and fields and elements.
 ghost use Rattle.std.specs.Prelude.{◌≡◌, length, slice_get, slice_set};
 ghost use Rattle.std.specs.Option.{unwrap_or};
-ghost use Rattle.class_table.specs.Classes.{class_fields};
-ghost use Rattle.roopl_semantics.specs.Store.{Nil, class_of_head, object_at};
-ghost use Rattle.roopl_semantics.specs.Value.{read, written, cell_named, value_at, variable_value};
-ghost use Rattle.class_table.specs.Members.{field_of};
+ghost use Rattle.source_store.specs.class_table.Classes.{class_fields};
+ghost use Rattle.source_store.specs.roopl_semantics.Store.{Nil, class_of_head, object_at};
+ghost use Rattle.source_store.specs.roopl_semantics.Value.{read, written, cell_named, value_at, variable_value};
+ghost use Rattle.source_store.specs.class_table.Members.{field_of};
 ghost use Rattle.source_store.specs.ValueView.{value_of, values_of};
 ghost use Rattle.source_steps.specs.CellView.{cell_of};
 ghost use Rattle.source_steps.specs.StateView.{IsFramed, names_of, frame_of, state_of, setting_of};
@@ -68,7 +68,7 @@ pub fn read_cell(
     }
 }
 
-/// The number of a field of the present object.
+/// The number of a field of the current object.
 fn field_number(setting: &Setting, heap: &Heap, name: &Text) -> usize
     ensures { result ≡ unwrap_or
         (field_of (class_fields (setting_of setting.now).program

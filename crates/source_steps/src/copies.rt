@@ -2,7 +2,7 @@
 ghost use Rattle.std.specs.Prelude.{◌≡◌, ◌≤◌, OnOk, not};
 ghost use Rattle.rpp_tree.specs.Tree.{Copy as CopyTo, Uncopy};
 ghost use Rattle.rpp_tree.specs.Views.{lvalue_of};
-ghost use Rattle.roopl_semantics.specs.Execution.{same_cell};
+ghost use Rattle.source_store.specs.roopl_semantics.Execution.{same_cell};
 ghost use Rattle.source_steps.specs.CellView.{cell_of};
 ghost use Rattle.source_steps.specs.Ends.{Ends, does_simply, copied, uncopied};
 ghost use Rattle.source_steps.specs.Metered.{metered};
@@ -29,7 +29,7 @@ fn is_same_cell(a: Cell, b: Cell) -> bool
     }
 }
 
-/// Behind the places of a `copy`: the second of two cells refers to what the first does.
+/// After the places of a `copy`: the second of two cells refers to what the first does.
 fn refer(
     setting: &Setting,
     scope: &Scope,
@@ -81,7 +81,7 @@ pub fn copy(
     refer(setting, scope, heap, values, fuel, a, b)
 }
 
-/// The second of two cells becomes nil, where both hold one reference.
+/// The second of two cells becomes nil, if both hold one reference.
 fn take_back(
     setting: &Setting,
     scope: &Scope,

@@ -2,9 +2,9 @@
 ghost use Rattle.std.specs.Prelude.{◌≡◌, ◌<◌, ◌≤◌, Result, Ok, IfSome};
 ghost use Rattle.rpp_tree.specs.Tree.{nodes, index_nodes};
 ghost use Rattle.rpp_tree.specs.Views.{expression_of, lvalue_of};
-ghost use Rattle.roopl_semantics.specs.Operators.{truth_word, operated};
-ghost use Rattle.roopl_semantics.specs.Store.{Word, number_of};
-ghost use Rattle.roopl_semantics.specs.Value.{element_cell, element_of, value as value_in, cell_of as place_in, combined};
+ghost use Rattle.source_store.specs.roopl_semantics.Operators.{truth_word, operated};
+ghost use Rattle.source_store.specs.roopl_semantics.Store.{Word, number_of};
+ghost use Rattle.source_store.specs.roopl_semantics.Value.{element_cell, element_of, value as value_in, cell_of as place_in, combined};
 ghost use Rattle.source_store.specs.ValueView.{value_of};
 ghost use Rattle.source_steps.specs.CellView.{cell_of};
 ghost use Rattle.source_steps.specs.Metered.{left_of};
@@ -18,7 +18,8 @@ use rpp_words::{Limits, less, wrap_add, wrap_sub};
 use source_store::{Heap, Value};
 use std::alloc::Global;
 
-/// What an open method stands in: the program and the limits, its object, and how many calls are open.
+/// The setting of an active method: the program and the limits, its object, and how many calls are
+/// active.
 #[derive(Clone, Copy)]
 pub struct Setting<'a> {
     pub alloc: Global,
@@ -28,7 +29,7 @@ pub struct Setting<'a> {
     pub depth: u32,
 }
 
-/// Fuel after one more cost, where there is enough.
+/// Fuel after one more cost, if there is enough.
 pub fn one_less(fuel: u64) -> Option<u64>
     ensures left { result ≡ left_of fuel 1 }
     ensures less { IfSome result (λ left. left < fuel) }

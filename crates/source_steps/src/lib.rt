@@ -1,8 +1,7 @@
-//! The steps that statements of the source are made of, and the statements that hold no others:
-//! values and places, updates, swaps, copies, objects that are made and deleted, also taken back,
-//! and the moves of values into a call and back. A layer above may use that each answers exactly
-//! what the meaning says with so much fuel: the state and the fuel that is left, the fault, or that
-//! no fuel is left.
+//! Single steps of the interpreter: expressions, updates, swaps, copies, `new` and `delete`. These
+//! are also undone. Further steps move values into a call and back. A layer above may use that each
+//! returns exactly what the semantics says with so much fuel: the state and the fuel that is left,
+//! the fault, or that no fuel is left.
 #![tactic(auto)]
 
 mod apart;

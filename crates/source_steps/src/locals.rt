@@ -1,6 +1,6 @@
 // The end of a local variable.
 ghost use Rattle.std.specs.Prelude.{◌≡◌, ◌≤◌, OnOk, MatchResult, None};
-ghost use Rattle.roopl_semantics.specs.Execution.{element_name};
+ghost use Rattle.source_store.specs.roopl_semantics.Execution.{element_name};
 ghost use Rattle.rpp_tree.specs.Tree.{Null};
 ghost use Rattle.rpp_tree.specs.Views.{expression_of};
 ghost use Rattle.source_steps.specs.Metered.{metered};
@@ -43,7 +43,7 @@ pub fn close_local(
     Ok(())
 }
 
-/// The same where the closing expression is `nil`.
+/// The same if the closing expression is `nil`.
 pub fn close_nil(
     setting: &Setting,
     scope: &Scope,

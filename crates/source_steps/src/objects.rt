@@ -3,9 +3,9 @@ ghost use Rattle.std.specs.Prelude.{◌≡◌, ◌+◌, ◌≤◌, ◌<◌, ◌^
 ghost use Rattle.std.specs.Option.{unwrap_or};
 ghost use Rattle.rpp_tree.specs.Tree.{New, Delete, Object as AnObject};
 ghost use Rattle.rpp_tree.specs.Views.{source_of, creation_of, expression_of, lvalue_of};
-ghost use Rattle.class_table.specs.Classes.{class_fields, class_number};
-ghost use Rattle.roopl_semantics.specs.Store.{zero_value, zero_values};
-ghost use Rattle.roopl_semantics.specs.Execution.{allocated, freed, new_array as new_array_in, delete_array as delete_array_in};
+ghost use Rattle.source_store.specs.class_table.Classes.{class_fields, class_number};
+ghost use Rattle.source_store.specs.roopl_semantics.Store.{zero_value, zero_values};
+ghost use Rattle.source_store.specs.roopl_semantics.Execution.{allocated, freed, new_array as new_array_in, delete_array as delete_array_in};
 ghost use Rattle.source_store.specs.ValueView.{value_of, values_of, head_of};
 ghost use Rattle.source_steps.specs.CellView.{cell_of};
 ghost use Rattle.source_steps.specs.Ends.{Ends, does_simply, array_head, first_element, new_of, made, filled, made_array, emptied, gone, gone_array};
@@ -46,7 +46,7 @@ pub fn zeros(alloc: Global, vars: &[Var]) -> Result<Vec<Value>, NoMemory>
     Ok(cells)
 }
 
-/// An object or array with these cells, where the heap has a block for it.
+/// An object or array with these cells, if the heap has a block for it.
 fn allocate(
     setting: &Setting,
     scope: &Scope,
@@ -78,7 +78,7 @@ fn allocate(
     }
 }
 
-/// Behind the place and the check of a `new` of an object.
+/// After the place and the check of a `new` of an object.
 fn make(
     setting: &Setting,
     scope: &Scope,
@@ -101,7 +101,7 @@ fn make(
     allocate_object(setting, scope, heap, values, fuel, cell, class)
 }
 
-/// An object of a class, where the heap has a block for it.
+/// An object of a class, if the heap has a block for it.
 fn allocate_object(
     setting: &Setting,
     scope: &Scope,
@@ -199,7 +199,7 @@ pub(crate) fn elements(alloc: Global, count: u32, value: Value) -> Result<Vec<Va
     Ok(vec![in alloc; value; count as usize]?)
 }
 
-/// An array of so many elements, where the heap has a block for it.
+/// An array of so many elements, if the heap has a block for it.
 fn allocate_array(
     setting: &Setting,
     scope: &Scope,
@@ -235,7 +235,7 @@ fn allocate_array(
     )
 }
 
-/// Behind the place and the length of a `new` of an array.
+/// After the place and the length of a `new` of an array.
 fn make_array(
     setting: &Setting,
     scope: &Scope,
@@ -334,7 +334,7 @@ fn free(
     }
 }
 
-/// Behind the checks of a `delete` but the last: the object goes at this cost, where it is empty.
+/// After the checks of a `delete` but the last: the object goes at this cost, if it is empty.
 fn empty_out(
     setting: &Setting,
     scope: &Scope,
@@ -358,7 +358,7 @@ fn empty_out(
     free(setting, scope, heap, values, cell, name)
 }
 
-/// Behind the place and the check of a `delete` of an object.
+/// After the place and the check of a `delete` of an object.
 fn drop_object(
     setting: &Setting,
     scope: &Scope,
@@ -407,7 +407,7 @@ pub fn delete_object(
     drop_object(setting, scope, heap, values, fuel, cell, &class.text)
 }
 
-/// Behind the place and the length of a `delete` of an array.
+/// After the place and the length of a `delete` of an array.
 fn drop_array(
     setting: &Setting,
     scope: &Scope,

@@ -1,9 +1,9 @@
-// Statements that hold no others, but for calls and the heap.
+// Statements that hold no others, except for calls and the heap.
 ghost use Rattle.std.specs.Prelude.{◌≡◌, ◌≤◌, OnOk};
 ghost use Rattle.rpp_tree.specs.Tree.{Update, Swap};
 ghost use Rattle.rpp_tree.specs.Views.{expression_of, lvalue_of};
-ghost use Rattle.stmt_inverter.specs.Inverse.{inverse_operator};
-ghost use Rattle.roopl_semantics.specs.Operators.{updated};
+ghost use Rattle.source_store.specs.stmt_inverter.Inverse.{inverse_operator};
+ghost use Rattle.source_store.specs.roopl_semantics.Operators.{updated};
 ghost use Rattle.source_steps.specs.Ends.{Ends, does_simply, call_turned};
 ghost use Rattle.source_steps.specs.StateView.{IsFramed, state_of, setting_of};
 

@@ -1,9 +1,9 @@
 // The steps that statements are made of, each with its cost.
 ghost use Rattle.std.specs.Prelude.{◌≡◌, ◌+◌, ◌<◌, ◌≤◌, IfOk, OnOk, MatchResult, ◌∷◌, length, drop};
 ghost use Rattle.rpp_tree.specs.Views.{expression_of, lvalue_of};
-ghost use Rattle.roopl_semantics.specs.Execution.{holds};
-ghost use Rattle.roopl_semantics.specs.Value.{evaluated as evaluated_in, found as found_in};
-ghost use Rattle.roopl_semantics.specs.Run.{spend as spending, fault_if};
+ghost use Rattle.source_store.specs.roopl_semantics.Execution.{holds};
+ghost use Rattle.source_store.specs.roopl_semantics.Value.{evaluated as evaluated_in, found as found_in};
+ghost use Rattle.source_store.specs.roopl_semantics.Run.{spend as spending, fault_if};
 ghost use Rattle.source_store.specs.ValueView.{value_of};
 ghost use Rattle.source_steps.specs.CellView.{cell_of};
 ghost use Rattle.source_steps.specs.Metered.{Gives, metered};
@@ -29,7 +29,7 @@ pub fn spend(fuel: &mut u64, cost: u64) -> Result<(), Stop>
     Ok(())
 }
 
-/// Stops with the fault where the test holds.
+/// Stops with the fault if the test holds.
 pub fn refuse(fuel: &mut u64, code: u32, test: bool) -> Result<(), Stop>
     ensures gives { Gives (λ u. tt) result fuel.new (metered fuel.old (fault_if code test)) }
     ensures same { fuel.new ≡ fuel.old }
@@ -95,7 +95,7 @@ pub fn locate(
     }
 }
 
-/// One more value, in front of the others.
+/// One more value, before the others.
 pub fn open_value(values: &mut Vec<Value>, value: Value) -> Result<(), Stop>
     ensures { MatchResult result (λ u. values.new.items ≡ value ∷ values.old.items)
         (λ why. why ≡ Stop.NoMemory) }

@@ -4,11 +4,11 @@ use Rattle.std.proofs.Common.{[], ◌∷◌, length, Option, Some, None, true, f
 use Rattle.std.specs.Prelude.{is_none, not}
 use Rattle.std.specs.Option.{unwrap_or, option_map}
 use Rattle.std.proofs.Math.Nat.{pow-succ'}
-use Rattle.buddy_book.specs.Book.{Book, take, take_past}
-use Rattle.buddy_book.specs.Place.{Taken, count_taken, with_block, after_request, place}
-use Rattle.buddy_book.specs.Shown.{Shown, first_block, head_address}
-use Rattle.buddy_book.proofs.Orders.{take_past-head, take_past-empty, take_past-above, upper_at}
-use Rattle.roopl_semantics.specs.Execution.{order_of_cells}
+use Rattle.meaning_machine.specs.buddy_book.Book.{Book, take, take_past}
+use Rattle.meaning_machine.specs.buddy_book.Place.{Taken, count_taken, with_block, after_request, place}
+use Rattle.meaning_machine.specs.buddy_book.Shown.{Shown, first_block, head_address}
+use Rattle.meaning_machine.proofs.buddy_book_laws.Orders.{take_past-head, take_past-empty, take_past-above, upper_at}
+use Rattle.meaning_machine.specs.roopl_semantics.Execution.{order_of_cells}
 use Rattle.source_store.specs.declared.object.Object.{Object as Live}
 use Rattle.source_store.specs.declared.requests.Request.{Request as Asked}
 use Rattle.source_store.specs.HeapView.{Kept, IsHeap, kept_of, log_of, asked_for}

@@ -7,28 +7,28 @@ use Rattle.std.proofs.lemmas.List.{reverse-append, map_push, length-map}
 use Rattle.std.specs.Prelude.{Option, nat_eq, nat_lt, is_none, slice_get, slice_set}
 use Rattle.std.proofs.Math.Nat.{pow-le-pow_right}
 use Rattle.std.specs.Option.{unwrap_or}
-use Rattle.rpp_words.specs.Order.{IsOrderFor}
-use Rattle.rpp_words.specs.declared.input.TheConstants.{HEADER_WORDS}
-use Rattle.buddy_book.specs.Book.{Book, start, take, give, order_for}
-use Rattle.buddy_book.specs.Place.{Log, Taken, Given, count_taken, block_of, without_name, with_block, after_request}
-use Rattle.buddy_book.specs.Place.{place}
-use Rattle.buddy_book.specs.Shown.{Shown, TakenBlocks, order_in, with_taken, without_taken, IsTaken}
-use Rattle.buddy_book.proofs.LeastOrder.{order_for-only}
-use Rattle.buddy_book.proofs.Beginning.{start-kept}
-use Rattle.buddy_book.proofs.Table.{order_in-with}
-use Rattle.buddy_book.proofs.Orders.{take_took, give_gave}
-use Rattle.buddy_book.proofs.Kept.{none_taken, take_kept, given_back, give_kept}
-use Rattle.buddy_book.proofs.Requests.{order_in-with_other, order_in-without_other}
-use Rattle.buddy_book.proofs.Requests.{block_of_other}
-use Rattle.roopl_semantics.specs.Store.{Value, Head, no_object, object_at, without}
-use Rattle.roopl_semantics.specs.Execution.{order_of_cells, new_object}
-use Rattle.roopl_semantics.specs.Laws.{book_of, block_in as block_in_places}
-use Rattle.roopl_semantics.proofs.Orders.{order_from_one, has_room}
+use Rattle.meaning_machine.specs.rpp_words.Order.{IsOrderFor}
+use Rattle.meaning_machine.specs.rpp_words.declared.input.TheConstants.{HEADER_WORDS}
+use Rattle.meaning_machine.specs.buddy_book.Book.{Book, start, take, give, order_for}
+use Rattle.meaning_machine.specs.buddy_book.Place.{Log, Taken, Given, count_taken, block_of, without_name, with_block, after_request}
+use Rattle.meaning_machine.specs.buddy_book.Place.{place}
+use Rattle.meaning_machine.specs.buddy_book.Shown.{Shown, TakenBlocks, order_in, with_taken, without_taken}
+use Rattle.meaning_machine.proofs.buddy_book_laws.LeastOrder.{order_for-only}
+use Rattle.meaning_machine.proofs.buddy_book_laws.Beginning.{start-kept}
+use Rattle.meaning_machine.proofs.buddy_book_laws.Table.{order_in-with}
+use Rattle.meaning_machine.proofs.buddy_book_laws.Orders.{take_took, give_gave}
+use Rattle.meaning_machine.proofs.buddy_book_laws.Kept.{none_taken, take_kept, given_back, give_kept}
+use Rattle.meaning_machine.proofs.buddy_book_laws.Requests.{order_in-with_other, order_in-without_other}
+use Rattle.meaning_machine.proofs.buddy_book_laws.Requests.{block_of_other}
+use Rattle.meaning_machine.specs.roopl_semantics.Store.{Value, Head, no_object, object_at, without}
+use Rattle.meaning_machine.specs.roopl_semantics.Execution.{order_of_cells, new_object}
+use Rattle.meaning_machine.specs.roopl_semantics.Laws.{book_of, block_in as block_in_places}
+use Rattle.meaning_machine.proofs.roopl_semantics_laws.Orders.{order_from_one, has_room}
 use Rattle.source_store.specs.declared.object.Object.{Object as Live}
 use Rattle.source_store.specs.declared.requests.Request.{Request as Asked}
 use Rattle.source_store.specs.ValueView.{value_of, values_of, object_of}
 use Rattle.source_store.specs.HeapView.{Kept, kept_of, store_of, request_of, log_of, live_in, block_and_size, block_in}
-use Rattle.source_store.specs.HeapView.{block_at, IsBlock, IsPlaced, IsHeap, SameBlocks, TookBlock, TookNone}
+use Rattle.source_store.specs.HeapView.{block_at, IsBlock, IsPlaced, IsHeap, SameBlocks, TookBlock}
 use Rattle.source_store.proofs.Tables.{differs, object_named_store, pushed_length, pushed_store, pushed_block}
 use Rattle.source_store.proofs.Tables.{block_before, block_past, cleared_store, cleared_block, other_block}
 
@@ -373,23 +373,6 @@ module _ (order : ℕ) (book after : Shown) (table : List (Option Live)) (reques
       with_size : (P : ℕ → Type 0) → P size → P (length cells)
       with_size P p = subst P same_size p
 
-pub took_none : (order : ℕ) (book : Shown) (table : List (Option Live)) (requests : List Asked) (kept : Kept)
-    (size k : ℕ) → IsHeap order book table requests → k ≡ order_of_cells size → take book.free k ≡ None
-    → kept_of order table requests ≡ kept → TookNone kept (kept_of order table requests) size
-took_none order book table requests kept size k heap is none view =
-    subst (λ z. TookNone z (kept_of order table requests) size) view
-    (record {
-      no_block = ap (λ h. is_none (after_request (Taken next (order_of_cells size)) (place h (log_of requests))))
-          (sym heap.same)
-          ∙ ap (λ o. is_none (after_request (Taken next (order_of_cells size)) o)) heap.placed.placed
-          ∙ ap (λ j. is_none (with_block next heap.placed.blocks (take book.free j))) (sym is)
-          ∙ ap (λ t. is_none (with_block next heap.placed.blocks t)) none;
-      heap = refl;
-    })
-  where
-    next : ℕ
-    next = 2 + count_taken (log_of requests)
-
 -- ---- the heap without an object
 
 abbrev given_to : Shown → Book → TakenBlocks → Shown
@@ -428,13 +411,6 @@ module _ (order : ℕ) (book : Shown) (table : List (Option Live)) (requests : L
       by : (t : Bool) → nat_lt name (length table) ≡ t → name < length table
       by true e = ltb-true name (length table) e
       by false e = let none = sym (block_past table name (ltb-false name (length table) e)) ∙ there in cc
-
-  pub is_its_block : (k : ℕ) → k ≡ order_of_cells size → IsTaken book at k
-  is_its_block k is = record {
-    block = block_of heap.placed.blocks name;
-    at = own_block.at;
-    with_order = own_block.with_order ∙ ap (λ z. Some z) (sym is);
-  }
 
   module _ (after : Shown) (asked : Asked) (k : ℕ) (is : k ≡ order_of_cells size)
       (request : request_of asked ≡ Given name k) where
@@ -490,7 +466,7 @@ module _ (order : ℕ) (book : Shown) (table : List (Option Live)) (requests : L
         size_there = ap (λ o. length (unwrap_or o no_object).cells) (object_named_store table name)
             ∙ size_of_block (slice_get table name) at size there
 
--- ---- as the answers have it
+-- ---- as the results have it
 
 pub took_so : (order : ℕ) (book after : Shown) (table grown : List (Option Live)) (requests more : List Asked)
     (live : Live) (asked : Asked) (k at : ℕ)

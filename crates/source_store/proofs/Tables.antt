@@ -6,7 +6,7 @@ use Rattle.std.proofs.lemmas.Bool.{eqb-true, eqb-false, ltb-true, ltb-false, lt-
 use Rattle.std.proofs.lemmas.Option.{slice_get_past}
 use Rattle.std.specs.Prelude.{Result, Ok, Err, OnOk, OnErr, Option, slice_get, slice_set, nat_eq, nat_lt}
 use Rattle.std.specs.Option.{option_map}
-use Rattle.roopl_semantics.specs.Store.{Object, Store, object_named, changed_at, without}
+use Rattle.meaning_machine.specs.roopl_semantics.Store.{Object, Store, object_named, changed_at, without}
 use Rattle.meaning_machine.specs.Reversed.{put_back}
 use Rattle.source_store.specs.declared.object.Object.{Object as Live}
 use Rattle.source_store.specs.ValueView.{object_of}
@@ -148,9 +148,6 @@ same_blocks table name old slot at e h = record {
         ap (block_at (slice_set table name slot)) same ∙ ap block_in (get_set_same table name slot h) ∙ e
         ∙ ap block_in (sym at) ∙ ap (block_at table) (sym same)
     by k false q = ap block_in (get_set_other table name k slot (eqb-false k name q))
-
-pub blocks_stay : (table : List (Option Live)) → SameBlocks table table
-blocks_stay table = record { length = refl; blocks = λ k. refl }
 
 -- ---- the table without an object
 

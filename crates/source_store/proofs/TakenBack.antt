@@ -1,13 +1,13 @@
--- What every heap keeps where its newest request is taken back.
+-- What every heap keeps if its newest request is undone.
 use Rattle.std.proofs.Common.{◌≡◌, ℕ, zero, suc, ◌+◌, ◌-◌, ◌<◌, ◌≤◌, refl, sym, ap, subst, ◌∙◌, arith, List, [], ◌∷◌}
 use Rattle.std.proofs.Common.{◌++◌, length, length-set, Some, None, eq-eqb, true, if◌then◌else◌}
 use Rattle.std.specs.Prelude.{Option, slice_get, slice_set, take as front}
-use Rattle.buddy_book.specs.Book.{take, give}
-use Rattle.buddy_book.specs.Place.{Log, Taken, Given, Placing, count_taken, block_of, place}
-use Rattle.buddy_book.specs.Shown.{Shown, order_in, with_taken, without_taken}
-use Rattle.roopl_semantics.specs.Store.{Value, Head, without}
-use Rattle.roopl_semantics.specs.Execution.{order_of_cells, new_object}
-use Rattle.roopl_semantics.specs.Laws.{book_of, block_in as block_in_places}
+use Rattle.meaning_machine.specs.buddy_book.Book.{take, give}
+use Rattle.meaning_machine.specs.buddy_book.Place.{Log, Taken, Given, Placing, count_taken, block_of, place}
+use Rattle.meaning_machine.specs.buddy_book.Shown.{Shown, order_in, with_taken, without_taken}
+use Rattle.meaning_machine.specs.roopl_semantics.Store.{Value, Head, without}
+use Rattle.meaning_machine.specs.roopl_semantics.Execution.{order_of_cells, new_object}
+use Rattle.meaning_machine.specs.roopl_semantics.Laws.{book_of, block_in as block_in_places}
 use Rattle.meaning_machine.specs.Reversed.{put_back}
 use Rattle.source_store.specs.declared.object.Object.{Object as Live}
 use Rattle.source_store.specs.declared.requests.Request.{Request as Asked}
@@ -88,7 +88,7 @@ relaid book f log older p same undone = by (place book.h older) refl
         inner : (x y : ℕ) → Some x ≡ Some y → x ≡ y
         inner x y h = cc
 
--- ---- a take taken back
+-- ---- an allocation undone
 
 live_there : (slot : Option (Option Live)) (at size : ℕ) → block_in slot ≡ Some (at, size)
     → (live : Live) × (slot ≡ Some (Some live))
@@ -174,7 +174,7 @@ module _ (order : ℕ) (book : Shown) (table shrunk : List (Option Live)) (reque
         log = log_of fewer;
       })) (eq-eqb (length shrunk) name many)
 
--- ---- a give taken back
+-- ---- a freeing undone
 
 module _ (order : ℕ) (book : Shown) (table : List (Option Live)) (requests fewer : List Asked) (live : Live)
     (name at k : ℕ) (heap : IsHeap order book table requests)
@@ -227,7 +227,7 @@ module _ (order : ℕ) (book : Shown) (table : List (Option Live)) (requests few
       ∙ ap (λ s. Some (name, record { order = order; store = s; log = log_of fewer }))
       (sym (filled_store table name live free in_table))
 
--- ---- as the answers have it
+-- ---- as the results have it
 
 module _ (order : ℕ) (book : Shown) (table : List (Option Live)) (requests fewer : List Asked) (live : Live)
     (name at k : ℕ) (slot : Option Live) (heap : IsHeap order book table requests)

@@ -2,11 +2,11 @@
 use Rattle.std.specs.Prelude.{◌≡◌, ℕ, zero, suc, ◌+◌, ◌^◌, ◌<◌, List, [], ◌∷◌, map, length}
 use Rattle.std.specs.Prelude.{reverse, Option}
 use Rattle.std.specs.Prelude.{Some, None, slice_get, is_none, Bool, true, false}
-use Rattle.buddy_book.specs.Place.{Request, Taken, Given, Log, Placing, count_taken, block_of, place}
-use Rattle.buddy_book.specs.Shown.{Shown, order_in, IsKept}
-use Rattle.roopl_semantics.specs.Store.{Value, Head, Object, Store, without}
-use Rattle.roopl_semantics.specs.Execution.{order_of_cells, new_object}
-use Rattle.roopl_semantics.specs.Laws.{book_of, block_in as block_in_places}
+use Rattle.meaning_machine.specs.buddy_book.Place.{Request, Taken, Given, Log, Placing, count_taken, block_of, place}
+use Rattle.meaning_machine.specs.buddy_book.Shown.{Shown, order_in, IsKept}
+use Rattle.meaning_machine.specs.roopl_semantics.Store.{Value, Head, Object, Store, without}
+use Rattle.meaning_machine.specs.roopl_semantics.Execution.{order_of_cells, new_object}
+use Rattle.meaning_machine.specs.roopl_semantics.Laws.{book_of, block_in as block_in_places}
 use Rattle.meaning_machine.specs.Reversed.{put_back}
 use Rattle.source_store.specs.declared.object.Object.{Object as Live}
 use Rattle.source_store.specs.declared.requests.Request.{Request as Asked}
@@ -32,7 +32,7 @@ abbrev pub listed : {A : Type 0} → ℕ → Option A → List (ℕ × A) → Li
 listed name None rest = rest
 listed name (Some a) rest = (name, a) ∷ rest
 
--- what stands at the places below a number, the highest first
+-- the values at the indexes below a number, the highest first
 abbrev pub listing : {A : Type 0} → ℕ → (ℕ → Option A) → List (ℕ × A)
 listing zero f = []
 listing (suc n) f = listed n (f n) (listing n f)
@@ -78,12 +78,12 @@ pub record SamePlaces (first second : Option Placing) : Type 0 where
   pub book : book_of first ≡ book_of second
   pub blocks : (name : ℕ) → block_in_places first name ≡ block_in_places second name
 
--- the request that takes one back
+-- the request that undoes one
 abbrev pub opposite : Request → Request
 opposite (Taken name order) = Given name order
 opposite (Given name order) = Taken name order
 
--- each of these requests, taken back, leads to the places before it
+-- each of these requests, undone, leads to the places before it
 abbrev pub AreUndone : ℕ → Log → Type 0
 AreUndone h [] = Unit {0}
 AreUndone h (request ∷ older) =
@@ -100,8 +100,8 @@ pub record IsPlaced (book : Shown) (block_of_name : ℕ → Option (ℕ × ℕ))
       → block_of_name m ≡ Some (address, other) → n ≡ m
   pub undone : AreUndone book.h log
 
--- what every heap keeps: the next name is the table's length, and a word, and each block stands
--- where the requests place it
+-- what every heap keeps: the next object id is the table's length, and a word, and each block is
+-- where the requests put it
 pub record IsHeap (order : ℕ) (book : Shown) (table : List (Option Live))
     (requests : List Asked) : Type 0 where
   pub same : book.h ≡ order
@@ -138,14 +138,14 @@ abbrev pub Took : Option ℕ → Kept → Kept → Head → List Value → Type 
 Took (Some name) old new head cells = TookBlock name old new head cells
 Took None old new head cells = TookNone old new (length cells)
 
--- the heap before the newest request, where that was for a new object
+-- the heap before the newest request, if that was for a new object
 abbrev pub before_take : Kept → Log → Option Kept
 before_take heap (Taken name order ∷ older) =
     Some (record heap { store = without heap.store name; log = older })
 before_take heap (Given name order ∷ older) = None
 before_take heap [] = None
 
--- the heap before the newest request, where that gave an object back: with the object's name, which
+-- the heap before the newest request, if that gave an object back: with the object's name, which
 -- has one variable, this head and these cells
 abbrev pub before_give : Kept → Head → List Value → Log → Option (ℕ × Kept)
 before_give heap head cells (Given name order ∷ older) =

@@ -1,7 +1,7 @@
 -- What contracts see of values and objects.
 use Rattle.std.specs.Prelude.{ℕ, List, map, length, slice_set}
-use Rattle.roopl_semantics.specs.Store.{Value, Word, Nil, Name, Head, OfClass, OfInts, OfObjects}
-use Rattle.roopl_semantics.specs.Store.{Object}
+use Rattle.meaning_machine.specs.roopl_semantics.Store.{Value, Word, Nil, Name, Head, OfClass, OfInts, OfObjects}
+use Rattle.meaning_machine.specs.roopl_semantics.Store.{Object}
 use Rattle.source_store.specs.declared.value.Value.{Value as Held}
 use Rattle.source_store.specs.declared.value.Value.TheVariants as held
 use Rattle.source_store.specs.declared.object.Head.{Head as Kept}

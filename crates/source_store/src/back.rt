@@ -1,4 +1,4 @@
-// The requests to a heap taken back.
+// The requests to a heap undone.
 ghost use Rattle.std.specs.Prelude.{◌≡◌, ◌-◌, ◌<◌, ◌^◌, IfOk, OnErr, length, Some, None, slice_get, take, if◌then◌else◌};
 ghost use Rattle.std.specs.Option.{option_map};
 ghost use Rattle.source_store.specs.ValueView.{values_of, head_of};
@@ -12,9 +12,9 @@ use crate::value::Value;
 use rpp_words::NoMemory;
 
 impl Heap {
-    /// The newest request is taken back, where it was for a new object: the object goes, and its
-    /// block goes back. It answers whether it was. It is refused, as want of memory, where that
-    /// object is not the last of the table, with a block of the order that was asked for.
+    /// The newest request is undone, if it was for a new object: the object goes, and its block
+    /// goes back. It returns whether it was. It is refused, as `NoMemory`, if that object is not
+    /// the last of the table, with a block of the order that was asked for.
     pub fn untake(&mut self) -> Result<bool, NoMemory>
         ensures untaken { IfOk result (λ was. before_take self.old self.old.log
             ≡ (if was then Some self.new else None)) }
@@ -38,10 +38,9 @@ impl Heap {
         }
     }
 
-    /// The newest request is taken back, where it gave an object back: the object lives again under
-    /// its name, with one variable and these cells, in its block. It answers the name. It is
-    /// refused, as want of memory, where something lives under the name, or the cells are of
-    /// another order.
+    /// The newest request is undone, if it gave an object back: the object lives again under its
+    /// name, with one variable and these cells, in its block. It returns the name. It is refused,
+    /// as `NoMemory`, if something lives under the object id, or the cells are of another order.
     pub fn ungive(&mut self, head: Head, cells: Vec<Value>) -> Result<Option<u32>, NoMemory>
         requires small { length cells.items < 2 ^ 31 }
         ensures ungiven { IfOk result (λ name. before_give self.old (head_of head)

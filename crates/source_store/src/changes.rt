@@ -1,9 +1,9 @@
 // The changes of a heap.
 ghost use Rattle.std.specs.Prelude.{◌≡◌, ◌≤◌, ◌<◌, ◌^◌, ◌∷◌, suc, None, IfOk, OnOk, OnErr, length, Some};
 ghost use Rattle.std.specs.Option.{option_map};
-ghost use Rattle.buddy_book.specs.Place.{Given};
-ghost use Rattle.roopl_semantics.specs.Store.{changed_at, object_at, without};
-ghost use Rattle.roopl_semantics.specs.Execution.{order_of_cells, one_less};
+ghost use Rattle.meaning_machine.specs.buddy_book.Place.{Given};
+ghost use Rattle.meaning_machine.specs.roopl_semantics.Store.{changed_at, object_at, without};
+ghost use Rattle.meaning_machine.specs.roopl_semantics.Execution.{order_of_cells, one_less};
 ghost use Rattle.source_store.specs.ValueView.{value_of, values_of, head_of, object_of, with_part, with_count};
 ghost use Rattle.source_store.specs.HeapView.{live_in, store_of, block_in, block_at, SameBlocks, Took};
 
@@ -22,8 +22,8 @@ impl Heap {
         set_part(&mut self.objects, name, index, value);
     }
 
-    /// One more variable refers to the object of a name. Where its count is as high as counts go,
-    /// that is refused, as want of memory.
+    /// One more variable refers to the object of a name. If its reference count is as high as
+    /// counts go, that is refused, as `NoMemory`.
     pub fn raise(&mut self, name: u32) -> Result<(), NoMemory>
         ensures raised { OnOk result (self.new ≡ record self.old
             { store = changed_at self.old.store name (with_count suc) }) }
@@ -40,8 +40,8 @@ impl Heap {
         lower_at(&mut self.objects, name);
     }
 
-    /// A new object or array with these cells and the next name, where the heap has a block for it.
-    /// Where no name is left, that is refused, as want of memory.
+    /// A new object or array with these cells and the next name, if the heap has a block for it.
+    /// If no object id is left, that is refused, as `NoMemory`.
     pub fn take(&mut self, head: Head, cells: Vec<Value>) -> Result<Option<u32>, NoMemory>
         requires small { length cells.items < 2 ^ 31 }
         ensures took { IfOk result (λ name. Took name self.old self.new (head_of head)
@@ -73,8 +73,8 @@ impl Heap {
         }
     }
 
-    /// The object of a name goes, and its block goes back. It is refused, as want of memory, for a
-    /// name without a block.
+    /// The object of a name goes, and its block goes back. It is refused, as `NoMemory`, for an
+    /// object id without a block.
     pub fn give(&mut self, name: u32) -> Result<(), NoMemory>
         ensures given { OnOk result (self.new ≡ record self.old {
           store = without self.old.store name;

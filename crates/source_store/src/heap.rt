@@ -1,13 +1,13 @@
-// The heap of a run, and what it answers.
+// The heap of a run, and what it returns.
 ghost use Rattle.std.specs.Prelude.{◌≡◌, ℕ, ◌+◌, ◌<◌, ◌≤◌, ◌^◌, ◌∷◌, [], IfOk, length, slice_get, None, Some, nat_lt, not, is_none};
 ghost use Rattle.std.specs.Option.{unwrap_or, option_map};
-ghost use Rattle.roopl_semantics.specs.Store.{Nil, main_name, object_at, object_named, class_of_head};
-ghost use Rattle.roopl_semantics.specs.Execution.{order_of_cells, is_of_class, all_zero};
+ghost use Rattle.meaning_machine.specs.roopl_semantics.Store.{Nil, main_name, object_at, object_named, class_of_head};
+ghost use Rattle.meaning_machine.specs.roopl_semantics.Execution.{order_of_cells, is_of_class, all_zero};
 ghost use Rattle.source_store.specs.ValueView.{value_of, values_of, head_of, object_of};
 ghost use Rattle.source_store.specs.HeapView.{live_in, live_at, listed, store_of, asked_for};
-ghost use Rattle.buddy_book.specs.Book.{take};
-ghost use Rattle.buddy_book.specs.Place.{count_taken, place};
-ghost use Rattle.buddy_book.specs.Shown.{IsKept};
+ghost use Rattle.meaning_machine.specs.buddy_book.Book.{take};
+ghost use Rattle.meaning_machine.specs.buddy_book.Place.{count_taken, place};
+ghost use Rattle.meaning_machine.specs.buddy_book.Shown.{IsKept};
 
 use crate::object::{Head, Object, cell_in, is_all_zero};
 use crate::requests::Request;
@@ -17,7 +17,7 @@ use rpp_words::{HEADER_WORDS, NoMemory, order_for};
 use std::alloc::Global;
 use std::marker::Model;
 
-/// The address of the heap in the book: only distances from it count.
+/// The address of the heap in the allocator state: only distances from it count.
 const BASE: u32 = 1 << 21;
 
 /// The objects and arrays of a run by their names, the free blocks of its heap, and its requests.
@@ -44,7 +44,7 @@ impl Model for Heap {
 }
 
 impl Heap {
-    /// The heap of this order before a run, with the main object alone.
+    /// The heap of this order before a run, with only the main object.
     pub fn new(alloc: Global, order: u32, head: Head, cells: Vec<Value>) -> Result<Heap, NoMemory>
         requires from { 1 ≤ order }
         requires to { order ≤ 20 }
@@ -181,7 +181,7 @@ impl Heap {
     }
 }
 
-// Whether a book of order `h` has a block of order `k`, taken from a larger one where need be.
+// Whether a book of order `h` has a block of order `k`, taken from a larger one if need be.
 fn has_order(book: &Book, k: u32, h: u32) -> bool
     requires kept { IsKept book.now }
     requires from { 1 ≤ k }

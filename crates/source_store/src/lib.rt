@@ -1,7 +1,7 @@
-//! The objects and arrays of a run by their names, with the counts of their references and the
-//! blocks that they have of the heap. A layer above may use the readers and the seven changes of
-//! `Heap`, each with the change of the definition's store and requests that it stands for; the last
-//! two take the newest request back.
+//! The objects and arrays of a run by their object ids. Each has its reference count and its block
+//! of the heap. A layer above may use the readers and the seven changes of `Heap`, each with the
+//! change of the definition's store and requests that it implements. The last two undo the newest
+//! request.
 #![tactic(auto)]
 
 mod back;

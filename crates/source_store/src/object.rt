@@ -1,8 +1,8 @@
 // Objects and arrays.
 ghost use Rattle.std.specs.Prelude.{◌≡◌, slice_get, slice_set};
 ghost use Rattle.std.specs.Option.{unwrap_or};
-ghost use Rattle.roopl_semantics.specs.Store.{Nil, class_of_head};
-ghost use Rattle.roopl_semantics.specs.Execution.{is_of_class, all_zero};
+ghost use Rattle.meaning_machine.specs.roopl_semantics.Store.{Nil, class_of_head};
+ghost use Rattle.meaning_machine.specs.roopl_semantics.Execution.{is_of_class, all_zero};
 ghost use Rattle.source_store.specs.ValueView.{value_of, values_of, head_of};
 
 use crate::value::Value;

@@ -1,6 +1,6 @@
 // What variables, fields and elements hold.
 ghost use Rattle.std.specs.Prelude.{◌≡◌};
-ghost use Rattle.roopl_semantics.specs.Store.{is_zero, is_nil, cleared, number_of, same_value};
+ghost use Rattle.meaning_machine.specs.roopl_semantics.Store.{is_zero, is_nil, cleared, number_of, same_value};
 ghost use Rattle.source_store.specs.ValueView.{value_of};
 
 /// What a variable, a field or an element holds.
@@ -48,7 +48,7 @@ impl Value {
         }
     }
 
-    /// What is left where it moves away: 0 or nil.
+    /// What is left if it moves away: 0 or nil.
     pub fn cleared(self) -> Value
         ensures { value_of result ≡ cleared (value_of self) }
     {

@@ -10,51 +10,52 @@ use Rattle.std.specs.Str.{bytes_eq}
 use Rattle.rpp_tree.specs.declared.tree.Ident.{Ident}
 use Rattle.rpp_tree.specs.Tree.{Whole, Call, Source}
 use Rattle.rpp_tree.specs.Views.{source_of}
-use Rattle.class_table.specs.declared.kind.Kind.{Kind}
-use Rattle.class_table.specs.declared.kind.Kind.TheVariants as kind
-use Rattle.class_table.specs.Refusal.{unknown_name}
-use Rattle.class_table.specs.Scope.{Typing, Locals, kind_in}
-use Rattle.class_table.specs.Expressions.{variable_type}
-use Rattle.class_table.specs.Statements.{passed, check_statement, call_rules}
-use Rattle.class_table.proofs.FirstPlaces.{equal_name}
-use Rattle.class_table.proofs.PassedRules.{some_of}
-use Rattle.paired_code.specs.declared.part.Symbol.{Symbol}
-use Rattle.paired_code.specs.Code.{Code}
-use Rattle.roopl_semantics.specs.Store.{State}
-use Rattle.roopl_semantics.specs.Value.{Cell, Slot, Part, cell_named}
-use Rattle.roopl_semantics.specs.Execution.{same_cell, exec}
-use Rattle.meaning_sound.proofs.Classes.{KnowsClasses}
-use Rattle.meaning_sound.proofs.Stores.{same_number}
-use Rattle.meaning_sound.proofs.Names.{IsMeant, meant}
-use Rattle.meaning_sound.proofs.Calls.{name_in, or_left, NamesApart as NameApart, AllNamesApart, apart_after}
-use Rattle.meaning_sound.proofs.Calls.{all_apart_after, meant_apart}
-use Rattle.meaning_sound.proofs.Keeping.{exec_keeps}
+use Rattle.branch_codegen.specs.class_table.declared.kind.Kind.{Kind}
+use Rattle.branch_codegen.specs.class_table.declared.kind.Kind.TheVariants as kind
+use Rattle.branch_codegen.specs.class_table.Refusal.{unknown_name}
+use Rattle.branch_codegen.specs.class_table.Scope.{Typing, Locals, kind_in}
+use Rattle.branch_codegen.specs.class_table.Expressions.{variable_type}
+use Rattle.branch_codegen.specs.class_table.Statements.{passed, check_statement, call_rules}
+use Rattle.branch_codegen.proofs.class_table_laws.FirstPlaces.{equal_name}
+use Rattle.branch_codegen.proofs.class_table_laws.PassedRules.{some_of}
+use Rattle.branch_codegen.specs.paired_code.declared.part.Symbol.{Symbol}
+use Rattle.branch_codegen.specs.paired_code.Code.{Code}
+use Rattle.branch_codegen.specs.roopl_semantics.Store.{State}
+use Rattle.branch_codegen.specs.roopl_semantics.Value.{Cell, Slot, Part, cell_named}
+use Rattle.branch_codegen.specs.roopl_semantics.Execution.{same_cell, exec}
+use Rattle.branch_codegen.proofs.meaning_sound_laws.Classes.{KnowsClasses}
+use Rattle.branch_codegen.proofs.meaning_sound_laws.Stores.{same_number}
+use Rattle.branch_codegen.proofs.meaning_sound_laws.Names.{IsMeant, meant}
+use Rattle.branch_codegen.proofs.meaning_sound_laws.Calls.{name_in, or_left, NamesApart as NameApart, AllNamesApart, apart_after}
+use Rattle.branch_codegen.proofs.meaning_sound_laws.Calls.{all_apart_after, meant_apart}
+use Rattle.branch_codegen.proofs.meaning_sound_laws.Keeping.{exec_keeps}
 use Rattle.refine_form.specs.declared.spot.Spot.{Spot}
 use Rattle.refine_form.specs.Form.{Scope, StmtLaw}
 use Rattle.refine_form.specs.Frames.{Under, cell_in}
 use Rattle.refine_form.specs.Stands.{shape_of, spot_in, extra, Stands}
 use Rattle.refine_form.specs.Worlds.{Place, world_of}
-use Rattle.code_scope.specs.Visible.{Visible, spot_of}
-use Rattle.method_calls.specs.Facts.{IsNear}
-use Rattle.method_calls.specs.Names.{AllTyped, HasMethod, slot_of, class_found, class_named, known_of}
-use Rattle.method_calls.specs.Laws.{NotAmong, AllApart, AreVariables, OwnCallCode, CallOnCode, MethodCode}
-use Rattle.refine_calls.specs.Laws.{IsLinked}
-use Rattle.refine_calls.proofs.Bridge.{reads_of, typed}
-use Rattle.refine_calls.proofs.FactsFit.{known}
-use Rattle.refine_calls.proofs.FactsMoves.{same_means}
-use Rattle.refine_calls.proofs.FramesFit.{means}
-use Rattle.refine_calls.proofs.Stated.{frames_are_open, receivers_are_open}
-use Rattle.refine_expressions.specs.Typing.{known_of as names_of, typing_in}
+use Rattle.branch_codegen.specs.code_scope.Visible.{Visible, spot_of}
+use Rattle.branch_codegen.specs.method_calls.Facts.{IsNear}
+use Rattle.branch_codegen.specs.method_calls.Names.{AllTyped, HasMethod, slot_of, class_found, class_named, known_of}
+use Rattle.branch_codegen.specs.method_calls.Laws.{NotAmong, AllApart, AreVariables, OwnCallCode, CallOnCode, MethodCode}
+use Rattle.branch_codegen.specs.refine_calls.Laws.{IsLinked}
+use Rattle.branch_codegen.proofs.refine_calls_laws.Bridge.{reads_of, typed}
+use Rattle.branch_codegen.proofs.refine_calls_laws.FactsFit.{known}
+use Rattle.branch_codegen.proofs.refine_calls_laws.FactsMoves.{same_means}
+use Rattle.branch_codegen.proofs.refine_calls_laws.FramesFit.{means}
+use Rattle.branch_codegen.proofs.refine_calls_laws.Stated.{frames_are_open, receivers_are_open}
+use Rattle.branch_codegen.specs.refine_expressions.Typing.{known_of as names_of, typing_in}
 use Rattle.statement_codegen.specs.Codes.{scope_of}
 use Rattle.statement_codegen.specs.Laws.{CallLaw, RoutineLaw}
 use Rattle.statement_codegen.proofs.Names.{spot_same}
 use Rattle.statement_codegen.proofs.PassedCalls.{PassedCall, passed_call, passed_receiver}
 
--- where a name stands, in a scope of a program
+-- the storage slot of a name, in a scope of a program
 abbrev pub stands_at : Source → Scope → Ident → Spot
 stands_at program s name = spot_of (names_of program s) name.text
 
--- what the code of a call is made with: the slot of its method in a class, and the spots of its arguments
+-- what the code of a call is made with: the slot of its method in a class, and the storage slots of
+-- its arguments
 pub record MadeCall (program : Source) (s : Scope) (class : ℕ) (method : Ident) (args : List Ident) (slot : ℕ)
     (spots : List Spot) : Type 0 where
   pub slot_is : slot_of program class method ≡ slot
@@ -84,7 +85,7 @@ module _ (program : Source) (s : Scope) where
     inside = p.inside;
   }
 
-  -- typed names stand at their spots
+  -- typed names are in their storage slots
   spots_same : (args : List Ident) (ks : List Kind) → AllTyped program s args ks
       → map (spot_in program s) args ≡ map (stands_at program s) args
   spots_same [] [] t = refl

@@ -1,24 +1,24 @@
 -- The laws of the calls, from those of their parts.
 use Rattle.std.proofs.Common.{◌≡◌, ℕ, ◌+◌, ◌<◌, ◌≤◌, ◌⊎◌, inl, inr, List, length, refl, sym, ap, ◌∙◌, subst, arith}
 use Rattle.std.specs.Prelude.{Result, Ok, Err, IfOk}
-use Rattle.code_conventions.specs.declared.memory.TheConstants.{MOST_VARIABLES}
+use Rattle.branch_codegen.specs.code_conventions.declared.memory.TheConstants.{MOST_VARIABLES}
 use Rattle.rpp_tree.specs.declared.tree.Var.{Var}
 use Rattle.rpp_tree.specs.Tree.{Expression, Number, Null, Variable, Element, Binary, Source}
-use Rattle.class_table.specs.declared.kind.Kind.TheVariants as kind
-use Rattle.paired_code.specs.declared.part.Symbol.{Symbol}
-use Rattle.paired_code.specs.Code.{Code}
-use Rattle.code_scope.specs.Visible.{Known, spot_of, free_of}
-use Rattle.register_expressions.specs.Code.{words}
-use Rattle.expr_uncompute.specs.Promises as code
+use Rattle.branch_codegen.specs.class_table.declared.kind.Kind.TheVariants as kind
+use Rattle.branch_codegen.specs.paired_code.declared.part.Symbol.{Symbol}
+use Rattle.branch_codegen.specs.paired_code.Code.{Code}
+use Rattle.branch_codegen.specs.code_scope.Visible.{Known, spot_of, free_of}
+use Rattle.branch_codegen.specs.register_expressions.Code.{words}
+use Rattle.branch_codegen.specs.expr_uncompute.Promises as code
 use Rattle.refine_form.specs.Form.{Scope, ValueLaw}
 use Rattle.refine_form.specs.Worlds.{Place, world_of}
-use Rattle.method_calls.specs.Names.{IntInit, IsNull, NilInit, IsInit}
-use Rattle.method_calls.specs.Laws.{LocalCode}
-use Rattle.refine_calls.proofs.Stated.{locals_are_open}
-use Rattle.code_conventions.specs.declared.registers.TheConstants.{VALUE}
-use Rattle.refine_expressions.specs.Typing.{known_of, spot_in, free_in, HasRoom, IsTyped}
-use Rattle.refine_expressions.specs.Laws.{IsLaidOut}
-use Rattle.refine_expressions.proofs.Stated.{values_are_told}
+use Rattle.branch_codegen.specs.method_calls.Names.{IntInit, IsNull, NilInit, IsInit}
+use Rattle.branch_codegen.specs.method_calls.Laws.{LocalCode}
+use Rattle.branch_codegen.proofs.refine_calls_laws.Stated.{locals_are_open}
+use Rattle.branch_codegen.specs.code_conventions.declared.registers.TheConstants.{VALUE}
+use Rattle.branch_codegen.specs.refine_expressions.Typing.{known_of, spot_in, free_in, HasRoom, IsTyped}
+use Rattle.branch_codegen.specs.refine_expressions.Laws.{IsLaidOut}
+use Rattle.branch_codegen.proofs.refine_expressions_laws.Stated.{values_are_told}
 use Rattle.statement_codegen.specs.Laws.{LocalLaw}
 
 -- the code of a value that may be that of a new variable

@@ -1,27 +1,27 @@
--- The code of `construct`: blocks one behind another, and the code of `new` mirrored.
+-- The code of `construct`: blocks one after another, and the inverse of the code of `new`.
 use Rattle.std.proofs.Common.{◌≡◌, ℕ, suc, ◌+◌, ◌-◌, ◌*◌, ◌≤◌, inr, Bool, true, false, List, [], ◌∷◌, ◌++◌, length}
 use Rattle.std.proofs.Common.{refl, sym, ap, ◌∙◌, subst, arith, append-nil, length-append}
 use Rattle.std.specs.Prelude.{Result, Ok, Err, IfOk, not}
 use Rattle.rpp_tree.specs.declared.tree.Ident.{Ident}
 use Rattle.rpp_tree.specs.declared.tree.Var.{Var}
 use Rattle.rpp_tree.specs.Tree.{Null, Lvalue, Whole, Creation, Object, Statements, New, Delete, End, Then, joined}
-use Rattle.class_table.specs.Expressions.{is_int}
-use Rattle.class_table.specs.Scope.{kind_of}
-use Rattle.class_table.specs.Table.{table_of, class_of}
-use Rattle.stmt_inverter.specs.Inverse.{inverse}
-use Rattle.stmt_inverter.proofs.Inverses.{inverse-joined}
-use Rattle.pisa_isa.specs.Machine.{Memory}
-use Rattle.paired_code.specs.declared.part.Symbol.{Symbol}
-use Rattle.paired_code.specs.Code.{Code}
-use Rattle.paired_code.specs.Does.{Told, told_then, Meets, in_order}
-use Rattle.paired_code.specs.Layout.{mirror_cells}
-use Rattle.paired_code.specs.Pieces.{Will}
-use Rattle.paired_code.proofs.Does.{will_last}
-use Rattle.paired_code.proofs.Laws.{will_more}
-use Rattle.paired_code.proofs.Mirrored.{will_mirror, length_mirror}
-use Rattle.roopl_semantics.specs.Execution.{exec, constructed}
-use Rattle.roopl_semantics.specs.Store.{State}
-use Rattle.meaning_sound.proofs.Locals.{no_int_class}
+use Rattle.branch_codegen.specs.class_table.Expressions.{is_int}
+use Rattle.branch_codegen.specs.class_table.Scope.{kind_of}
+use Rattle.branch_codegen.specs.class_table.Table.{table_of, class_of}
+use Rattle.branch_codegen.specs.stmt_inverter.Inverse.{inverse}
+use Rattle.branch_codegen.proofs.stmt_inverter_laws.Inverses.{inverse-joined}
+use Rattle.branch_codegen.specs.pisa_isa.Machine.{Memory}
+use Rattle.branch_codegen.specs.paired_code.declared.part.Symbol.{Symbol}
+use Rattle.branch_codegen.specs.paired_code.Code.{Code}
+use Rattle.branch_codegen.specs.paired_code.Does.{Told, told_then, Meets, in_order}
+use Rattle.branch_codegen.specs.paired_code.Layout.{mirror_cells}
+use Rattle.branch_codegen.specs.paired_code.Pieces.{Will}
+use Rattle.branch_codegen.proofs.paired_code_laws.Does.{will_last}
+use Rattle.branch_codegen.proofs.paired_code_laws.Laws.{will_more}
+use Rattle.branch_codegen.proofs.paired_code_laws.Mirrored.{will_mirror, length_mirror}
+use Rattle.branch_codegen.specs.roopl_semantics.Execution.{exec, constructed}
+use Rattle.branch_codegen.specs.roopl_semantics.Store.{State}
+use Rattle.branch_codegen.proofs.meaning_sound_laws.Locals.{no_int_class}
 use Rattle.refine_form.specs.Form.{World, Scope, Open, Owes, StmtLaw, BlockLaw, turned, told, one, with_var}
 use Rattle.refine_form.specs.Worlds.{world_of}
 use Rattle.refine_form.specs.Held.{Holds}
@@ -29,12 +29,12 @@ use Rattle.refine_form.proofs.Holding.{holds_in}
 use Rattle.refine_form.proofs.Blocks.{owes_less, end_law, then_law}
 use Rattle.refine_form.proofs.Rules.{meets_less, meets_told, meets_then}
 use Rattle.refine_form.proofs.Told.{told_joined, count, cost_counts}
-use Rattle.code_scope.specs.Visible.{Visible, known_in}
+use Rattle.branch_codegen.specs.code_scope.Visible.{Visible, known_in}
 use Rattle.statement_codegen.specs.Codes.{scope_of}
 use Rattle.statement_codegen.specs.Laws.{LocalLaw, ConstructLaw}
 use Rattle.statement_codegen.proofs.Stands.{laid_out, names_same}
 
--- ---- a block behind another
+-- ---- a block after another
 
 module _ (w : World) (s : Scope) (a b : Statements) (p q : List Symbol) (hp : BlockLaw w s a p) (hq : BlockLaw w s b q)
   where
@@ -76,7 +76,7 @@ module _ (w : World) (s : Scope) (a b : Statements) (p q : List Symbol) (hp : Bl
     joined_law n owes false u = record { does = λ st m h. ahead n owes u st m h }
     joined_law n owes true u = record { does = λ st m h. backward n owes u st m h }
 
--- ---- what makes an object, mirrored, deletes it
+-- ---- what makes an object, inverted, deletes it
 
 turned_new : (d : Bool) (at : ℕ) (made : Creation) (target : Lvalue)
     → turned (not d) (New at made target) ≡ turned d (Delete at made target)

@@ -5,7 +5,7 @@ use Rattle.std.proofs.Common.{refl, sym, ap, ◌∙◌, subst, arith, append-nil
 use Rattle.std.specs.Prelude.{Result, Ok, Err, IfOk, Box}
 use Rattle.std.specs.declared.alloc.Global.{Global}
 use Rattle.std.specs.Option.{option_map}
-use Rattle.code_conventions.specs.declared.memory.TheConstants.{MOST_VARIABLES}
+use Rattle.branch_codegen.specs.code_conventions.declared.memory.TheConstants.{MOST_VARIABLES}
 use Rattle.rpp_tree.specs.declared.tree.Ident.{Ident}
 use Rattle.rpp_tree.specs.declared.tree.Expr.{Expr}
 use Rattle.rpp_tree.specs.declared.tree.Place.{Place}
@@ -15,24 +15,24 @@ use Rattle.rpp_tree.specs.declared.tree.VarType.TheVariants as type
 use Rattle.rpp_tree.specs.Tree.{Expression, Null, Lvalue, Whole, Item, Swap, Call, End, Then, Source}
 use Rattle.rpp_tree.specs.Places.{place_name}
 use Rattle.rpp_tree.specs.Views.{lvalue_with, lvalue_of, source_of}
-use Rattle.class_table.specs.declared.kind.Kind.TheVariants as kind
-use Rattle.class_table.specs.Expressions.{is_int}
-use Rattle.class_table.specs.Inheritance.{kind_of_var}
-use Rattle.class_table.specs.Refusal.{unknown_name}
-use Rattle.class_table.specs.Scope.{Typing, Locals, kind_of, kind_in, class_kind, array_kind}
-use Rattle.class_table.specs.Statements.{passed, check_statement}
-use Rattle.class_table.specs.Table.{Table, table_of, class_of}
-use Rattle.class_table.proofs.PassedRules.{some_of}
-use Rattle.paired_code.specs.Code.{Code}
-use Rattle.paired_code.specs.declared.part.Symbol.{Symbol}
-use Rattle.roopl_semantics.specs.Execution.{element_name, element_call}
-use Rattle.meaning_sound.specs.Plain.{ReceiverIsPlain}
+use Rattle.branch_codegen.specs.class_table.declared.kind.Kind.TheVariants as kind
+use Rattle.branch_codegen.specs.class_table.Expressions.{is_int}
+use Rattle.branch_codegen.specs.class_table.Inheritance.{kind_of_var}
+use Rattle.branch_codegen.specs.class_table.Refusal.{unknown_name}
+use Rattle.branch_codegen.specs.class_table.Scope.{Typing, Locals, kind_of, kind_in, class_kind, array_kind}
+use Rattle.branch_codegen.specs.class_table.Statements.{passed, check_statement}
+use Rattle.branch_codegen.specs.class_table.Table.{Table, table_of, class_of}
+use Rattle.branch_codegen.proofs.class_table_laws.PassedRules.{some_of}
+use Rattle.branch_codegen.specs.paired_code.Code.{Code}
+use Rattle.branch_codegen.specs.paired_code.declared.part.Symbol.{Symbol}
+use Rattle.branch_codegen.specs.roopl_semantics.Execution.{element_name, element_call}
+use Rattle.branch_codegen.specs.meaning_sound.Plain.{ReceiverIsPlain}
 use Rattle.refine_form.specs.Form.{BlockLaw}
 use Rattle.refine_form.specs.Stands.{shape_of}
 use Rattle.refine_form.specs.Worlds.{world_of}
 use Rattle.refine_form.proofs.Stated.{nothing_is_a_block, blocks_are_rows}
-use Rattle.code_scope.specs.Visible.{Visible, kind_named, known_in, outer_of}
-use Rattle.refine_expressions.specs.Typing.{typing_in}
+use Rattle.branch_codegen.specs.code_scope.Visible.{Visible, kind_named, known_in, outer_of}
+use Rattle.branch_codegen.specs.refine_expressions.Typing.{typing_in}
 use Rattle.statement_codegen.specs.Codes.{scope_of, with_variable, IsStatementCode, IsBlockCode, IsAllowed}
 use Rattle.statement_codegen.specs.Laws.{LocalLaw, ExchangedCall, element_type, element_var, ElementLaw}
 use Rattle.statement_codegen.proofs.Names.{kind_is}
@@ -132,7 +132,7 @@ module _ (v : Visible) (at : ℕ) (back : Bool) (array : Ident) (index : Express
         ((exchanged p h).law place routine linked same);
   }
 
--- ---- what the call answers
+-- ---- what the call returns
 
 pub place_name_is : (place : Place) → place_name (lvalue_of place) ≡ place.name
 place_name_is place = by place.index

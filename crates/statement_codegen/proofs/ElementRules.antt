@@ -1,4 +1,4 @@
--- What the rules of types say of a call on an element that they pass: they pass the exchange with a
+-- What the rules of types say of an accepted call on an element. They accept the exchange with a
 -- variable of the element's class, whose name is empty, and the call on that variable.
 use Rattle.std.proofs.Common.{◌≡◌, ℕ, Bool, true, false, List, [], ◌∷◌, ◌++◌, length, Option, Some, None, refl, ap, ◌∙◌}
 use Rattle.std.specs.Prelude.{nat_eq, is_some, not, ◌||◌, if◌then◌else◌, Ok, Err}
@@ -8,27 +8,27 @@ use Rattle.std.specs.List.{list_any}
 use Rattle.rpp_tree.specs.declared.tree.Ident.{Ident}
 use Rattle.rpp_tree.specs.declared.tree.Var.{Var}
 use Rattle.rpp_tree.specs.Tree.{Expression, Number, Null, Variable, Element, Binary, Whole, Item}
-use Rattle.class_table.specs.declared.kind.Kind.{Kind}
-use Rattle.class_table.specs.declared.kind.Kind.TheVariants as kind
-use Rattle.class_table.specs.Overrides.{parameters_of}
-use Rattle.class_table.specs.Table.{slot_in, dispatch_in}
-use Rattle.class_table.specs.Refusal.{unknown_name, type_differs, self_update, same_argument, wrong_arity}
-use Rattle.class_table.specs.Scope.{Typing, Local, Locals, kind_of}
-use Rattle.class_table.specs.Expressions.{and_then, is_int, index_is_int, element_of, variable_type, occurs, type_of}
-use Rattle.class_table.specs.Expressions.{place_type, first_token}
-use Rattle.class_table.specs.Statements.{Verdict, receiver_kind, place_class, passed, required, in_turn, each_passes}
-use Rattle.class_table.specs.Statements.{each_passes_after, same_kind, in_either_index, swap_rules, argument_known}
-use Rattle.class_table.specs.Statements.{argument_new, argument_fits, arguments_fit, slot_rules, call_rules}
-use Rattle.class_table.specs.Statements.{receiver_class}
-use Rattle.class_table.proofs.FirstPlaces.{bytes_turned}
-use Rattle.class_table.proofs.PassedRules.{both_passed, in_turn_passes, required_passes, handed_on, hands_on}
-use Rattle.class_table.proofs.PassedRules.{same_as_itself}
-use Rattle.roopl_semantics.specs.Execution.{element_name}
-use Rattle.meaning_sound.specs.Plain.{IsNamed, HasNames, AreNamed}
-use Rattle.meaning_sound.proofs.Expansions.{innermost}
-use Rattle.meaning_sound.proofs.Locals.{kind_in_under, type_of_under}
+use Rattle.branch_codegen.specs.class_table.declared.kind.Kind.{Kind}
+use Rattle.branch_codegen.specs.class_table.declared.kind.Kind.TheVariants as kind
+use Rattle.branch_codegen.specs.class_table.Overrides.{parameters_of}
+use Rattle.branch_codegen.specs.class_table.Table.{slot_in, dispatch_in}
+use Rattle.branch_codegen.specs.class_table.Refusal.{unknown_name, type_differs, self_update, same_argument, wrong_arity}
+use Rattle.branch_codegen.specs.class_table.Scope.{Typing, Local, Locals, kind_of}
+use Rattle.branch_codegen.specs.class_table.Expressions.{and_then, is_int, index_is_int, element_of, variable_type, occurs, type_of}
+use Rattle.branch_codegen.specs.class_table.Expressions.{place_type, first_token}
+use Rattle.branch_codegen.specs.class_table.Statements.{Verdict, receiver_kind, place_class, passed, required, in_turn, each_passes}
+use Rattle.branch_codegen.specs.class_table.Statements.{each_passes_after, same_kind, in_either_index, swap_rules, argument_known}
+use Rattle.branch_codegen.specs.class_table.Statements.{argument_new, argument_fits, arguments_fit, slot_rules, call_rules}
+use Rattle.branch_codegen.specs.class_table.Statements.{receiver_class}
+use Rattle.branch_codegen.proofs.class_table_laws.FirstPlaces.{bytes_turned}
+use Rattle.branch_codegen.proofs.class_table_laws.PassedRules.{both_passed, in_turn_passes, required_passes, handed_on, hands_on}
+use Rattle.branch_codegen.proofs.class_table_laws.PassedRules.{same_as_itself}
+use Rattle.branch_codegen.specs.roopl_semantics.Execution.{element_name}
+use Rattle.branch_codegen.specs.meaning_sound.Plain.{IsNamed, HasNames, AreNamed}
+use Rattle.branch_codegen.proofs.meaning_sound_laws.Expansions.{innermost}
+use Rattle.branch_codegen.proofs.meaning_sound_laws.Locals.{kind_in_under, type_of_under}
 
--- the empty name does not occur where no name is empty
+-- the empty name does not occur if no name is empty
 not_in : (e : Expression) → HasNames e → occurs [] e ≡ false
 not_in (Number at word) h = refl
 not_in (Null at) h = refl

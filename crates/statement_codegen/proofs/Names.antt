@@ -1,4 +1,4 @@
--- What a name means in a scope: its type, its class, and where it stands.
+-- What a name means in a scope: its type, its class, and its storage slot.
 use Rattle.std.proofs.Common.{◌≡◌, ℕ, ◌+◌, ◌<◌, ◌≤◌, Bool, true, false, List, [], ◌∷◌, length, map, Option, Some, None}
 use Rattle.std.proofs.Common.{refl, sym, ap, ◌∙◌, arith}
 use Rattle.std.specs.Prelude.{Ok, nat_lt, position, slice_get, if◌then◌else◌}
@@ -8,34 +8,34 @@ use Rattle.std.proofs.lemmas.Bool.{ltb-true, ltb-false}
 use Rattle.std.proofs.lemmas.List.{length-map}
 use Rattle.std.proofs.lemmas.List.Quantifiers.{position-Some}
 use Rattle.std.proofs.lemmas.Option.{slice_get_past}
-use Rattle.code_conventions.specs.declared.memory.TheConstants.{MOST_VARIABLES}
+use Rattle.branch_codegen.specs.code_conventions.declared.memory.TheConstants.{MOST_VARIABLES}
 use Rattle.rpp_tree.specs.declared.tree.Ident.{Ident}
 use Rattle.rpp_tree.specs.declared.tree.Var.{Var}
 use Rattle.rpp_tree.specs.declared.tree.VarType.{VarType}
 use Rattle.rpp_tree.specs.Tree.{Source}
-use Rattle.class_table.specs.declared.kind.Kind.{Kind}
-use Rattle.class_table.specs.Members.{field_name, field_of, fields_of}
-use Rattle.class_table.specs.Classes.{class_fields}
-use Rattle.class_table.specs.Table.{Table, table_of, fields_in, field_in}
-use Rattle.class_table.specs.Refusal.{unknown_name}
-use Rattle.class_table.specs.Scope.{Typing, Locals, kind_of, class_kind, array_kind, local_kind, kind_at, field_kind}
-use Rattle.class_table.specs.Scope.{kind_in, no_var}
-use Rattle.class_table.specs.Inheritance.{kind_of_var}
-use Rattle.class_table.specs.Expressions.{variable_type}
-use Rattle.class_table.proofs.Numbers.{length-each_below}
-use Rattle.class_table.proofs.PassedRules.{some_of}
-use Rattle.class_table.proofs.Tables.{table_reads}
-use Rattle.meaning_sound.proofs.Names.{type_at, local_kind_is}
+use Rattle.branch_codegen.specs.class_table.declared.kind.Kind.{Kind}
+use Rattle.branch_codegen.specs.class_table.Members.{field_name, field_of, fields_of}
+use Rattle.branch_codegen.specs.class_table.Classes.{class_fields}
+use Rattle.branch_codegen.specs.class_table.Table.{Table, table_of, fields_in, field_in}
+use Rattle.branch_codegen.specs.class_table.Refusal.{unknown_name}
+use Rattle.branch_codegen.specs.class_table.Scope.{Typing, Locals, kind_of, class_kind, array_kind, local_kind, kind_at, field_kind}
+use Rattle.branch_codegen.specs.class_table.Scope.{kind_in, no_var}
+use Rattle.branch_codegen.specs.class_table.Inheritance.{kind_of_var}
+use Rattle.branch_codegen.specs.class_table.Expressions.{variable_type}
+use Rattle.branch_codegen.proofs.class_table_laws.Numbers.{length-each_below}
+use Rattle.branch_codegen.proofs.class_table_laws.PassedRules.{some_of}
+use Rattle.branch_codegen.proofs.class_table_laws.Tables.{table_reads}
+use Rattle.branch_codegen.proofs.meaning_sound_laws.Names.{type_at, local_kind_is}
 use Rattle.refine_form.specs.declared.spot.Spot.{Spot}
 use Rattle.refine_form.specs.declared.spot.Spot.TheVariants.{Field, Frame}
 use Rattle.refine_form.specs.Form.{Scope}
 use Rattle.refine_form.specs.Stands.{local_of, shape_of, spot_at, spot_in}
-use Rattle.code_scope.specs.Visible.{Known, word_named, type_named, field_type, kind_named, spot_of}
-use Rattle.method_calls.specs.Facts.{IsNear}
-use Rattle.method_calls.specs.Names.{class_of_kind, class_found, class_named}
-use Rattle.refine_calls.proofs.Bridge.{shape_names}
-use Rattle.refine_expressions.specs.Typing.{known_of, typing_in}
-use Rattle.refine_expressions.proofs.Names.{var_name, word_at, word_is}
+use Rattle.branch_codegen.specs.code_scope.Visible.{Known, word_named, type_named, field_type, kind_named, spot_of}
+use Rattle.branch_codegen.specs.method_calls.Facts.{IsNear}
+use Rattle.branch_codegen.specs.method_calls.Names.{class_of_kind, class_found, class_named}
+use Rattle.branch_codegen.proofs.refine_calls_laws.Bridge.{shape_names}
+use Rattle.branch_codegen.specs.refine_expressions.Typing.{known_of, typing_in}
+use Rattle.branch_codegen.proofs.refine_expressions_laws.Names.{var_name, word_at, word_is}
 
 -- ---- classes of types
 
@@ -63,7 +63,7 @@ word_near name (var ∷ vars) few field near = by (bytes_eq var.name.text name)
     by true rest = let q : 16 + length vars < 65536 = omega (arith, few) in q
     by false rest = rest
 
--- names stand near, where there are few
+-- names are near, if there are few
 pub spot_near : (known : Known) (name : List ℕ) → length known.variables ≤ MOST_VARIABLES → length known.fields ≤ 64
     → IsNear (spot_of known name)
 spot_near known name few few_fields = word_near name known.variables few (option_map Field (field_of known.fields name))
@@ -155,11 +155,11 @@ module _ (program : Source) (s : Scope) where
           ap (λ (vars : List Var). position (bytes_eq name) (map field_name vars)) none in
           absurd (cc)
 
-  -- the spot of a name, by its word and its field
+  -- the storage slot of a name, by its word and its field
   abbrev spot_by : Option ℕ → Option ℕ → Spot
   spot_by word field = unwrap_or (option_or (option_map Frame word) (option_map Field field)) (Field 0)
 
-  -- a name with a type stands where its spot is
+  -- a name with a type is in its storage slot
   pub spot_same : (name : Ident) (k : Kind) → variable_type typing shape name ≡ Ok k
       → spot_in program s name ≡ spot_of known name.text
   spot_same name k t = by (position (bytes_eq name.text) (map var_name s.vars)) refl

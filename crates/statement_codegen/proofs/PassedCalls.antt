@@ -8,23 +8,23 @@ use Rattle.std.specs.Option.{unwrap_or, is_none, ok_or}
 use Rattle.rpp_tree.specs.declared.tree.Ident.{Ident}
 use Rattle.rpp_tree.specs.declared.tree.Var.{Var}
 use Rattle.rpp_tree.specs.Tree.{Lvalue, Whole, Source}
-use Rattle.class_table.specs.declared.kind.Kind.{Kind}
-use Rattle.class_table.specs.declared.kind.Kind.TheVariants as kind
-use Rattle.class_table.specs.Overrides.{parameters_of}
-use Rattle.class_table.specs.Table.{Table, table_of, slot_in, dispatch_in}
-use Rattle.class_table.specs.Refusal.{unknown_name, type_differs, wrong_arity}
-use Rattle.class_table.specs.Scope.{Typing, Locals, kind_of, kind_in}
-use Rattle.class_table.specs.Inheritance.{kind_of_var}
-use Rattle.class_table.specs.Expressions.{and_then, variable_type}
-use Rattle.class_table.specs.Statements.{passed, required, each_passes, each_passes_after, argument_known, argument_new}
-use Rattle.class_table.specs.Statements.{argument_fits, arguments_fit, receiver_kind, place_class, receiver_class}
-use Rattle.class_table.specs.Statements.{plain_receiver, slot_rules, call_rules}
-use Rattle.class_table.proofs.PassedRules.{both_passed, held, handed_on, kinds_same}
-use Rattle.class_table.proofs.FoundMethods.{slot_inside}
+use Rattle.branch_codegen.specs.class_table.declared.kind.Kind.{Kind}
+use Rattle.branch_codegen.specs.class_table.declared.kind.Kind.TheVariants as kind
+use Rattle.branch_codegen.specs.class_table.Overrides.{parameters_of}
+use Rattle.branch_codegen.specs.class_table.Table.{Table, table_of, slot_in, dispatch_in}
+use Rattle.branch_codegen.specs.class_table.Refusal.{unknown_name, type_differs, wrong_arity}
+use Rattle.branch_codegen.specs.class_table.Scope.{Typing, Locals, kind_of, kind_in}
+use Rattle.branch_codegen.specs.class_table.Inheritance.{kind_of_var}
+use Rattle.branch_codegen.specs.class_table.Expressions.{and_then, variable_type}
+use Rattle.branch_codegen.specs.class_table.Statements.{passed, required, each_passes, each_passes_after, argument_known, argument_new}
+use Rattle.branch_codegen.specs.class_table.Statements.{argument_fits, arguments_fit, receiver_kind, place_class, receiver_class}
+use Rattle.branch_codegen.specs.class_table.Statements.{plain_receiver, slot_rules, call_rules}
+use Rattle.branch_codegen.proofs.class_table_laws.PassedRules.{both_passed, held, handed_on, kinds_same}
+use Rattle.branch_codegen.proofs.class_table_laws.FoundMethods.{slot_inside}
 use Rattle.refine_form.specs.Form.{Scope}
 use Rattle.refine_form.specs.Stands.{shape_of}
-use Rattle.method_calls.specs.Names.{AllTyped}
-use Rattle.refine_expressions.specs.Typing.{typing_in}
+use Rattle.branch_codegen.specs.method_calls.Names.{AllTyped}
+use Rattle.branch_codegen.specs.refine_expressions.Typing.{typing_in}
 
 a_kind : (o : Option Kind) → is_some o ≡ true → o ≡ Some (unwrap_or o kind.Nil)
 a_kind None h = absurd (cc)

@@ -2,15 +2,15 @@
 use Rattle.std.proofs.Common.{◌≡◌, ℕ, suc, ◌+◌, ◌*◌, ◌≤◌, Bool, true, false, List, refl, sym, subst, arith}
 use Rattle.std.specs.Prelude.{Result, Ok, Err, IfOk}
 use Rattle.rpp_tree.specs.Tree.{Skip}
-use Rattle.pisa_isa.specs.declared.cell.Op.TheVariants.{Xori}
-use Rattle.pisa_isa.specs.declared.cell.Cell.{Cell}
-use Rattle.paired_code.specs.Code.{Code}
-use Rattle.paired_code.specs.declared.part.Symbol.{Symbol}
-use Rattle.paired_code.specs.Pieces.{Done}
-use Rattle.paired_code.specs.Laws.{PlainLaw, outcome_of}
-use Rattle.paired_code.specs.Does.{Meets, fine}
-use Rattle.paired_code.proofs.Laws.{will_of}
-use Rattle.roopl_semantics.specs.Store.{State}
+use Rattle.branch_codegen.specs.pisa_isa.declared.cell.Op.TheVariants.{Xori}
+use Rattle.branch_codegen.specs.pisa_isa.declared.cell.Cell.{Cell}
+use Rattle.branch_codegen.specs.paired_code.Code.{Code}
+use Rattle.branch_codegen.specs.paired_code.declared.part.Symbol.{Symbol}
+use Rattle.branch_codegen.specs.paired_code.Pieces.{Done}
+use Rattle.branch_codegen.specs.paired_code.Laws.{PlainLaw, outcome_of}
+use Rattle.branch_codegen.specs.paired_code.Does.{Meets, fine}
+use Rattle.branch_codegen.proofs.paired_code_laws.Laws.{will_of}
+use Rattle.branch_codegen.specs.roopl_semantics.Store.{State}
 use Rattle.refine_form.specs.Form.{World, Scope, Open, StmtLaw, registers, told, one, turned}
 use Rattle.refine_form.specs.Worlds.{Place, world_of}
 use Rattle.refine_form.proofs.Rules.{as_known}
@@ -29,7 +29,7 @@ nothing_done false object frame cells = refl
 nothing_done true object frame cells = refl
 
 skip_told : (w : World) (n : ℕ) (d : Bool) (at : ℕ) (st : State)
-    → told (one w.setting n (turned d (Skip at)) st) ≡ Rattle.paired_code.specs.Does.Fine st 1
+    → told (one w.setting n (turned d (Skip at)) st) ≡ Rattle.branch_codegen.specs.paired_code.Does.Fine st 1
 skip_told w n false at st = refl
 skip_told w n true at st = refl
 

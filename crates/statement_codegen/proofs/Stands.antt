@@ -1,11 +1,11 @@
--- The codes of updates, swaps, conditionals, loops and locals are those of their statements, where
--- the rules of types pass these and the limits let them through: the laws of the code ask for no more.
+-- The codes of updates, swaps, conditionals, loops and locals are those of their statements, if the
+-- rules of types and the limits accept these. The laws of the code need no more.
 use Rattle.std.proofs.Common.{◌≡◌, ℕ, ◌+◌, ◌<◌, ◌≤◌, inl, inr, Bool, true, false, List, length, refl, sym, ap, ◌∙◌}
 use Rattle.std.proofs.Common.{subst, arith}
 use Rattle.std.specs.Prelude.{Ok, Option, Some, None, not, ◌&&◌, ◌||◌, if◌then◌else◌}
 use Rattle.std.specs.Option.{is_none}
 use Rattle.std.specs.Str.{bytes_eq}
-use Rattle.code_conventions.specs.declared.memory.TheConstants.{MOST_VARIABLES}
+use Rattle.branch_codegen.specs.code_conventions.declared.memory.TheConstants.{MOST_VARIABLES}
 use Rattle.rpp_tree.specs.declared.tree.Var.{Var}
 use Rattle.rpp_tree.specs.declared.tree.VarType.{VarType}
 use Rattle.rpp_tree.specs.declared.tree.VarType.TheVariants as type
@@ -13,33 +13,33 @@ use Rattle.rpp_tree.specs.declared.tree.UpdateOp.{UpdateOp}
 use Rattle.rpp_tree.specs.Tree.{Expression, Number, Null, Variable, Element, Binary, Lvalue, Statements, Update, Swap}
 use Rattle.rpp_tree.specs.Tree.{If, From, Local, Source, nodes}
 use Rattle.rpp_tree.specs.Views.{source_of}
-use Rattle.class_table.specs.declared.kind.Kind.{Kind}
-use Rattle.class_table.specs.declared.kind.Kind.TheVariants as kind
-use Rattle.class_table.specs.Overrides.{is_type_int, same_type}
-use Rattle.class_table.specs.Table.{table_of, class_of}
-use Rattle.class_table.specs.Refusal.{redeclared, type_differs, local_in_own_expression}
-use Rattle.class_table.specs.Scope.{Typing, Locals, local_kind, kind_of, class_kind, array_kind}
-use Rattle.class_table.specs.Expressions.{is_int, type_of, occurs, first_token}
-use Rattle.class_table.specs.Statements.{passed, required, in_turn, test_rules, type_known, is_nil_word, local_rules}
-use Rattle.class_table.specs.Statements.{with_local, check_statements}
-use Rattle.class_table.proofs.FirstPlaces.{same_name}
-use Rattle.class_table.proofs.PassedRules.{both_passed, held, handed_on, both_true, neither_true, int_kind}
-use Rattle.paired_code.specs.declared.part.Symbol.{Symbol}
-use Rattle.meaning_sound.specs.Plain.{HasWords}
-use Rattle.meaning_sound.proofs.Locals.{no_int_class}
+use Rattle.branch_codegen.specs.class_table.declared.kind.Kind.{Kind}
+use Rattle.branch_codegen.specs.class_table.declared.kind.Kind.TheVariants as kind
+use Rattle.branch_codegen.specs.class_table.Overrides.{is_type_int, same_type}
+use Rattle.branch_codegen.specs.class_table.Table.{table_of, class_of}
+use Rattle.branch_codegen.specs.class_table.Refusal.{redeclared, type_differs, local_in_own_expression}
+use Rattle.branch_codegen.specs.class_table.Scope.{Typing, Locals, local_kind, kind_of, class_kind, array_kind}
+use Rattle.branch_codegen.specs.class_table.Expressions.{is_int, type_of, occurs, first_token}
+use Rattle.branch_codegen.specs.class_table.Statements.{passed, required, in_turn, test_rules, type_known, is_nil_word, local_rules}
+use Rattle.branch_codegen.specs.class_table.Statements.{with_local, check_statements}
+use Rattle.branch_codegen.proofs.class_table_laws.FirstPlaces.{same_name}
+use Rattle.branch_codegen.proofs.class_table_laws.PassedRules.{both_passed, held, handed_on, both_true, neither_true, int_kind}
+use Rattle.branch_codegen.specs.paired_code.declared.part.Symbol.{Symbol}
+use Rattle.branch_codegen.specs.meaning_sound.Plain.{HasWords}
+use Rattle.branch_codegen.proofs.meaning_sound_laws.Locals.{no_int_class}
 use Rattle.refine_form.specs.Form.{Scope}
 use Rattle.refine_form.specs.Stands.{shape_of}
 use Rattle.refine_form.specs.Worlds.{Place}
-use Rattle.code_scope.specs.Visible.{Visible, Known, spot_of, free_of, known_in}
-use Rattle.register_expressions.specs.Code.{words}
-use Rattle.expr_uncompute.specs.Code.{place_words}
-use Rattle.expr_uncompute.specs.Promises as code
-use Rattle.expr_uncompute.proofs.Bounds.{words_most, place_words_most}
-use Rattle.method_calls.specs.Names.{IsNull, IsInit}
-use Rattle.refine_calls.specs.Laws.{IsLinked}
-use Rattle.refine_expressions.specs.Typing.{known_of, HasRoom, typing_in, IsTyped, IsPassed}
-use Rattle.refine_expressions.specs.Laws.{IsLaidOut}
-use Rattle.refine_expressions.proofs.Stated.{updates_are_told, swaps_are_told}
+use Rattle.branch_codegen.specs.code_scope.Visible.{Visible, Known, spot_of, free_of, known_in}
+use Rattle.branch_codegen.specs.register_expressions.Code.{words}
+use Rattle.branch_codegen.specs.expr_uncompute.Code.{place_words}
+use Rattle.branch_codegen.specs.expr_uncompute.Promises as code
+use Rattle.branch_codegen.proofs.expr_uncompute_laws.Bounds.{words_most, place_words_most}
+use Rattle.branch_codegen.specs.method_calls.Names.{IsNull, IsInit}
+use Rattle.branch_codegen.specs.refine_calls.Laws.{IsLinked}
+use Rattle.branch_codegen.specs.refine_expressions.Typing.{known_of, HasRoom, typing_in, IsTyped, IsPassed}
+use Rattle.branch_codegen.specs.refine_expressions.Laws.{IsLaidOut}
+use Rattle.branch_codegen.proofs.refine_expressions_laws.Stated.{updates_are_told, swaps_are_told}
 use Rattle.statement_codegen.specs.Codes.{scope_of, with_variable, IsStatementCode, IsBlockCode, IsAllowed}
 use Rattle.branch_codegen.specs.Laws.{IfLaw, FromLaw}
 use Rattle.statement_codegen.specs.Laws.{LocalLaw}
@@ -52,7 +52,7 @@ pub names_same : (v : Visible) (place : Place) → place.setting.program ≡ sou
     → known_of place.setting.program (scope_of v) ≡ known_in v
 names_same v place same = ap (λ program. known_of program (scope_of v)) same
 
--- ---- room in the frame
+-- ---- space in the frame
 
 pub room_for : (v : Visible) (n : ℕ) → length v.variables ≤ MOST_VARIABLES → n ≤ 64
     → HasRoom (source_of v.program) (scope_of v) n

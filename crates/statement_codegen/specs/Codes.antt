@@ -6,16 +6,16 @@ use Rattle.rpp_tree.specs.declared.limits.TheConstants.{MOST_NODES}
 use Rattle.rpp_tree.specs.Limits.{statement_locals}
 use Rattle.rpp_tree.specs.Tree.{Statement, Statements, Procedure, statement_nodes}
 use Rattle.rpp_tree.specs.Views.{source_of}
-use Rattle.class_table.specs.Statements.{passed, check_statement}
-use Rattle.meaning_sound.specs.Plain.{StatementHasWords}
-use Rattle.paired_code.specs.declared.part.Symbol.{Symbol}
-use Rattle.code_conventions.specs.declared.memory.TheConstants.{MOST_VARIABLES}
-use Rattle.code_scope.specs.Visible.{Visible}
+use Rattle.branch_codegen.specs.class_table.Statements.{passed, check_statement}
+use Rattle.branch_codegen.specs.meaning_sound.Plain.{StatementHasWords}
+use Rattle.branch_codegen.specs.paired_code.declared.part.Symbol.{Symbol}
+use Rattle.branch_codegen.specs.code_conventions.declared.memory.TheConstants.{MOST_VARIABLES}
+use Rattle.branch_codegen.specs.code_scope.Visible.{Visible}
 use Rattle.refine_form.specs.Form.{Scope, StmtLaw, BlockLaw, MethodLaw}
 use Rattle.refine_form.specs.Stands.{shape_of}
 use Rattle.refine_form.specs.Worlds.{Place, world_of}
-use Rattle.refine_calls.specs.Laws.{IsLinked}
-use Rattle.refine_expressions.specs.Typing.{typing_in}
+use Rattle.branch_codegen.specs.refine_calls.Laws.{IsLinked}
+use Rattle.branch_codegen.specs.refine_expressions.Typing.{typing_in}
 
 -- the scope of the laws, of what is visible
 abbrev pub scope_of : Visible → Scope
@@ -25,7 +25,7 @@ scope_of v = record { class = v.method.class; vars = v.variables }
 abbrev pub with_variable : Visible → Var → Visible
 with_variable v var = record v { variables = var ∷ v.variables }
 
--- the code of a statement where this is visible
+-- the code of a statement if this is visible
 pub record IsStatementCode (v : Visible) (statement : Statement) (cells : List Symbol) : Type 0
   where
     pub law : (place : Place) (routine : ℕ → Ident → ℕ) → IsLinked place routine
@@ -44,14 +44,14 @@ pub record IsMethodCode (v : Visible) (method : Procedure) (cells : List Symbol)
       → place.setting.program ≡ source_of v.program
       → MethodLaw (world_of place) (scope_of v) method cells
 
--- the rules of types pass a statement where this is visible
+-- the rules of types pass a statement if this is visible
 abbrev pub Passes : Visible → Statement → Type 0
 Passes v statement =
     check_statement (typing_in (source_of v.program) (scope_of v))
     (shape_of (source_of v.program) (scope_of v)) statement ≡ passed
 
--- a statement that the rules pass, whose literals are words, with few enough nodes, and locals
--- beside what is visible
+-- a statement that the rules accept, whose literals are words, with few enough nodes, and locals in
+-- addition to what is visible
 pub record IsAllowed (v : Visible) (statement : Statement) : Type 0 where
   pub rules : Passes v statement
   pub has_words : StatementHasWords statement

@@ -1,6 +1,6 @@
 -- What the code of blocks with a local variable does, in every scope of the names that it was made
--- for, wherever the codes of its parts do what theirs are to do; and what that of `skip`, of
--- `construct`, of calls and of methods does wherever an image of its program is linked.
+-- for, if the codes of its parts do what they must do. Also what the code of `skip`, of
+-- `construct`, of calls and of methods does in each image that is linked of its program.
 use Rattle.std.specs.Prelude.{◌≡◌, ℕ, ◌<◌, Bool, List, ◌++◌, length, Option, Some}
 use Rattle.std.specs.Option.{option_map}
 use Rattle.rpp_tree.specs.declared.tree.Ident.{Ident}
@@ -9,22 +9,22 @@ use Rattle.rpp_tree.specs.declared.tree.VarType.{VarType}
 use Rattle.rpp_tree.specs.declared.tree.VarType.TheVariants as type
 use Rattle.rpp_tree.specs.Tree.{Expression, Null, Lvalue, Whole, Item, Object, Statements}
 use Rattle.rpp_tree.specs.Tree.{Local, Construct, New, Call, Skip, Procedure}
-use Rattle.paired_code.specs.declared.part.Symbol.{Symbol}
-use Rattle.roopl_semantics.specs.Execution.{constructed, element_call, element_name}
-use Rattle.meaning_sound.specs.Plain.{ReceiverIsPlain}
-use Rattle.code_conventions.specs.declared.memory.TheConstants.{MOST_VARIABLES}
-use Rattle.code_scope.specs.Visible.{Known, Visible, spot_of, free_of, kind_named, known_in}
-use Rattle.register_expressions.specs.Code.{words}
-use Rattle.expr_uncompute.specs.Promises.{SwapLaw}
+use Rattle.branch_codegen.specs.paired_code.declared.part.Symbol.{Symbol}
+use Rattle.branch_codegen.specs.roopl_semantics.Execution.{constructed, element_call, element_name}
+use Rattle.branch_codegen.specs.meaning_sound.Plain.{ReceiverIsPlain}
+use Rattle.branch_codegen.specs.code_conventions.declared.memory.TheConstants.{MOST_VARIABLES}
+use Rattle.branch_codegen.specs.code_scope.Visible.{Known, Visible, spot_of, free_of, kind_named, known_in}
+use Rattle.branch_codegen.specs.register_expressions.Code.{words}
+use Rattle.branch_codegen.specs.expr_uncompute.Promises.{SwapLaw}
 use Rattle.refine_form.specs.Form.{Scope, with_var, BlockLaw, StmtLaw}
 use Rattle.refine_form.specs.Worlds.{Place, world_of}
-use Rattle.method_calls.specs.Names.{IsInit}
-use Rattle.refine_expressions.specs.Typing.{known_of, HasRoom}
-use Rattle.refine_expressions.specs.Laws.{IsLaidOut}
+use Rattle.branch_codegen.specs.method_calls.Names.{IsInit}
+use Rattle.branch_codegen.specs.refine_expressions.Typing.{known_of, HasRoom}
+use Rattle.branch_codegen.specs.refine_expressions.Laws.{IsLaidOut}
 use Rattle.statement_codegen.specs.Codes.{with_variable, IsStatementCode, IsBlockCode, IsMethodCode}
 use Rattle.statement_codegen.specs.Codes.{Passes, IsAllowed}
 
--- A block with a local variable: its two values may be those of the variable. Where they are nil,
+-- A block with a local variable: its two values may be those of the variable. If they are nil,
 -- so are the blocks that `construct` and calls on elements mean.
 pub record LocalLaw (known : Known) (var : Var) (value last : Expression)
     (p all : List Symbol) : Type 0 where
@@ -51,23 +51,23 @@ pub record LocalLaw (known : Known) (var : Var) (value last : Expression)
       → BlockLaw (world_of place) (with_var s var) (element_call at back array index method args) p
       → StmtLaw (world_of place) s (Call at back (Some (Item array index)) method args) all
 
--- nothing is done, wherever it stands
+-- nothing is done, at any code address
 pub record SkipLaw (all : List Symbol) : Type 0 where
   pub law : (v : Visible) (at : ℕ) → IsStatementCode v (Skip at) all
 
--- a call or uncall on the present object, or on the object of a variable, that the rules of types
+-- a call or uncall on the current object, or on the object of a variable, that the rules of types
 -- pass
 pub record CallLaw (v : Visible) (back : Bool) (receiver : Option Ident) (method : Ident)
     (args : List Ident) (all : List Symbol) : Type 0 where
   pub law : (at : ℕ) → Passes v (Call at back (option_map Whole receiver) method args)
       → IsStatementCode v (Call at back (option_map Whole receiver) method args) all
 
--- a method, where p is the code of its block
+-- a method, if p is the code of its block
 pub record RoutineLaw (v : Visible) (p all : List Symbol) : Type 0 where
   pub law : (method : Procedure) → IsBlockCode v method.body p → IsMethodCode v method all
 
--- `construct`, where the first piece is the code of `new`, and p that of its block: where the block
--- ends, the first piece stands mirrored, and so it is that of `delete`
+-- `construct`: the first fragment is the code of `new`, and p that of its block. The inverse of the
+-- first fragment comes after the block, and so it is the code of `delete`.
 pub record ConstructLaw (v : Visible) (at : ℕ) (var : Var) (making p all : List Symbol) : Type 0
   where
     pub law : (class : Ident) (body : Statements) (end : Ident) → var.kind ≡ type.Class class
@@ -88,8 +88,8 @@ abbrev pub element_var : Visible → ℕ → Ident → Var
 element_var v at array =
     record { kind = element_type (kind_named (known_in v) array.text); name = element_name at }
 
--- what stands inside of it: the element moves into the variable, the method is called, and the
--- element moves back
+-- what is inside of it: the element moves into the variable, the method is called, and the element
+-- moves back
 pub record ExchangedCall (v : Visible) (at : ℕ) (back : Bool) (element : Lvalue) (method : Ident)
     (args : List Ident) (all : List Symbol) : Type 0 where
   pub first : List Symbol

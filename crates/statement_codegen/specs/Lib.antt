@@ -1,2 +1,3 @@
+pub use Rattle.branch_codegen.specs as branch_codegen
 pub mod Codes
 pub mod Laws

@@ -3,12 +3,12 @@ ghost use Rattle.std.specs.Prelude.{◌≡◌, ◌<◌, ◌≤◌, ◌^◌, ◌+
 ghost use Rattle.std.specs.List.{All};
 ghost use Rattle.std.specs.Option.{option_map, unwrap_or};
 ghost use Rattle.rpp_tree.specs.Views.{source_of};
-ghost use Rattle.class_table.specs.Table.{table_of, class_of, slot_in};
-ghost use Rattle.class_table.specs.Scope.{kind_of};
+ghost use Rattle.branch_codegen.specs.class_table.Table.{table_of, class_of, slot_in};
+ghost use Rattle.branch_codegen.specs.class_table.Scope.{kind_of};
 ghost use Rattle.refine_form.specs.Held.{Holds};
-ghost use Rattle.code_scope.specs.Visible.{spot_of as spot_of_name, known_in};
-ghost use Rattle.method_calls.specs.Facts.{IsNear};
-ghost use Rattle.method_calls.specs.Names.{class_of_kind, class_named, slot_of};
+ghost use Rattle.branch_codegen.specs.code_scope.Visible.{spot_of as spot_of_name, known_in};
+ghost use Rattle.branch_codegen.specs.method_calls.Facts.{IsNear};
+ghost use Rattle.branch_codegen.specs.method_calls.Names.{class_of_kind, class_named, slot_of};
 ghost use Rattle.statement_codegen.specs.Codes.{scope_of};
 ghost use Rattle.statement_codegen.specs.Laws.{SkipLaw, CallLaw, RoutineLaw};
 
@@ -40,7 +40,7 @@ pub fn skip_code(alloc: Global) -> Result<Piece, NoMemory>
     )
 }
 
-// Where a name stands; the first field for a name that means nothing.
+// The storage slot of a name; the first field for a name that means nothing.
 fn spot_at(scope: &Scope, name: &Ident) -> Spot
     ensures value { result ≡ spot_of_name (known_in scope.now) name.now.text }
     ensures near { IsNear result }
@@ -49,7 +49,7 @@ fn spot_at(scope: &Scope, name: &Ident) -> Spot
     spot_of(&names, &name.text)
 }
 
-// Where the names stand.
+// The storage slots of the names.
 fn spots_at(alloc: Global, names: &[Ident], scope: &Scope) -> Result<Vec<Spot>, NoMemory>
     ensures values { IfOk result (λ spots.
         spots.items ≡ map (λ name. spot_of_name (known_in scope.now) name.text) names.now) }
@@ -62,7 +62,7 @@ fn spots_at(alloc: Global, names: &[Ident], scope: &Scope) -> Result<Vec<Spot>, 
     Ok(spots)
 }
 
-// The slot of a method of a class; the first one where it has none of the name.
+// The slot of a method of a class; the first one if it has none of the name.
 fn slot_in_table(table: &ClassTable, class: u32, name: &Text) -> u32
     ensures value { result ≡ unwrap_or (slot_in table.now class name.now) 0 }
     ensures small { result < 2 ^ 20 }
@@ -92,7 +92,7 @@ fn class_of_name(table: &ClassTable, name: &Text) -> u32
     }
 }
 
-// The class of a type; the first one where it is none.
+// The class of a type; the first one if it is none.
 #[tactic(auto, using(crate::proofs::Names::class_or_first, crate::proofs::Names::array_first))]
 fn class_of_type(table: &ClassTable, kind: &VarType) -> u32
     ensures { result ≡ class_of_kind (kind_of table.now kind.now) }
@@ -112,7 +112,7 @@ fn class_in(scope: &Scope, kind: &VarType) -> u32
     class_of_type(checked.table(), kind)
 }
 
-// The class of the variable of a name; the first one where it is of no class.
+// The class of the variable of a name; the first one if it is of no class.
 fn class_at(scope: &Scope, name: &Ident) -> u32
     ensures { result ≡ class_named (source_of scope.now.program) (scope_of scope.now) name.now }
 {
@@ -122,7 +122,7 @@ fn class_at(scope: &Scope, name: &Ident) -> u32
     }
 }
 
-// A call or uncall on the present object.
+// A call or uncall on the current object.
 fn own_code(
     alloc: Global,
     back: bool,
@@ -163,11 +163,12 @@ fn code_on(
     call_on(alloc, back, spot, slot, &spots)
 }
 
-/// The code of a call or uncall of a method, on the present object, or on the object of the
-/// variable of a name, with the variables of these names as arguments: the method is the one in the
+/// The code of a call or uncall of a method, on the current object, or on the object of the
+/// variable of a name, with the variables of these names as arguments. The method is the one in the
 /// slot that the variable's class has for its name, of the object's own class. It stops with fault
-/// 5 where the variable is nil, with fault 14 where one more call may not be open, and with fault
-/// 15 where a variable is not 0 or nil when it is to come back. The only error is that memory ran out.
+/// 5 if the variable is nil, and with fault 14 if there may be no further active call. It stops
+/// with fault 15 if a variable is not 0 or nil when it is to come back. The only error is that
+/// memory ran out.
 pub fn call_code(
     alloc: Global,
     back: bool,
@@ -189,8 +190,8 @@ pub fn call_code(
     }
 }
 
-/// The code of a method, over the piece of its block, which is made in the method's scope: the body
-/// of its routine. The only error is that memory ran out.
+/// The code of a method, over the fragment of its block, which is made in the method's scope: the
+/// body of its routine. The only error is that memory ran out.
 pub fn method_code(alloc: Global, body: Piece, _scope: &Scope) -> Result<Piece, NoMemory>
     ensures law { IfOk result (λ p. RoutineLaw _scope.now body.cells p.cells) }
     ensures held { IfOk result (λ p. Holds body p) }

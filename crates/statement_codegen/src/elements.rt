@@ -4,12 +4,12 @@ ghost use Rattle.std.specs.Option.{option_map};
 ghost use Rattle.rpp_tree.specs.Places.{place_name};
 ghost use Rattle.rpp_tree.specs.Tree.{Whole};
 ghost use Rattle.rpp_tree.specs.Views.{lvalue_of};
-ghost use Rattle.code_conventions.specs.declared.memory.TheConstants.{MOST_VARIABLES};
-ghost use Rattle.code_scope.specs.Visible.{spot_of as spot_of_name, free_of, kind_named, known_in};
-ghost use Rattle.expr_uncompute.specs.Code.{place_words as words_of_place};
-ghost use Rattle.expr_uncompute.specs.Promises.{SwapLaw};
-ghost use Rattle.expr_uncompute.specs.Steps.{place_tokens};
-ghost use Rattle.roopl_semantics.specs.Execution.{element_name};
+ghost use Rattle.branch_codegen.specs.code_conventions.declared.memory.TheConstants.{MOST_VARIABLES};
+ghost use Rattle.branch_codegen.specs.code_scope.Visible.{spot_of as spot_of_name, free_of, kind_named, known_in};
+ghost use Rattle.branch_codegen.specs.expr_uncompute.Code.{place_words as words_of_place};
+ghost use Rattle.branch_codegen.specs.expr_uncompute.Promises.{SwapLaw};
+ghost use Rattle.branch_codegen.specs.expr_uncompute.Steps.{place_tokens};
+ghost use Rattle.branch_codegen.specs.roopl_semantics.Execution.{element_name};
 ghost use Rattle.statement_codegen.specs.Laws.{element_type as type_of_element, element_var as var_of_element, ExchangedCall, ElementLaw};
 
 use crate::calls::call_code;
@@ -91,7 +91,7 @@ fn exchange_code(
     swap_code(alloc, &place, element, scope)
 }
 
-// What stands inside of the variable, where it is visible.
+// What is in the scope of the variable.
 fn exchanged_call(
     alloc: Global,
     name: &Ident,
@@ -119,9 +119,9 @@ fn exchanged_call(
 
 /// The code of a call or uncall on an element: it moves into a variable without a name, on whose
 /// object the call is, and moves back. The variable has the first free word of the frame. It stops
-/// with the faults of the element, with those of a call on a variable, and with fault 3 where the
-/// variable does not end with nil. Where it is made, the scope is as before; after an
-/// error nothing is known of it. The only error is that memory ran out.
+/// with the faults of the element, with those of a call on a variable, and with fault 3 if the
+/// variable does not end with nil. If it is made, the scope is as before; after an error nothing is
+/// said about it. The only error is that memory ran out.
 pub fn element_call_code(
     alloc: Global,
     element: &Place,

@@ -1,7 +1,7 @@
-//! The code of `skip`, of calls, `construct` and blocks with a local variable, from their
-//! expressions and the pieces of their blocks, in a scope, and that of methods. Each is the
-//! statement's row of the meaning in every open frame of a scope with these names, along and back,
-//! with every fault at its place. The marks of the blocks stay on their cells.
+//! The code of `skip`, calls, `construct`, blocks with a local variable, and methods. In a scope,
+//! it is made from their expressions and the fragments of their blocks. Each simulates the rule of
+//! its statement in every current frame of a scope with these names, in both directions, with every
+//! fault at its code address. The marks of the blocks stay on their cells.
 #![tactic(auto)]
 
 mod calls;

@@ -1,10 +1,10 @@
 // Blocks with a local variable, and those of `construct`.
 ghost use Rattle.std.specs.Prelude.{◌≡◌, ◌≤◌, ◌+◌, ◌*◌, [], ◌++◌, length, IfOk};
-ghost use Rattle.paired_code.specs.Layout.{mirror_cells};
+ghost use Rattle.branch_codegen.specs.paired_code.Layout.{mirror_cells};
 ghost use Rattle.rpp_tree.specs.Views.{expression_of};
-ghost use Rattle.code_scope.specs.Visible.{known_in};
-ghost use Rattle.register_expressions.specs.Code.{words as words_of};
-ghost use Rattle.register_expressions.specs.Steps.{tokens};
+ghost use Rattle.branch_codegen.specs.code_scope.Visible.{known_in};
+ghost use Rattle.branch_codegen.specs.register_expressions.Code.{words as words_of};
+ghost use Rattle.branch_codegen.specs.register_expressions.Steps.{tokens};
 ghost use Rattle.refine_form.specs.Held.{Holds};
 ghost use Rattle.statement_codegen.specs.Laws.{LocalLaw, ConstructLaw};
 
@@ -57,8 +57,8 @@ fn between_piece(alloc: Global, making: Piece, body: Piece) -> Result<Piece, NoM
 }
 
 /// The code of `construct class name body destruct name`, over the code of `new`, which is made in
-/// the scope with the variable, as the piece of the block is: the object is made, and where the
-/// block ends, it is deleted. The variable has the first free word of the frame; where it does not
+/// the scope with the variable, as the fragment of the block is. It makes the object, and deletes
+/// it after the block. The variable has the first free word of the frame; where it does not
 /// end with nil, it stops with fault 3. The only error is that memory ran
 /// out.
 pub fn construct_code(

@@ -1,5 +1,5 @@
-//! Where the static cells of a program's image stand: the addresses of the tables of its classes.
-//! The code that makes objects, the image and the report of a memory use these calls.
+//! The addresses of the class tables among the static cells of a program's image. The code that
+//! makes objects, the image and the report of a memory use these calls.
 #![tactic(auto)]
 
 mod tables;

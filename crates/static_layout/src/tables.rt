@@ -1,6 +1,6 @@
-// Where the tables of the classes stand.
+// The addresses of the tables of the classes.
 ghost use Rattle.std.specs.Prelude.{◌≡◌, ◌≤◌, ◌<◌, ◌+◌, ◌^◌, length, IfOk};
-ghost use Rattle.rpp_tree.specs.Views.{source_of};
+ghost use Rattle.roopl_semantics.specs.rpp_tree.Views.{source_of};
 ghost use Rattle.roopl_semantics.specs.Layout.{table_at as address_of, table_addresses as addresses_of};
 
 use class_table::Checked;
@@ -33,7 +33,7 @@ pub fn table_addresses(alloc: Global, checked: &Checked) -> Result<Vec<u32>, All
     Ok(tables)
 }
 
-// The address of the first table: behind the fields of the main object.
+// The address of the first table: after the fields of the main object.
 fn first_table(checked: &Checked) -> u32
     ensures first { result ≡ address_of (source_of checked.now) 0 }
     ensures low { result ≤ FIRST_FIELD + MOST_FIELDS }
@@ -43,7 +43,7 @@ fn first_table(checked: &Checked) -> u32
     FIRST_FIELD + table.fields(table.main().class).len() as u32
 }
 
-// The address of the next table, behind a class's number and its method slots.
+// The address of the next table, after a class's number and its method slots.
 fn next_table(checked: &Checked, class: u32, at: u32) -> u32
     requires inside { class < length (source_of checked.now).classes }
     requires here { at ≡ address_of (source_of checked.now) class }

@@ -8,7 +8,7 @@ use Rattle.rpp_tree.specs.Limits.{held_locals, locals}
 use Rattle.rpp_tree.proofs.Walks.{walk_joined}
 use Rattle.stmt_inverter.specs.Inverse.{inverse_statement_as, inverse_as}
 
--- what a walk says of an inverse is related to what it says of the tree
+-- what a walk says of an inverse is related to what it says of the syntax tree
 pub record IsTurned {ℓ μ} {A : Type ℓ} (R : A → A → Type μ) (w : Walk A) (turn : Bool) : Type (ℓ ⊔ μ) where
   pub plain : (at : ℕ) (parts : List Part) → R (w.plain at parts) (w.plain at parts)
   pub forked : (at : ℕ) (before : Expression) (a b c d : A) (after : Expression) → R a c → R b d
@@ -66,7 +66,7 @@ depth_joined = walk_joined nesting max (λ first said rest. refl) max_none max_t
 pub locals_joined : (a b : Statements) → locals (joined a b) ≡ max (locals a) (locals b)
 locals_joined = walk_joined held_locals max (λ first said rest. refl) max_none max_turned
 
--- the deepest of two, the last of which stands behind the other
+-- the deepest of two, the last of which comes after the other
 last_deepest : (whole body last said rest : ℕ) → whole ≡ max body (max last 0) → last ≡ said → body ≡ rest
     → whole ≡ max said rest
 last_deepest whole body last said rest h k l = omega (arith, h, k, l)

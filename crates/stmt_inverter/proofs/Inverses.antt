@@ -65,7 +65,7 @@ module _ (turn : Bool) where
       (map (λ s. inverse_statement_as turn (statement_of s)) xs)
       ∙ ap (λ l. l ++ inverse_statement_as turn (statement_of x) ∷ []) (undone_reverse xs)
 
-  -- the inverted statements, turned round, are the inverse
+  -- the inverted statements, reversed, are the inverse
   pub block_undone : (items out turned : List Stmt) → map statement_of out
       ≡ map (λ s. inverse_statement_as turn (statement_of s)) items → turned ≡ reverse out
       → statements_of (map statement_of turned) ≡ inverse_as turn (statements_of (map statement_of items))

@@ -12,7 +12,7 @@ inverse_operator update.Add = update.Sub
 inverse_operator update.Sub = update.Add
 inverse_operator update.Xor = update.Xor
 
--- what becomes of a call's direction: it turns, or it stays where the methods themselves are
+-- what becomes of a call's direction: it turns, or it stays if the methods themselves are
 -- inverted
 abbrev pub call_direction : Bool → Bool → Bool
 call_direction true back = not back

@@ -202,7 +202,7 @@ pub fn uncopy_stmt(
     })
 }
 
-/// A call, or an `uncall` where `back` holds.
+/// A call, or an `uncall` if `back` holds.
 pub fn call(
     alloc: Global,
     at: u32,

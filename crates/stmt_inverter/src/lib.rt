@@ -1,6 +1,6 @@
-//! The inverses of statements, blocks and programs: each function answers the tree that the
-//! definition of `specs/Inverse.antt` gives, place by place. A layer above may use the three
-//! functions below and the law that what is inverted twice is as it was.
+//! The inverses of statements, blocks and programs. Each function returns the syntax tree that the
+//! definition of `specs/Inverse.antt` gives, offset by offset. A layer above may use these three
+//! functions and the law that what is inverted twice is as it was.
 #![tactic(auto)]
 
 mod code;

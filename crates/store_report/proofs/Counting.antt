@@ -1,17 +1,17 @@
--- A heap has room for no more objects than it has words.
+-- A heap has space for no more objects than it has words.
 use Rattle.std.proofs.Common.{◌≡◌, ◌∙◌, sym, ap, ℕ, ◌+◌, ◌^◌, ◌≤◌, true, List, [], ◌∷◌, map, length, Some, arith}
 use Rattle.std.proofs.lemmas.List.{length-map, length-append}
 use Rattle.std.specs.Option.{option_map}
-use Rattle.buddy_book.specs.Place.{Log, block_of, count_taken}
-use Rattle.buddy_book.specs.Shown.{TakenBlocks, order_in, without_taken, size_of, taken_weight}
-use Rattle.buddy_book.proofs.Requests.{order_in-without_other}
-use Rattle.buddy_book.proofs.Table.{taken_weight-without}
-use Rattle.buddy_book.proofs.Orders.{pow_pos}
-use Rattle.roopl_semantics.specs.Store.{Store, main_name, object_at}
-use Rattle.roopl_semantics.specs.Execution.{Setting, order_of_cells}
-use Rattle.meaning_sound.specs.Sound.{head_of, head_named, is_live, cell_kinds, Descending, entry_name, IsPlaced}
-use Rattle.meaning_sound.proofs.Stores.{live_object}
-use Rattle.meaning_sound.proofs.Regions.{BlocksDescend, EntriesAre, NotAt, block_apart, blocks_descend, entries_are}
+use Rattle.refine_frame.specs.buddy_book.Place.{Log, block_of, count_taken}
+use Rattle.refine_frame.specs.buddy_book.Shown.{TakenBlocks, order_in, without_taken, size_of, taken_weight}
+use Rattle.refine_frame.proofs.buddy_book_laws.Requests.{order_in-without_other}
+use Rattle.refine_frame.proofs.buddy_book_laws.Table.{taken_weight-without}
+use Rattle.refine_frame.proofs.buddy_book_laws.Orders.{pow_pos}
+use Rattle.static_layout.specs.roopl_semantics.Store.{Store, main_name, object_at}
+use Rattle.static_layout.specs.roopl_semantics.Execution.{Setting, order_of_cells}
+use Rattle.refine_frame.specs.meaning_sound.Sound.{head_of, head_named, is_live, cell_kinds, Descending, entry_name, IsPlaced}
+use Rattle.refine_frame.proofs.meaning_sound_laws.Stores.{live_object}
+use Rattle.refine_frame.proofs.meaning_sound_laws.Regions.{BlocksDescend, EntriesAre, NotAt, block_apart, blocks_descend, entries_are}
 
 record HasOrder (taken : TakenBlocks) (block : ℕ) : Type 0 where
   pub order : ℕ

@@ -1,29 +1,31 @@
--- The report that the cells tell is the report of the store.
+-- The report from the cells is the report of the store.
 use Rattle.std.proofs.Common.{◌≡◌, ◌∙◌, sym, ap, subst, refl, ℕ, zero, suc, ◌+◌, ◌<◌, ◌≤◌, true, List, [], ◌∷◌, ◌++◌}
 use Rattle.std.proofs.Common.{map, length, Option, Some, None, arith}
 use Rattle.std.proofs.lemmas.List.{length-append}
 use Rattle.std.specs.Prelude.{nat_eq, codes}
 use Rattle.std.specs.Option.{unwrap_or}
 use Rattle.std.specs.Fmt.{decimal}
-use Rattle.rpp_words.specs.Texts.{line_end}
+use Rattle.refine_frame.specs.rpp_words.Texts.{line_end}
 use Rattle.rpp_tree.specs.declared.tree.VarType.{VarType}
 use Rattle.rpp_tree.specs.Tree.{Source}
-use Rattle.code_conventions.specs.declared.memory.TheConstants.{COUNT_WORD, HEADER_WORDS}
-use Rattle.roopl_semantics.specs.Store.{Value, Word, Nil, Name, Head, Object, Store, main_name, no_object, object_named}
-use Rattle.roopl_semantics.specs.Store.{object_at}
-use Rattle.roopl_semantics.specs.Source.{main_fields}
-use Rattle.roopl_semantics.specs.Agreement.{renamed}
-use Rattle.roopl_semantics.specs.Laws.{holders_among, holders}
-use Rattle.roopl_semantics.specs.Report.{newly_met, walked, numbered, number_shown, field_lines, head_shown, cell_lines}
-use Rattle.roopl_semantics.specs.Report.{object_lines, live_line, live_count, report}
-use Rattle.roopl_semantics.specs.Layout.{head_word}
-use Rattle.roopl_semantics.specs.Walk.{types_of, Reference, cell_types, types_at, newly_reached}
-use Rattle.roopl_semantics.specs.Walk.{reached_within, reached}
-use Rattle.pisa_isa.specs.Loaded.{statics_at}
-use Rattle.pisa_isa.specs.Machine.{word_at}
-use Rattle.meaning_sound.specs.Sound.{is_live, Descending, AllFit, cell_kinds}
-use Rattle.meaning_sound.proofs.Stores.{live_object, holders_inside}
-use Rattle.meaning_reached.proofs.Numbering.{unmet, unmet_all, new_count}
+use Rattle.refine_frame.specs.code_conventions.declared.memory.TheConstants.{COUNT_WORD, HEADER_WORDS}
+use Rattle.static_layout.specs.roopl_semantics.Store.{Value, Word, Nil, Name, Head, Object, Store, main_name, no_object}
+use Rattle.static_layout.specs.roopl_semantics.Store.{object_named}
+use Rattle.static_layout.specs.roopl_semantics.Store.{object_at}
+use Rattle.static_layout.specs.roopl_semantics.Source.{main_fields}
+use Rattle.static_layout.specs.roopl_semantics.Agreement.{renamed}
+use Rattle.static_layout.specs.roopl_semantics.Laws.{holders_among, holders}
+use Rattle.static_layout.specs.roopl_semantics.Report.{newly_met, walked, numbered, number_shown, field_lines}
+use Rattle.static_layout.specs.roopl_semantics.Report.{head_shown, cell_lines}
+use Rattle.static_layout.specs.roopl_semantics.Report.{object_lines, live_line, live_count, report}
+use Rattle.static_layout.specs.roopl_semantics.Layout.{head_word}
+use Rattle.static_layout.specs.roopl_semantics.Walk.{types_of, Reference, cell_types, types_at, newly_reached}
+use Rattle.static_layout.specs.roopl_semantics.Walk.{reached_within, reached}
+use Rattle.pisa_machine.specs.pisa_isa.Loaded.{statics_at}
+use Rattle.pisa_machine.specs.pisa_isa.Machine.{word_at}
+use Rattle.refine_frame.specs.meaning_sound.Sound.{is_live, Descending, AllFit, cell_kinds}
+use Rattle.refine_frame.proofs.meaning_sound_laws.Stores.{live_object, holders_inside}
+use Rattle.source_meaning.proofs.meaning_reached_laws.Numbering.{unmet, unmet_all, new_count}
 use Rattle.store_report.specs.Told.{values_told, head_told, object_told, address_of, lines_told, report_told}
 use Rattle.store_report.proofs.Texts.{AllGood, ValueGood, ValuesGood, number_there, fields_there, lines_there}
 use Rattle.store_report.proofs.Telling.{IsGood, Facts, there, kind_told, told_apart, head_is_told, Match, Rel}
@@ -88,7 +90,8 @@ module _ (program : Source) (store : Store) (base : ℕ) (blocks : List (ℕ × 
       (λ i l. ap (λ a. word_at mem (a + HEADER_WORDS + i)) m.at ∙ facts.part n i m.good l))
 
   main_types : (f : Rattle.rpp_tree.specs.declared.tree.VarType.VarType
-      → Rattle.class_table.specs.declared.kind.Kind.Kind) (vars : List Rattle.rpp_tree.specs.declared.tree.Var.Var)
+      → Rattle.refine_frame.specs.class_table.declared.kind.Kind.Kind)
+      (vars : List Rattle.rpp_tree.specs.declared.tree.Var.Var)
       → map f (types_of vars) ≡ map (λ var. f var.kind) vars
   main_types f [] = refl
   main_types f (var ∷ vars) = ap (λ z. f var.kind ∷ z) (main_types f vars)
@@ -168,11 +171,12 @@ module _ (program : Source) (store : Store) (base : ℕ) (blocks : List (ℕ × 
   values_good [] h = tt
   values_good (v ∷ vs) h = (one v (λ m p. h m (omega arith)), values_good vs (λ m p. h m (omega arith)))
     where
-      one : (v : Value) → ((m : ℕ) → 0 < Rattle.roopl_semantics.specs.Laws.one_if_name m v → IsGood store m)
+      one : (v : Value) → ((m : ℕ) → 0 < Rattle.static_layout.specs.roopl_semantics.Laws.one_if_name m v
+          → IsGood store m)
           → ValueGood A Good apart_good v
       one (Word w) g = tt
       one Nil g = tt
-      one (Name n) g = g n (let e = Rattle.meaning_sound.proofs.Removal.one_name n in omega arith)
+      one (Name n) g = g n (let e = Rattle.refine_frame.proofs.meaning_sound_laws.Removal.one_name n in omega arith)
 
   abbrev moved : Object → Object
   moved o = record { head = o.head; count = o.count; cells = map (renamed A) o.cells }

@@ -1,33 +1,33 @@
--- The memory of a final state tells of its store, and so its report; and so does the memory in
+-- The memory of a final state determines its store, and so its report; and so does the memory in
 -- which a run begins.
 use Rattle.std.proofs.Common.{◌≡◌, ◌∙◌, sym, ap, refl, ℕ, ◌+◌, ◌<◌, ◌≤◌, Bool, true, false, List, [], length, Some}
 use Rattle.std.proofs.Common.{arith}
 use Rattle.std.proofs.lemmas.Option.{unwrap_or-slice_get}
 use Rattle.std.specs.Prelude.{slice_index, is_some}
 use Rattle.std.specs.Option.{option_map}
-use Rattle.rpp_words.specs.declared.input.FieldWord.{FieldWord}
+use Rattle.refine_frame.specs.rpp_words.declared.input.FieldWord.{FieldWord}
 use Rattle.rpp_tree.specs.Tree.{Source}
-use Rattle.class_table.specs.Classes.{main_of}
-use Rattle.class_table.specs.Program.{IsAccepted}
-use Rattle.buddy_book.specs.Place.{block_of, count_taken}
-use Rattle.code_conventions.specs.declared.memory.TheConstants.{COUNT_WORD, HEADER_WORDS}
-use Rattle.roopl_semantics.specs.Store.{OfClass, State, main_name, object_at}
-use Rattle.roopl_semantics.specs.Source.{starting}
-use Rattle.roopl_semantics.specs.Laws.{holders}
-use Rattle.roopl_semantics.specs.Report.{report, numbered, live_count}
-use Rattle.pisa_isa.specs.Machine.{word_at}
-use Rattle.roopl_semantics.proofs.Starting.{starts_loaded}
-use Rattle.meaning_sound.specs.Sound.{head_of, is_live, Typed, Sound, main_alone}
-use Rattle.meaning_sound.proofs.Stores.{live_object}
-use Rattle.meaning_sound.proofs.Cells.{typed_of}
-use Rattle.meaning_sound.proofs.Objects.{unheld}
-use Rattle.meaning_sound.proofs.Plainness.{program_plain}
-use Rattle.meaning_sound.proofs.Starting.{starting_sound, end_sound}
+use Rattle.refine_frame.specs.class_table.Classes.{main_of}
+use Rattle.refine_frame.specs.class_table.Program.{IsAccepted}
+use Rattle.refine_frame.specs.buddy_book.Place.{block_of, count_taken}
+use Rattle.refine_frame.specs.code_conventions.declared.memory.TheConstants.{COUNT_WORD, HEADER_WORDS}
+use Rattle.static_layout.specs.roopl_semantics.Store.{OfClass, State, main_name, object_at}
+use Rattle.static_layout.specs.roopl_semantics.Source.{starting}
+use Rattle.static_layout.specs.roopl_semantics.Laws.{holders}
+use Rattle.static_layout.specs.roopl_semantics.Report.{report, numbered, live_count}
+use Rattle.pisa_machine.specs.pisa_isa.Machine.{word_at}
+use Rattle.static_layout.proofs.roopl_semantics_laws.Starting.{starts_loaded}
+use Rattle.refine_frame.specs.meaning_sound.Sound.{head_of, is_live, Typed, Sound, main_alone}
+use Rattle.refine_frame.proofs.meaning_sound_laws.Stores.{live_object}
+use Rattle.refine_frame.proofs.meaning_sound_laws.Cells.{typed_of}
+use Rattle.refine_frame.proofs.meaning_sound_laws.Objects.{unheld}
+use Rattle.refine_frame.proofs.meaning_sound_laws.Plainness.{program_plain}
+use Rattle.refine_frame.proofs.meaning_sound_laws.Starting.{starting_sound, end_sound}
 use Rattle.refine_frame.specs.Open.{Setup, base_of, address_of, memory, IsGrounded}
 use Rattle.refine_frame.proofs.Memory.{base_above, address_other, read_main, read_part, memory_length, memory_is_layout}
 use Rattle.refine_frame.proofs.Tells.{IsReference, name_word, names_tell, read_head, read_count}
 use Rattle.refine_frame.proofs.Entering.{setup, starting_grounded, grounded_on}
-use Rattle.meaning_reached.proofs.Final.{reached_store, starting_reaches, ends_reached}
+use Rattle.source_meaning.proofs.meaning_reached_laws.Final.{reached_store, starting_reaches, ends_reached}
 use Rattle.store_report.specs.Told.{report_told}
 use Rattle.store_report.specs.Memory.{IsMemoryOf, IsFirstMemoryOf}
 use Rattle.store_report.proofs.Telling.{IsGood, Facts}
@@ -97,7 +97,7 @@ module _ (u : Setup) (class : ℕ) (st : State) (s : Sound u.setting main_alone 
         let base = base_above u in
         omega arith
 
-    -- where every live object is numbered, the memory's report is that of the store
+    -- if every live object is numbered, the memory's report is that of the store
     pub memory_tells : live_count st.store ≡ length (numbered st.store)
         → report_told u.setting.program mem ≡ report u.setting.program st.store
     memory_tells live = report_is_told u.setting.program st.store (base_of u) s.placed.at.blocks mem facts

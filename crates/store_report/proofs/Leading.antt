@@ -10,25 +10,25 @@ use Rattle.std.specs.List.{list_any}
 use Rattle.std.specs.Option.{unwrap_or, option_map}
 use Rattle.std.specs.Fmt.{decimal}
 use Rattle.indexmap.specs.IndexMap.{insert_entry}
-use Rattle.rpp_words.specs.Texts.{line_end}
+use Rattle.refine_frame.specs.rpp_words.Texts.{line_end}
 use Rattle.rpp_tree.specs.declared.tree.Var.{Var}
 use Rattle.rpp_tree.specs.declared.tree.VarType.{VarType}
 use Rattle.rpp_tree.specs.declared.tree.VarType.TheVariants as type
 use Rattle.rpp_tree.specs.Tree.{Source}
-use Rattle.class_table.specs.Classes.{class_fields}
-use Rattle.class_table.specs.Members.{fields_of}
-use Rattle.class_table.specs.Table.{Table, table_of, fields_in}
-use Rattle.class_table.proofs.Numbers.{length-each_below, each_below-get}
-use Rattle.code_conventions.specs.declared.memory.TheConstants.{COUNT_WORD, HEADER_WORDS}
-use Rattle.roopl_semantics.specs.Source.{main_fields}
-use Rattle.roopl_semantics.specs.Report.{number_shown, field_lines, element_lines, head_shown, cell_lines, live_line}
-use Rattle.roopl_semantics.specs.Layout.{table_at, table_addresses}
-use Rattle.roopl_semantics.specs.Walk.{types_of, Reference, cell_types, types_at, is_new, is_reference_type}
-use Rattle.roopl_semantics.specs.Walk.{newly_reached, reached_within, reached}
-use Rattle.pisa_isa.specs.Loaded.{statics_at}
-use Rattle.pisa_isa.specs.Machine.{word_at}
-use Rattle.meaning_sound.proofs.Stores.{same_number, other_number, differs}
-use Rattle.class_table.proofs.FirstPlaces.{position_cons}
+use Rattle.refine_frame.specs.class_table.Classes.{class_fields}
+use Rattle.refine_frame.specs.class_table.Members.{fields_of}
+use Rattle.refine_frame.specs.class_table.Table.{Table, table_of, fields_in}
+use Rattle.refine_frame.proofs.class_table_laws.Numbers.{length-each_below, each_below-get}
+use Rattle.refine_frame.specs.code_conventions.declared.memory.TheConstants.{COUNT_WORD, HEADER_WORDS}
+use Rattle.static_layout.specs.roopl_semantics.Source.{main_fields}
+use Rattle.static_layout.specs.roopl_semantics.Report.{number_shown, field_lines, element_lines, head_shown, cell_lines, live_line}
+use Rattle.static_layout.specs.roopl_semantics.Layout.{table_at, table_addresses}
+use Rattle.static_layout.specs.roopl_semantics.Walk.{types_of, Reference, cell_types, types_at, is_new, is_reference_type}
+use Rattle.static_layout.specs.roopl_semantics.Walk.{newly_reached, reached_within, reached}
+use Rattle.pisa_machine.specs.pisa_isa.Loaded.{statics_at}
+use Rattle.pisa_machine.specs.pisa_isa.Machine.{word_at}
+use Rattle.refine_frame.proofs.meaning_sound_laws.Stores.{same_number, other_number, differs}
+use Rattle.refine_frame.proofs.class_table_laws.FirstPlaces.{position_cons}
 use Rattle.store_report.specs.declared.leads.Lead.{Lead}
 use Rattle.store_report.specs.Told.{value_told, values_told, head_told, address_of, lines_told, report_told}
 use Rattle.store_report.specs.Leads.{Met, lead_of, leads_of, is_reference, address_met, is_unmet, meets_one, meets}
@@ -148,7 +148,7 @@ module _ (program : Source) where
           types))
       by false e f = f
 
-  -- ---- what stands behind a reference
+  -- ---- what a reference leads to
 
   map_replicate : {A B : Type 0} (f : A → B) (n : ℕ) (x : A) → map f (replicate n x) ≡ replicate n (f x)
   map_replicate f zero x = refl

@@ -1,3 +1,4 @@
+pub use Rattle.static_layout.proofs.roopl_semantics_laws
 pub mod Names
 pub mod TablePlaces
 pub mod Texts

@@ -1,4 +1,4 @@
--- Lines one behind another.
+-- Lines one after another.
 use Rattle.std.proofs.Common.{◌≡◌, ℕ, suc, ◌+◌, ◌≤◌, sym, ap, ◌∙◌, arith, List, [], ◌∷◌, ◌++◌, append_assoc, length}
 use Rattle.std.proofs.Common.{drop, Some, None}
 use Rattle.std.specs.Prelude.{codes, Result, Ok, Err, OnOk}
@@ -8,10 +8,10 @@ use Rattle.std.proofs.lemmas.List.{append-nil}
 use Rattle.std.proofs.lemmas.Option.{slice_get_past}
 use Rattle.std.specs.Prelude.{slice_get}
 use Rattle.store_report.proofs.Walked.{drop_at, drop_past}
-use Rattle.rpp_words.specs.Texts.{line_end}
+use Rattle.refine_frame.specs.rpp_words.Texts.{line_end}
 use Rattle.rpp_tree.specs.Tree.{Source}
-use Rattle.roopl_semantics.specs.Store.{Value, Store, object_at}
-use Rattle.roopl_semantics.specs.Report.{field_lines, object_lines, head_shown, cell_lines, number_shown}
+use Rattle.static_layout.specs.roopl_semantics.Store.{Value, Store, object_at}
+use Rattle.static_layout.specs.roopl_semantics.Report.{field_lines, object_lines, head_shown, cell_lines, number_shown}
 
 pub object_next : (program : Source) (store : Store) (names : List ℕ) (name : ℕ) (rest : List ℕ)
     → object_lines program store names (name ∷ rest) ≡ object_lines program store names (name ∷ [])
@@ -30,7 +30,7 @@ pub lines_of : {E : Type 0} (r : Result (Unit {0}) E) (out old indent : List ℕ
 lines_of (Ok u) out old indent names vars same cells e is = is ∙ ap (λ vs. old ++ field_lines indent names vs cells) e
 lines_of (Err why) out old indent names vars same cells e is = tt
 
--- ---- the lines of objects, one behind another
+-- ---- the lines of objects, one after another
 
 module _ (program : Source) (store : Store) (names : List ℕ) where
   abbrev lines : List ℕ → List ℕ

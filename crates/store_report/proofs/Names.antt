@@ -9,24 +9,24 @@ use Rattle.std.proofs.lemmas.Bool.{ltb-true, ltb-false}
 use Rattle.std.proofs.lemmas.List.Elements.{All-head, All-tail, All-nil, All-cons, All-append}
 use Rattle.rpp_tree.specs.declared.tree.Ident.{Ident}
 use Rattle.rpp_tree.specs.declared.tree.Var.{Var}
-use Rattle.rpp_words.proofs.AsciiNames.{name_bytes_ascii}
+use Rattle.refine_frame.proofs.rpp_words_laws.AsciiNames.{name_bytes_ascii}
 use Rattle.rpp_tree.specs.Names.{IsName}
 use Rattle.rpp_tree.specs.Parts.{type_names, var_names, procedure_names, parent_names, class_names, source_names}
 use Rattle.rpp_tree.specs.Tree.{ClassText, Source}
-use Rattle.class_table.specs.Chains.{line_of}
-use Rattle.class_table.specs.First.{each_below}
-use Rattle.class_table.specs.Members.{class_at, no_class, fields_along, fields_of}
-use Rattle.class_table.specs.Table.{table_of, fields_in}
-use Rattle.class_table.proofs.Numbers.{length-each_below, each_below-get}
-use Rattle.class_table.specs.Program.{IsAccepted}
-use Rattle.roopl_semantics.specs.Source.{main_fields}
-use Rattle.class_table.specs.Classes.{main_of, class_fields}
+use Rattle.refine_frame.specs.class_table.Chains.{line_of}
+use Rattle.refine_frame.specs.class_table.First.{each_below}
+use Rattle.refine_frame.specs.class_table.Members.{class_at, no_class, fields_along, fields_of}
+use Rattle.refine_frame.specs.class_table.Table.{table_of, fields_in}
+use Rattle.refine_frame.proofs.class_table_laws.Numbers.{length-each_below, each_below-get}
+use Rattle.refine_frame.specs.class_table.Program.{IsAccepted}
+use Rattle.static_layout.specs.roopl_semantics.Source.{main_fields}
+use Rattle.refine_frame.specs.class_table.Classes.{main_of, class_fields}
 use Rattle.store_report.specs.Ascii.{HasAsciiName, AreAscii}
 
 name_ascii : (text : List ℕ) → IsName text → IsAscii text
 name_ascii text named = name_bytes_ascii text named.name_bytes
 
--- parts of what holds of all
+-- parts of what holds for all
 
 left : {A : Type 0} (P : A → Type 0) (xs ys : List A) → All P (xs ++ ys) → All P xs
 left P [] ys all = All-nil P

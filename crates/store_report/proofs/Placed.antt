@@ -1,12 +1,12 @@
--- The code's report is the report that the cells tell.
+-- The code's report is the report from the cells.
 use Rattle.std.proofs.Common.{◌≡◌, ◌∙◌, ap, ℕ, List, arith}
 use Rattle.rpp_tree.specs.declared.tree.Var.{Var}
 use Rattle.rpp_tree.specs.Tree.{Source}
-use Rattle.class_table.specs.Table.{table_of}
-use Rattle.class_table.specs.Program.{IsAccepted}
-use Rattle.roopl_semantics.specs.Source.{main_fields}
-use Rattle.roopl_semantics.specs.Layout.{table_addresses}
-use Rattle.roopl_semantics.proofs.MainPlace.{class_inside}
+use Rattle.refine_frame.specs.class_table.Table.{table_of}
+use Rattle.refine_frame.specs.class_table.Program.{IsAccepted}
+use Rattle.static_layout.specs.roopl_semantics.Source.{main_fields}
+use Rattle.static_layout.specs.roopl_semantics.Layout.{table_addresses}
+use Rattle.static_layout.proofs.roopl_semantics_laws.MainPlace.{class_inside}
 use Rattle.store_report.specs.Shown.{report_by}
 use Rattle.store_report.specs.Told.{report_told}
 use Rattle.store_report.proofs.Leading.{report_is}

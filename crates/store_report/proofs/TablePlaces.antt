@@ -1,17 +1,17 @@
--- A class's table's address tells the class.
+-- The address of a class's table determines the class.
 use Rattle.std.proofs.Common.{◌≡◌, ◌∙◌, sym, ap, refl, ℕ, zero, suc, ◌<◌, Bool, true, false, List, [], ◌∷◌, ◌++◌}
 use Rattle.std.proofs.Common.{length, Some, arith}
 use Rattle.std.proofs.lemmas.Bool.{ltb-true, ltb-false}
 use Rattle.std.specs.Prelude.{nat_eq, nat_lt, position}
 use Rattle.std.specs.Option.{option_map}
 use Rattle.rpp_tree.specs.Tree.{Source}
-use Rattle.class_table.specs.First.{each_below}
-use Rattle.class_table.proofs.Numbers.{length-each_below}
-use Rattle.roopl_semantics.specs.Layout.{table_at}
-use Rattle.roopl_semantics.specs.Walk.{class_with_table}
-use Rattle.meaning_sound.proofs.Stores.{same_number, other_number}
+use Rattle.refine_frame.specs.class_table.First.{each_below}
+use Rattle.refine_frame.proofs.class_table_laws.Numbers.{length-each_below}
+use Rattle.static_layout.specs.roopl_semantics.Layout.{table_at}
+use Rattle.static_layout.specs.roopl_semantics.Walk.{class_with_table}
+use Rattle.refine_frame.proofs.meaning_sound_laws.Stores.{same_number, other_number}
 use Rattle.refine_frame.proofs.TableWords.{tables_ascend}
-use Rattle.class_table.proofs.FirstPlaces.{position_cons, position_before}
+use Rattle.refine_frame.proofs.class_table_laws.FirstPlaces.{position_cons, position_before}
 
 abbrev NoneOf : (ℕ → Bool) → List ℕ → Type 0
 NoneOf p [] = Unit {0}

@@ -9,29 +9,29 @@ use Rattle.rpp_tree.specs.declared.tree.Var.{Var}
 use Rattle.rpp_tree.specs.declared.tree.VarType.{VarType}
 use Rattle.rpp_tree.specs.declared.tree.VarType.TheVariants as type
 use Rattle.rpp_tree.specs.Tree.{Source}
-use Rattle.class_table.specs.declared.kind.Kind.{Kind}
-use Rattle.class_table.specs.declared.kind.Kind.TheVariants as kind
-use Rattle.class_table.specs.Classes.{class_fields}
-use Rattle.class_table.specs.Table.{table_of, class_of}
-use Rattle.class_table.specs.Scope.{kind_of, class_kind, array_kind}
-use Rattle.buddy_book.specs.Place.{block_of}
-use Rattle.code_conventions.specs.declared.memory.TheConstants.{COUNT_WORD, HEADER_WORDS}
-use Rattle.roopl_semantics.specs.Store.{Value, Word, Nil, Name, Head, OfClass, OfInts, OfObjects, Object, Store}
-use Rattle.roopl_semantics.specs.Store.{main_name, object_named, object_at}
-use Rattle.class_table.specs.Classes.{main_of}
-use Rattle.roopl_semantics.specs.Agreement.{renamed}
-use Rattle.roopl_semantics.specs.Laws.{holders_among, holders}
-use Rattle.roopl_semantics.specs.Report.{newly_met}
-use Rattle.roopl_semantics.specs.Layout.{word_of, head_word, table_at}
-use Rattle.roopl_semantics.specs.Walk.{class_with_table, types_of, Reference, cell_types, types_at, is_new}
-use Rattle.roopl_semantics.specs.Walk.{newly_reached, reached_within}
-use Rattle.pisa_isa.specs.Loaded.{statics_at}
-use Rattle.pisa_isa.specs.Machine.{word_at}
-use Rattle.meaning_sound.specs.Sound.{head_of, head_named, head_fits, named_fits, fits, cell_kinds, is_live, AllFit}
-use Rattle.meaning_sound.proofs.Stores.{same_number, other_number, differs, live_object}
-use Rattle.class_table.proofs.FoundMethods.{own_range}
-use Rattle.class_table.specs.Inheritance.{kind_of_var}
-use Rattle.meaning_sound.proofs.Makes.{class_is_inside}
+use Rattle.refine_frame.specs.class_table.declared.kind.Kind.{Kind}
+use Rattle.refine_frame.specs.class_table.declared.kind.Kind.TheVariants as kind
+use Rattle.refine_frame.specs.class_table.Classes.{class_fields}
+use Rattle.refine_frame.specs.class_table.Table.{table_of, class_of}
+use Rattle.refine_frame.specs.class_table.Scope.{kind_of, class_kind, array_kind}
+use Rattle.refine_frame.specs.buddy_book.Place.{block_of}
+use Rattle.refine_frame.specs.code_conventions.declared.memory.TheConstants.{COUNT_WORD, HEADER_WORDS}
+use Rattle.static_layout.specs.roopl_semantics.Store.{Value, Word, Nil, Name, Head, OfClass, OfInts, OfObjects, Object, Store}
+use Rattle.static_layout.specs.roopl_semantics.Store.{main_name, object_named, object_at}
+use Rattle.refine_frame.specs.class_table.Classes.{main_of}
+use Rattle.static_layout.specs.roopl_semantics.Agreement.{renamed}
+use Rattle.static_layout.specs.roopl_semantics.Laws.{holders_among, holders}
+use Rattle.static_layout.specs.roopl_semantics.Report.{newly_met}
+use Rattle.static_layout.specs.roopl_semantics.Layout.{word_of, head_word, table_at}
+use Rattle.static_layout.specs.roopl_semantics.Walk.{class_with_table, types_of, Reference, cell_types, types_at, is_new}
+use Rattle.static_layout.specs.roopl_semantics.Walk.{newly_reached, reached_within}
+use Rattle.pisa_machine.specs.pisa_isa.Loaded.{statics_at}
+use Rattle.pisa_machine.specs.pisa_isa.Machine.{word_at}
+use Rattle.refine_frame.specs.meaning_sound.Sound.{head_of, head_named, head_fits, named_fits, fits, cell_kinds, is_live, AllFit}
+use Rattle.refine_frame.proofs.meaning_sound_laws.Stores.{same_number, other_number, differs, live_object}
+use Rattle.refine_frame.proofs.class_table_laws.FoundMethods.{own_range}
+use Rattle.refine_frame.specs.class_table.Inheritance.{kind_of_var}
+use Rattle.refine_frame.proofs.meaning_sound_laws.Makes.{class_is_inside}
 use Rattle.store_report.specs.Told.{reference_told, value_told, values_told, head_told}
 use Rattle.store_report.proofs.TablePlaces.{class_told}
 
@@ -40,7 +40,7 @@ pub record IsGood (store : Store) (n : ℕ) : Type 0 where
   pub live : is_live store n ≡ true
   pub no_main : n ≢ main_name
 
--- what a memory tells of a store, and what is known of the store
+-- what a memory determines of a store, and what holds for the store
 pub record Facts (program : Source) (store : Store) (base : ℕ) (blocks : List (ℕ × ℕ)) (mem : List ℕ) : Type 0 where
   pub apart : (n m : ℕ) → IsGood store n → IsGood store m → base + block_of blocks n ≡ base + block_of blocks m → n ≡ m
   pub positive : (n : ℕ) → IsGood store n → 0 < base + block_of blocks n
@@ -58,10 +58,6 @@ pub record Facts (program : Source) (store : Store) (base : ℕ) (blocks : List 
   pub main_head : (object_at store main_name).head ≡ OfClass (main_of program).class
   pub main_live : is_live store main_name ≡ true
   pub held_good : (m : ℕ) → 0 < holders m store → IsGood store m
-
-and_first : (a b : Bool) → (a && b) ≡ true → a ≡ true
-and_first true b h = refl
-and_first false b h = absurd (cc)
 
 map_replicate : (f : VarType → Kind) (n : ℕ) (t : VarType) → map f (replicate n t) ≡ replicate n (f t)
 map_replicate f zero t = refl
@@ -167,7 +163,7 @@ module _ (program : Source) (store : Store) (base : ℕ) (blocks : List (ℕ × 
 
   -- ---- cells
 
-  -- the words from an address on stand for values of these types
+  -- the words from an address on represent values of these types
   abbrev pub Tells : ℕ → List VarType → List Value → Type 0
   Tells address [] [] = Unit {0}
   Tells address [] (v ∷ vs) = ⊥
@@ -196,7 +192,7 @@ module _ (program : Source) (store : Store) (base : ℕ) (blocks : List (ℕ × 
   one_name : (n : ℕ) (vs : List Value) → 0 < holders_among n (Name n ∷ vs)
   one_name n vs = let a = ap (λ b. (if b then 1 else 0) + holders_among n vs) (same_number n) in omega arith
 
-  -- what the words tell is what the values are, by addresses
+  -- what the words mean is what the values are, by addresses
   pub values_are_told : (address : ℕ) (ts : List VarType) (vs : List Value) → Tells address ts vs → HoldGood vs
       → values_told mem address ts ≡ map (renamed there) vs
   values_are_told address [] [] h g = refl
@@ -274,9 +270,9 @@ module _ (program : Source) (store : Store) (base : ℕ) (blocks : List (ℕ × 
       (newly_told met names (address + 1) ts vs rel h.2 (λ m p. g m (omega arith)))
     where
       old : (t : VarType) (w : ℕ) → w ≡ 0 → is_new met t w ≡ false
-      old t w e = ap (λ z. Rattle.roopl_semantics.specs.Walk.is_reference_type t && not (nat_eq z 0) && not
+      old t w e = ap (λ z. Rattle.static_layout.specs.roopl_semantics.Walk.is_reference_type t && not (nat_eq z 0) && not
           (list_any (λ (r : Reference). nat_eq r.at w) met)) e
-          ∙ by (Rattle.roopl_semantics.specs.Walk.is_reference_type t)
+          ∙ by (Rattle.static_layout.specs.roopl_semantics.Walk.is_reference_type t)
         where
           by : (a : Bool) → (a && false && not (list_any (λ (r : Reference). nat_eq r.at w) met)) ≡ false
           by true = refl

@@ -1,18 +1,18 @@
--- The text of a report does not change where names are told by addresses.
+-- The text of a report does not change if addresses replace object ids.
 use Rattle.std.proofs.Common.{◌≡◌, ◌∙◌, sym, ap, refl, ℕ, suc, ◌+◌, List, [], ◌∷◌, ◌++◌, map, Some}
 use Rattle.std.specs.Prelude.{nat_eq, position, codes, if◌then◌else◌}
 use Rattle.std.specs.Option.{unwrap_or, option_map}
 use Rattle.std.specs.Fmt.{decimal}
-use Rattle.rpp_words.specs.Texts.{line_end}
+use Rattle.refine_frame.specs.rpp_words.Texts.{line_end}
 use Rattle.rpp_tree.specs.declared.tree.Var.{Var}
 use Rattle.rpp_tree.specs.Tree.{Source}
-use Rattle.class_table.specs.Classes.{class_fields}
-use Rattle.roopl_semantics.specs.Store.{Value, Word, Nil, Name, Head, OfClass, OfInts, OfObjects}
-use Rattle.roopl_semantics.specs.Agreement.{renamed}
-use Rattle.roopl_semantics.specs.Report.{Text, number_shown, value_shown, field_lines, element_lines, cell_lines}
-use Rattle.class_table.proofs.FirstPlaces.{position_cons}
+use Rattle.refine_frame.specs.class_table.Classes.{class_fields}
+use Rattle.static_layout.specs.roopl_semantics.Store.{Value, Word, Nil, Name, Head, OfClass, OfInts, OfObjects}
+use Rattle.static_layout.specs.roopl_semantics.Agreement.{renamed}
+use Rattle.static_layout.specs.roopl_semantics.Report.{Text, number_shown, value_shown, field_lines, element_lines, cell_lines}
+use Rattle.refine_frame.proofs.class_table_laws.FirstPlaces.{position_cons}
 
--- names that are told apart by their addresses
+-- object ids that are distinguished by their addresses
 module _ (there : ℕ → ℕ) (Good : ℕ → Type 0) (apart : (n m : ℕ) → Good n → Good m
     → nat_eq (there n) (there m) ≡ nat_eq n m) where
   abbrev pub AllGood : List ℕ → Type 0

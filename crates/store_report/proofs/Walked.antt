@@ -6,11 +6,11 @@ use Rattle.std.specs.List.{list_any}
 use Rattle.std.proofs.lemmas.List.{append-nil}
 use Rattle.std.proofs.lemmas.Option.{slice_get_past}
 use Rattle.indexmap.specs.IndexSet.{insert_key}
-use Rattle.source_store.specs.declared.value.Value.{Value as Held}
-use Rattle.source_store.specs.ValueView.{value_of, values_of}
+use Rattle.source_meaning.specs.source_store.declared.value.Value.{Value as Held}
+use Rattle.source_meaning.specs.source_store.ValueView.{value_of, values_of}
 use Rattle.std.proofs.lemmas.List.Folds.{list_any-append}
-use Rattle.roopl_semantics.specs.Store.{Value, Word, Nil, Name, Store, main_name, object_at}
-use Rattle.roopl_semantics.specs.Report.{newly_met, walked, numbered}
+use Rattle.static_layout.specs.roopl_semantics.Store.{Value, Word, Nil, Name, Store, main_name, object_at}
+use Rattle.static_layout.specs.roopl_semantics.Report.{newly_met, walked, numbered}
 
 or_swap : (a b : Bool) → (a || b) ≡ (b || (a || false))
 or_swap true true = refl

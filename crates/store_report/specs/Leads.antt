@@ -9,10 +9,10 @@ use Rattle.indexmap.specs.IndexMap.{insert_entry}
 use Rattle.rpp_tree.specs.declared.tree.Var.{Var}
 use Rattle.rpp_tree.specs.declared.tree.VarType.{VarType}
 use Rattle.rpp_tree.specs.declared.tree.VarType.TheVariants as type
-use Rattle.class_table.specs.Table.{Table, class_of, fields_in}
-use Rattle.pisa_isa.specs.Loaded.{statics_at}
-use Rattle.pisa_isa.specs.Machine.{word_at}
-use Rattle.code_conventions.specs.declared.memory.TheConstants.{HEADER_WORDS}
+use Rattle.refine_frame.specs.class_table.Table.{Table, class_of, fields_in}
+use Rattle.pisa_machine.specs.pisa_isa.Loaded.{statics_at}
+use Rattle.pisa_machine.specs.pisa_isa.Machine.{word_at}
+use Rattle.refine_frame.specs.code_conventions.declared.memory.TheConstants.{HEADER_WORDS}
 use Rattle.store_report.specs.declared.leads.Lead.{Lead}
 use Rattle.store_report.specs.declared.leads.Lead.TheVariants as lead
 
@@ -55,11 +55,11 @@ meets cells met address [] = met
 meets cells met address (lead ∷ leads) =
     meets cells (meets_one met lead (word_at cells address)) (address + 1) leads
 
--- the class whose table stands at an address
+-- the class whose table is at an address
 abbrev pub class_at_table : List ℕ → ℕ → ℕ
 class_at_table tables word = unwrap_or (position (nat_eq word) tables) 0
 
--- what the cells behind a head word lead to; ints lead nowhere
+-- what the cells after a head word lead to; ints lead nowhere
 abbrev pub leads_at : Table → List ℕ → Lead → ℕ → List Lead
 leads_at table tables lead.Int head = []
 leads_at table tables lead.Object head = leads_of table

@@ -1,14 +1,14 @@
 -- The memories that are reported: where a run of the program ended, and where it began.
 use Rattle.std.specs.Prelude.{◌≡◌, ℕ, List}
-use Rattle.rpp_words.specs.declared.input.FieldWord.{FieldWord}
-use Rattle.rpp_words.specs.declared.input.Limits.{Limits}
+use Rattle.refine_frame.specs.rpp_words.declared.input.FieldWord.{FieldWord}
+use Rattle.refine_frame.specs.rpp_words.declared.input.Limits.{Limits}
 use Rattle.rpp_tree.specs.Tree.{Source}
-use Rattle.pisa_isa.specs.Image.{Segments}
-use Rattle.pisa_isa.specs.Loaded.{loaded}
-use Rattle.roopl_semantics.specs.Store.{State}
-use Rattle.roopl_semantics.specs.Source.{IsValid, GivesDone}
-use Rattle.rpp_words.specs.Limits.{IsLimits}
-use Rattle.roopl_semantics.specs.Layout.{HasStatics, layout}
+use Rattle.pisa_machine.specs.pisa_isa.Image.{Segments}
+use Rattle.pisa_machine.specs.pisa_isa.Loaded.{loaded}
+use Rattle.static_layout.specs.roopl_semantics.Store.{State}
+use Rattle.static_layout.specs.roopl_semantics.Source.{IsValid, GivesDone}
+use Rattle.refine_frame.specs.rpp_words.Limits.{IsLimits}
+use Rattle.static_layout.specs.roopl_semantics.Layout.{HasStatics, layout}
 
 -- these cells are the memory of a final state of the program
 pub record IsMemoryOf (program : Source) (cells : List ℕ) (end : State) : Type 0 where

@@ -1,29 +1,29 @@
 -- The text of what is met, as the code makes it.
 use Rattle.std.specs.Prelude.{ℕ, ◌+◌, List, [], ◌∷◌, ◌++◌, map, length, replicate, codes}
 use Rattle.std.specs.Fmt.{decimal}
-use Rattle.rpp_words.specs.Texts.{line_end}
+use Rattle.refine_frame.specs.rpp_words.Texts.{line_end}
 use Rattle.rpp_tree.specs.declared.tree.Var.{Var}
 use Rattle.rpp_tree.specs.Tree.{Source}
-use Rattle.class_table.specs.Table.{Table, fields_in}
-use Rattle.roopl_semantics.specs.Store.{Value, Word, Head, OfClass, OfInts, OfObjects}
-use Rattle.roopl_semantics.specs.Report.{Text, number_shown, field_lines, element_lines, head_shown}
-use Rattle.roopl_semantics.specs.Report.{live_line}
-use Rattle.pisa_isa.specs.Loaded.{statics_at}
-use Rattle.pisa_isa.specs.Machine.{word_at}
-use Rattle.code_conventions.specs.declared.memory.TheConstants.{COUNT_WORD, HEADER_WORDS}
+use Rattle.refine_frame.specs.class_table.Table.{Table, fields_in}
+use Rattle.static_layout.specs.roopl_semantics.Store.{Value, Word, Head, OfClass, OfInts, OfObjects}
+use Rattle.static_layout.specs.roopl_semantics.Report.{Text, number_shown, field_lines, element_lines, head_shown}
+use Rattle.static_layout.specs.roopl_semantics.Report.{live_line}
+use Rattle.pisa_machine.specs.pisa_isa.Loaded.{statics_at}
+use Rattle.pisa_machine.specs.pisa_isa.Machine.{word_at}
+use Rattle.refine_frame.specs.code_conventions.declared.memory.TheConstants.{COUNT_WORD, HEADER_WORDS}
 use Rattle.store_report.specs.declared.leads.Lead.{Lead}
 use Rattle.store_report.specs.declared.leads.Lead.TheVariants as lead
 use Rattle.store_report.specs.Told.{reference_told}
 use Rattle.store_report.specs.Leads.{Met, address_met, leads_of, class_at_table, met_all}
 
--- what a word tells
+-- the meaning of a word
 abbrev pub value_by : Lead → ℕ → Value
 value_by lead.Int word = Word word
 value_by lead.Object word = reference_told word
 value_by lead.Ints word = reference_told word
 value_by (lead.Objects class) word = reference_told word
 
--- what the cells from an address on tell
+-- the meaning of the cells from an address on
 abbrev pub values_by : List ℕ → ℕ → List Lead → List Value
 values_by cells address [] = []
 values_by cells address (lead ∷ leads) =

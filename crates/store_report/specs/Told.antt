@@ -1,37 +1,37 @@
--- What the cells of a memory tell of the objects that are reached, and the report of them. Names
--- are addresses here.
+-- What the cells of a memory say about the reachable objects, and the report of them. Names are
+-- addresses here.
 use Rattle.std.specs.Prelude.{ℕ, ◌+◌, nat_eq, List, [], ◌∷◌, ◌++◌, length, map, codes}
 use Rattle.std.specs.Prelude.{if◌then◌else◌}
 use Rattle.std.specs.Option.{unwrap_or}
 use Rattle.std.specs.Fmt.{decimal}
-use Rattle.rpp_words.specs.Texts.{line_end}
+use Rattle.refine_frame.specs.rpp_words.Texts.{line_end}
 use Rattle.rpp_tree.specs.declared.tree.VarType.{VarType}
 use Rattle.rpp_tree.specs.declared.tree.VarType.TheVariants as kind
 use Rattle.rpp_tree.specs.Tree.{Source}
-use Rattle.class_table.specs.Classes.{class_number}
-use Rattle.roopl_semantics.specs.Store.{Value, Word, Nil, Name, Head, OfClass, OfInts, OfObjects}
-use Rattle.roopl_semantics.specs.Store.{Object}
-use Rattle.roopl_semantics.specs.Source.{main_fields}
-use Rattle.roopl_semantics.specs.Report.{Text, number_shown, field_lines, head_shown, cell_lines}
-use Rattle.roopl_semantics.specs.Report.{live_line}
-use Rattle.roopl_semantics.specs.Walk.{class_with_table, types_of, Reference, types_at}
-use Rattle.roopl_semantics.specs.Walk.{reached}
-use Rattle.pisa_isa.specs.Loaded.{statics_at}
-use Rattle.pisa_isa.specs.Machine.{word_at}
-use Rattle.code_conventions.specs.declared.memory.TheConstants.{COUNT_WORD, HEADER_WORDS}
+use Rattle.refine_frame.specs.class_table.Classes.{class_number}
+use Rattle.static_layout.specs.roopl_semantics.Store.{Value, Word, Nil, Name, Head, OfClass, OfInts, OfObjects}
+use Rattle.static_layout.specs.roopl_semantics.Store.{Object}
+use Rattle.static_layout.specs.roopl_semantics.Source.{main_fields}
+use Rattle.static_layout.specs.roopl_semantics.Report.{Text, number_shown, field_lines, head_shown, cell_lines}
+use Rattle.static_layout.specs.roopl_semantics.Report.{live_line}
+use Rattle.static_layout.specs.roopl_semantics.Walk.{class_with_table, types_of, Reference, types_at}
+use Rattle.static_layout.specs.roopl_semantics.Walk.{reached}
+use Rattle.pisa_machine.specs.pisa_isa.Loaded.{statics_at}
+use Rattle.pisa_machine.specs.pisa_isa.Machine.{word_at}
+use Rattle.refine_frame.specs.code_conventions.declared.memory.TheConstants.{COUNT_WORD, HEADER_WORDS}
 
--- what a word tells in a cell of a reference type: nil, or the address of a block
+-- the meaning of a word in a cell of a reference type: nil, or the address of a block
 abbrev pub reference_told : ℕ → Value
 reference_told word = if nat_eq word 0 then Nil else Name word
 
--- what a word tells in a cell of this type
+-- the meaning of a word in a cell of this type
 abbrev pub value_told : VarType → ℕ → Value
 value_told kind.Int word = Word word
 value_told (kind.Class class) word = reference_told word
 value_told kind.IntArray word = reference_told word
 value_told (kind.ClassArray class) word = reference_told word
 
--- what the cells of these types from an address on tell
+-- the meaning of the cells of these types from an address on
 abbrev pub values_told : List ℕ → ℕ → List VarType → List Value
 values_told cells address [] = []
 values_told cells address (type ∷ types) =
@@ -67,7 +67,7 @@ lines_told program cells addresses (reference ∷ rest) =
     ++ cell_lines program addresses object.head object.cells
     ++ lines_told program cells addresses rest
 
--- the report that the cells of a memory tell
+-- the report from the cells of a memory
 abbrev pub report_told : Source → List ℕ → Text
 report_told program cells =
     let references = reached program cells in

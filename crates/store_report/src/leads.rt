@@ -6,7 +6,7 @@ ghost use Rattle.store_report.specs.Leads.{lead_of as lead_told, is_reference, c
 use class_table::ClassTable;
 use rpp_tree::tree::VarType;
 
-/// What a cell leads to: nothing where it holds an int, an object, an array of ints, or an array of
+/// What a cell leads to: nothing if it holds an int, an object, an array of ints, or an array of
 /// references to objects of a class.
 #[derive(Clone, Copy)]
 pub enum Lead {
@@ -45,7 +45,7 @@ pub fn lead_of(table: &ClassTable, kind: &VarType) -> Lead
     }
 }
 
-/// Where a word stands among these.
+/// The index of a word among these.
 fn place_of(words: &[u32], word: u32) -> Option<usize>
     ensures place { result ≡ position (nat_eq word) words.now }
     ensures within { IfSome result (λ i. i < length words.now) }
@@ -53,7 +53,7 @@ fn place_of(words: &[u32], word: u32) -> Option<usize>
     words.iter().position(|at| word == *at)
 }
 
-/// The class whose table stands at an address, or the first one.
+/// The class whose table is at an address, or the first one.
 pub fn class_at_table(tables: &[u32], word: u32) -> u32
     requires { length tables.now ≤ MOST_CLASSES }
     ensures { result ≡ class_at_table tables.now word }

@@ -2,14 +2,14 @@
 ghost use Rattle.std.specs.Prelude.{◌≡◌, ◌++◌, string_bytes, OnOk};
 ghost use Rattle.std.specs.Str.{IsAscii};
 ghost use Rattle.rpp_tree.specs.Views.{source_of};
-ghost use Rattle.class_table.specs.Members.{class_at};
-ghost use Rattle.roopl_semantics.specs.Report.{signed_decimal, live_line};
+ghost use Rattle.refine_frame.specs.class_table.Members.{class_at};
+ghost use Rattle.static_layout.specs.roopl_semantics.Report.{signed_decimal, live_line};
 
 use rpp_tree::text::Text;
 use rpp_tree::tree::Program;
 use std::alloc::AllocError;
 
-/// The line on how many objects are live beside the main object.
+/// The line on how many objects are live besides the main object.
 pub fn add_live(out: &mut String, live: u64) -> Result<(), AllocError>
     ensures { OnOk result (string_bytes out.new ≡ string_bytes out.old ++ live_line live) }
 {

@@ -1,9 +1,9 @@
 // The order in which the objects and arrays of a store are met.
 ghost use Rattle.std.specs.Prelude.{◌≡◌, ◌<◌, ◌^◌, ◌++◌, [], ◌∷◌, IfOk, OnOk, IfSome, nat_eq, slice_get};
 ghost use Rattle.std.specs.List.{position};
-ghost use Rattle.roopl_semantics.specs.Store.{object_at};
-ghost use Rattle.roopl_semantics.specs.Report.{newly_met, numbered as numbered_in};
-ghost use Rattle.source_store.specs.ValueView.{value_of, values_of};
+ghost use Rattle.static_layout.specs.roopl_semantics.Store.{object_at};
+ghost use Rattle.static_layout.specs.roopl_semantics.Report.{newly_met, numbered as numbered_in};
+ghost use Rattle.source_meaning.specs.source_store.ValueView.{value_of, values_of};
 
 use indexmap::IndexSet;
 use rpp_words::NoMemory;
@@ -19,7 +19,7 @@ pub fn place_of(names: &IndexSet<u32>, name: u32) -> Option<usize>
     names.get_index_of(&name)
 }
 
-// The name that a value is, where it is not met yet.
+// The name that a value is, if it is not met yet.
 #[tactic(auto, using(crate::proofs::Walked::met_key))]
 fn meet_value(names: &mut IndexSet<u32>, value: Value) -> Result<(), NoMemory>
     ensures { OnOk result (names.new.keys ≡ names.old.keys

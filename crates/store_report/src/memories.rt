@@ -3,15 +3,15 @@ ghost use Rattle.std.specs.Prelude.{◌≡◌, ◌≤◌, ◌<◌, ◌+◌, ◌^
 ghost use Rattle.std.specs.Str.{IsAscii};
 ghost use Rattle.std.specs.Fmt.{decimal};
 ghost use Rattle.rpp_tree.specs.declared.limits.TheConstants.{MOST_FIELDS, MOST_CLASSES};
-ghost use Rattle.rpp_words.specs.declared.input.FieldWord.{FieldWord};
-ghost use Rattle.rpp_words.specs.Texts.{line_end};
+ghost use Rattle.refine_frame.specs.rpp_words.declared.input.FieldWord.{FieldWord};
+ghost use Rattle.refine_frame.specs.rpp_words.Texts.{line_end};
 ghost use Rattle.rpp_tree.specs.Views.{source_of};
-ghost use Rattle.class_table.specs.Members.{class_at};
-ghost use Rattle.class_table.specs.Table.{fields_in};
-ghost use Rattle.roopl_semantics.specs.Store.{State};
-ghost use Rattle.roopl_semantics.specs.Source.{starting};
-ghost use Rattle.roopl_semantics.specs.Report.{report as report_of, field_lines, element_lines, value_shown, number_shown, head_shown};
-ghost use Rattle.code_conventions.specs.declared.memory.TheConstants.{FIRST_FIELD};
+ghost use Rattle.refine_frame.specs.class_table.Members.{class_at};
+ghost use Rattle.refine_frame.specs.class_table.Table.{fields_in};
+ghost use Rattle.static_layout.specs.roopl_semantics.Store.{State};
+ghost use Rattle.static_layout.specs.roopl_semantics.Source.{starting};
+ghost use Rattle.static_layout.specs.roopl_semantics.Report.{report as report_of, field_lines, element_lines, value_shown, number_shown, head_shown};
+ghost use Rattle.refine_frame.specs.code_conventions.declared.memory.TheConstants.{FIRST_FIELD};
 ghost use Rattle.store_report.specs.Ascii.{HasAsciiName, AreAscii};
 ghost use Rattle.store_report.specs.Leads.{leads_of};
 ghost use Rattle.store_report.specs.Memory.{IsMemoryOf, IsFirstMemoryOf};
@@ -32,21 +32,21 @@ use static_layout::table_addresses;
 use std::alloc::{AllocError, Global};
 
 /// The report of a machine's memory, by following the references in its cells from the main object
-/// on: a line for each of its fields, the lines of each object and array that is reached, in the
-/// order in which they are met, and how many those are.
-/// A class is told by its table's address, an array by the type of the reference and its length; a
-/// word that is no table's address counts as the first class's. The time is linear in the cells
-/// that are met.
+/// on. It has a line for each of its fields, the lines of each reachable object and array, in the
+/// order in which they are met, and how many those are. The address of its table determines a
+/// class, and an array is known by the type of the reference and its length. A word that is no
+/// table's address counts as the first class's. The time is linear in the cells that are met.
 pub fn report(alloc: Global, machine: &Machine, checked: &Checked) -> Result<String, NoMemory>
     ensures lines { IfOk result (λ text. string_bytes text
         ≡ report_told (source_of checked.now) machine.now.state.cells) }
 
-    // Of a memory where a run ended it is the report of the store that the source gives.
+    // For a memory with which a run ended, it is the report of the store that the semantics gives.
     ensures last { IfOk result (λ text. (end : State)
         → IsMemoryOf (source_of checked.now) machine.now.state.cells end
         → string_bytes text ≡ report_of (source_of checked.now) end.store) }
 
-    // Of a memory where a run begins it is the report of the store that the source begins with.
+    // For a memory with which a run begins, it is the report of the store with which the source
+    // begins.
     ensures first { IfOk result (λ text. (input : List FieldWord)
         → IsFirstMemoryOf (source_of checked.now) machine.now.state.cells input
         → string_bytes text ≡ report_of (source_of checked.now)
@@ -65,7 +65,7 @@ pub fn report(alloc: Global, machine: &Machine, checked: &Checked) -> Result<Str
     compose(alloc, &memory, fields)
 }
 
-// Where what is met at an address stands in the order of the numbers.
+// The position of what is met at an address, in the order of the numbers.
 fn place_of(met: &IndexMap<u32, Lead>, at: u32) -> u64
     ensures place { codes "#" ++ decimal (result + 1) ≡ number_shown (addresses_of met.now.entries) at }
     ensures small { result < 2 ^ 63 }
@@ -86,7 +86,7 @@ fn add_number(out: &mut String, met: &IndexMap<u32, Lead>, at: u32) -> Result<()
     write!(out, "#{number}")
 }
 
-// What a word tells.
+// The meaning of a word.
 fn add_value(
     out: &mut String,
     met: &IndexMap<u32, Lead>,
@@ -207,7 +207,7 @@ fn add_class(out: &mut String, program: &Program, class: u32) -> Result<(), Allo
     add_bytes(out, class_name(program, class))
 }
 
-// What the head word of an object or array tells: its class, or its length.
+// The meaning of the head word of an object or array: its class, or its length.
 fn add_head(out: &mut String, memory: &Memory, lead: Lead, word: u32) -> Result<(), AllocError>
     requires few { length memory.now.tables.now ≤ MOST_CLASSES }
     requires names { (class : ℕ) → IsAscii (class_at (source_of memory.now.program.now) class).name.text }
@@ -229,7 +229,7 @@ fn add_head(out: &mut String, memory: &Memory, lead: Lead, word: u32) -> Result<
     }
 }
 
-// The lines of the cells of what stands at an address.
+// The lines of the cells of the object or array at an address.
 fn add_cells(
     out: &mut String,
     met: &IndexMap<u32, Lead>,
@@ -260,7 +260,7 @@ fn add_cells(
     }
 }
 
-// The head line and the lines of the cells of what stands at an address.
+// The head line and the lines of the cells of the object or array at an address.
 fn add_object(
     out: &mut String,
     met: &IndexMap<u32, Lead>,

@@ -4,15 +4,15 @@ ghost use Rattle.std.specs.List.{position};
 ghost use Rattle.std.specs.Option.{unwrap_or};
 ghost use Rattle.std.specs.Str.{IsAscii};
 ghost use Rattle.std.specs.Fmt.{decimal};
-ghost use Rattle.roopl_semantics.specs.Source.{main_fields};
-ghost use Rattle.rpp_words.specs.Texts.{line_end};
+ghost use Rattle.static_layout.specs.roopl_semantics.Source.{main_fields};
+ghost use Rattle.refine_frame.specs.rpp_words.Texts.{line_end};
 ghost use Rattle.rpp_tree.specs.Views.{source_of};
-ghost use Rattle.class_table.specs.Members.{class_at};
-ghost use Rattle.class_table.specs.Classes.{class_fields, main_of};
-ghost use Rattle.class_table.specs.Program.{IsAccepted};
-ghost use Rattle.roopl_semantics.specs.Store.{object_at, main_name};
-ghost use Rattle.roopl_semantics.specs.Report.{report as report_in, value_shown, number_shown, field_lines, element_lines, head_shown, cell_lines, object_lines, live_line};
-ghost use Rattle.source_store.specs.ValueView.{value_of, values_of, head_of};
+ghost use Rattle.refine_frame.specs.class_table.Members.{class_at};
+ghost use Rattle.refine_frame.specs.class_table.Classes.{class_fields, main_of};
+ghost use Rattle.refine_frame.specs.class_table.Program.{IsAccepted};
+ghost use Rattle.static_layout.specs.roopl_semantics.Store.{object_at, main_name};
+ghost use Rattle.static_layout.specs.roopl_semantics.Report.{report as report_in, value_shown, number_shown, field_lines, element_lines, head_shown, cell_lines, object_lines, live_line};
+ghost use Rattle.source_meaning.specs.source_store.ValueView.{value_of, values_of, head_of};
 ghost use Rattle.store_report.specs.Ascii.{HasAsciiName};
 
 use crate::lines::{add_bytes, add_live, add_name, add_word, class_name};
@@ -25,8 +25,8 @@ use source_meaning::Store;
 use source_store::{Head, Heap, Value};
 use std::alloc::{AllocError, Global};
 
-/// The report of a store of the program: a line for each field of the main object, the lines of
-/// each object and array that is reached from it, and the number of those that live.
+/// The report of a store of the program. It has a line for each field of the main object, the lines
+/// of each object and array that is reachable from it, and the number of those that live.
 pub fn report_store(alloc: Global, store: &Store, checked: &Checked) -> Result<String, NoMemory>
     ensures { IfOk result (λ text. string_bytes text ≡ report_in (source_of checked.now) store.now) }
 {

@@ -1,7 +1,7 @@
 // The walk of a memory: what is met from the main object on.
 ghost use Rattle.std.specs.Prelude.{◌≡◌, ◌≤◌, ◌<◌, ◌+◌, ◌^◌, length, replicate, OnOk, IfOk};
 ghost use Rattle.rpp_tree.specs.declared.limits.TheConstants.{MOST_FIELDS, MOST_CLASSES};
-ghost use Rattle.code_conventions.specs.declared.memory.TheConstants.{FIRST_FIELD};
+ghost use Rattle.refine_frame.specs.code_conventions.declared.memory.TheConstants.{FIRST_FIELD};
 ghost use Rattle.store_report.specs.declared.leads.Lead.TheVariants as lead;
 ghost use Rattle.store_report.specs.Leads.{meets_one, meets, leads_of, meets_behind, walks, met_all};
 
@@ -83,7 +83,7 @@ fn meet_elements(
     Ok(())
 }
 
-// Meets what the cells of what stands at an address lead to.
+// Meets what the cells of the object or array at an address lead to.
 fn meet_behind(
     met: &mut IndexMap<u32, Lead>,
     memory: &Memory,
@@ -111,8 +111,8 @@ fn meet_behind(
     }
 }
 
-/// Walks what is met, from the main object's fields on: each address that is reached, with what
-/// stands there, in the order of the numbers.
+/// Walks what is met, from the main object's fields on: each reachable address, with the object or
+/// array there, in the order of the numbers.
 pub fn met_all(
     alloc: Global,
     memory: &Memory,

@@ -1,5 +1,5 @@
-// Blocks that the allocator takes and gives back, and checks of registers, through a linked image of
-// its routine alone.
+// Blocks that the allocator allocates and frees, and checks of registers, through a linked image of
+// its routine only.
 ghost use Rattle.std.specs.Prelude.{◌≢◌, ◌<◌, ◌^◌, length};
 
 use buddy_pisa::{BLOCK, ORDER, allocator};
@@ -41,7 +41,7 @@ fn at_start() -> Core {
     }
 }
 
-/// The cells of an empty heap of order `h` at `base`, and 12 more behind it.
+/// The cells of an empty heap of order `h` at `base`, and 12 more after it.
 fn empty_heap<R: Abort>(rt: &R, alloc: Global, h: u32, base: u32) -> Result<Words, Fail> {
     assert!(rt; 1 <= h && h <= 20 && 40 <= base && base <= 4096);
     let mut words = vec![in alloc; 0; (base + (1 << h) + 12) as usize]?;
@@ -95,7 +95,7 @@ fn xored(alloc: Global, to: u8, from: u8) -> Result<Piece, Fail>
 }
 
 /// A block is taken and its address moved to a register, or the block of a register is given back, or
-/// the run traps with 7 where a register is not 0.
+/// the run traps with 7 if a register is not 0.
 #[derive(Clone, Copy)]
 enum Move {
     Take(u8),

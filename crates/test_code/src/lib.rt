@@ -1,5 +1,5 @@
-//! The tests of compiled code that no command shows: the allocator's routine in a linked image of its
-//! own, and the check of a register. It holds tests alone: no layer uses it.
+//! The tests of compiled code that no command shows. They run the allocator's routine in a linked
+//! image of its own, and the check of a register. It holds only tests: no layer uses it.
 #![tactic(auto)]
 
 #[cfg(test)]

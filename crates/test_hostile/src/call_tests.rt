@@ -1,4 +1,4 @@
-// Calls of shelf and sink that fail: what is said, and what is written.
+// Calls of file store and sink that fail: what is said, and what is written.
 use crate::serving::{answer_on, made_by, shelf_of};
 use std::test::Fail;
 
@@ -38,7 +38,8 @@ fn lines_whose_calls_fail(rt: HostRuntime) -> Result<(), Fail> {
     Ok(())
 }
 
-// The calls of the shelf are counted from the one that assembles: it reads and writes one file each.
+// The calls of the file store are counted from the one that assembles: it reads and writes one file
+// each.
 #[test]
 fn states_whose_calls_fail(rt: HostRuntime) -> Result<(), Fail> {
     let alloc = rt.alloc();

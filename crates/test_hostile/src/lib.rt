@@ -1,5 +1,5 @@
-//! What no command shows of the top call: calls of shelf and sink that fail, and probes of a
-//! caller's own. It holds tests alone: no layer uses it.
+//! The tests of the top call that no command shows. Calls of file store and sink fail, and a caller
+//! has probes of its own. It holds only tests: no layer uses it.
 #![tactic(auto)]
 
 #[cfg(test)]

@@ -1,5 +1,5 @@
-// Probes that watch: what `profile` says of them, what `turn` leaves of them, and that no other
-// line tells them.
+// Probes that watch: what `profile` says of them, what `turn` leaves of them, and that those of no
+// other line observe steps.
 ghost use Rattle.std.specs.Prelude.{true, [], ◌∷◌, codes};
 
 use crate::serving::shelf_of;
@@ -33,7 +33,8 @@ fn answer_as_watch<P: Probes>(
     Ok((status, out.bytes().to_vec(alloc)?, left))
 }
 
-// The probes of the program itself, but for the number of steps after which places are told no more.
+// The probes of the program itself, except for the number of steps after which code addresses are
+// no longer observed.
 fn watching(alloc: Global, limit: u32) -> Result<Vec<Box<dyn Probe>>, Fail> {
     let mut probes: Vec<Box<dyn Probe>> = Vec::new(alloc);
     probes.push(Box::new(alloc, StepTally::new())?)?;
@@ -62,8 +63,8 @@ fn numbers_of(alloc: Global, text: &[u8]) -> Result<Vec<u64>, AllocError> {
     Ok(numbers)
 }
 
-// What is printed in front of the numbers that the code decides, and the first line of those probes
-// that are left.
+// What is printed before the numbers that the code decides, and the first line of those probes that
+// are left.
 #[test]
 fn probes_watch(rt: HostRuntime) -> Result<(), Fail> {
     let alloc = rt.alloc();
@@ -145,8 +146,8 @@ fn a_probe_of_the_callers_own_watches(rt: HostRuntime) -> Result<(), Fail> {
     Ok(())
 }
 
-// One probe alone: `turn` tells a tally each step back, and a coverage of four steps ends with the
-// fourth one and is not left.
+// Only one probe: With `turn`, a probe observes each step back, and a coverage of four steps ends
+// with the fourth one and is not left.
 #[test]
 fn one_probe_alone_watches_the_way_back(rt: HostRuntime) -> Result<(), Fail> {
     let alloc = rt.alloc();

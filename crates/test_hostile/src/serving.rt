@@ -4,7 +4,7 @@ use rpp_ports::{MemoryShelf, MemorySink, Named};
 use rpp_probes::Probe;
 use std::alloc::{AllocError, Global};
 
-// A shelf with these files, whose calls with these numbers fail.
+// A file store with these files, whose calls with these numbers fail.
 pub(crate) fn shelf_of(
     alloc: Global,
     files: &[(&str, &[u8])],
@@ -20,7 +20,7 @@ pub(crate) fn shelf_of(
     Ok(MemoryShelf::new(alloc, texts, failing.to_vec(alloc)?))
 }
 
-// What a command answers over a shelf, with what it prints; the puts with these numbers fail.
+// What a command returns over a file store, with what it prints; the puts with these numbers fail.
 pub(crate) fn answer_on(
     alloc: Global,
     shelf: &mut MemoryShelf,
@@ -37,7 +37,7 @@ pub(crate) fn answer_on(
     Ok((status, out.bytes().to_vec(alloc)?))
 }
 
-// The file of this name that a command writes over these files; empty where it writes none.
+// The file of this name that a command writes over these files; empty if it writes none.
 pub(crate) fn made_by(
     alloc: Global,
     files: &[(&str, &[u8])],

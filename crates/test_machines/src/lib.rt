@@ -1,5 +1,5 @@
-//! What no command shows of machines: what probes say of a run of a hand-written image. It holds tests
-//! alone: no layer uses it.
+//! The tests of machines that no command shows: probes of a hand-written image's run. It holds only
+//! tests: no layer uses it.
 #![tactic(auto)]
 
 #[cfg(test)]

@@ -1,5 +1,5 @@
-//! What no command shows of trees: that they are copied and compared. It holds tests alone: no layer
-//! uses it.
+//! The tests of syntax trees that no command shows: copies and comparisons. It holds only tests: no
+//! layer uses it.
 #![tactic(auto)]
 
 #[cfg(test)]

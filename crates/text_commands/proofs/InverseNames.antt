@@ -3,13 +3,13 @@ use Rattle.std.proofs.Common.{◌≡◌, sym, subst}
 use Rattle.std.specs.List.{All}
 use Rattle.std.specs.Str.{IsAscii}
 use Rattle.std.proofs.lemmas.List.Elements.{All-weaker}
-use Rattle.rpp_tree.specs.declared.tree.Ident.{Ident}
-use Rattle.rpp_words.proofs.AsciiNames.{name_bytes_ascii}
-use Rattle.rpp_tree.specs.Names.{IsName}
-use Rattle.rpp_tree.specs.Parts.{source_names}
-use Rattle.rpp_tree.specs.Tree.{Source}
-use Rattle.class_table.specs.Program.{IsAccepted}
-use Rattle.stmt_inverter.specs.Inverse.{inverse_program}
+use Rattle.roopl_judge.specs.rpp_tree.declared.tree.Ident.{Ident}
+use Rattle.rpp_generator.proofs.rpp_words_laws.AsciiNames.{name_bytes_ascii}
+use Rattle.roopl_judge.specs.rpp_tree.Names.{IsName}
+use Rattle.roopl_judge.specs.rpp_tree.Parts.{source_names}
+use Rattle.roopl_judge.specs.rpp_tree.Tree.{Source}
+use Rattle.roopl_judge.specs.class_table.Program.{IsAccepted}
+use Rattle.meaning_inverse.specs.stmt_inverter.Inverse.{inverse_program}
 use Rattle.meaning_inverse.proofs.SameTypes.{inverse_accepted}
 
 name_ascii : (name : Ident) → IsName name.text → IsAscii name.text

@@ -2,31 +2,30 @@
 use Rattle.std.specs.Prelude.{◌≡◌, ℕ, List, ◌++◌, length, Result, Ok, Err, codes}
 use Rattle.std.specs.declared.option.Option.{Option}
 use Rattle.std.specs.Fmt.{decimal}
-use Rattle.rpp_words.specs.Texts.{line_end}
-use Rattle.rpp_tree.specs.declared.limits.TheConstants.{MOST_BYTES}
-use Rattle.rpp_tree.specs.Tree.{Source}
-use Rattle.rpp_ports.specs.Ports.{Texts}
+use Rattle.rpp_generator.specs.rpp_words.Texts.{line_end}
+use Rattle.roopl_judge.specs.rpp_tree.declared.limits.TheConstants.{MOST_BYTES}
+use Rattle.roopl_judge.specs.rpp_tree.Tree.{Source}
+use Rattle.roopl_judge.specs.rpp_ports.Ports.{Texts}
 use Rattle.rpp_generator.specs.Generated.{generated}
-use Rattle.class_table.specs.Refusal.{Refusal}
+use Rattle.roopl_judge.specs.class_table.Refusal.{Refusal}
 use Rattle.roopl_judge.specs.Judged.{IsJudged}
-use Rattle.stmt_inverter.specs.Inverse.{inverse_program}
+use Rattle.meaning_inverse.specs.stmt_inverter.Inverse.{inverse_program}
 use Rattle.roopl_printer.specs.Spelled.{printed}
-use Rattle.command_plan.specs.declared.plan.Verdict.TheVariants.{SourceRefused}
-use Rattle.command_plan.specs.Plans.{Planned, prints, writes, WithText}
-use Rattle.command_plan.specs.Refusals.{refused_line}
+use Rattle.roopl_judge.specs.command_plan.declared.plan.Verdict.TheVariants.{SourceRefused}
+use Rattle.roopl_judge.specs.command_plan.Plans.{Planned, prints, writes, WithText}
+use Rattle.roopl_judge.specs.command_plan.Refusals.{refused_line}
 
 -- a text is written into a file, and the number of its bytes is printed
 abbrev pub writes_text : (name text : List ℕ) → Planned
 writes_text name text = writes name text
     (codes "written " ++ (decimal (length text) ++ (codes " bytes" ++ line_end)))
 
--- the first refusal of a text is told, or the text of the inverse of the program that it is is
--- written
+-- the first refusal of a text is reported, or the text of its program's inverse is written
 abbrev pub WritesInverse : Result Source Refusal → (name : List ℕ) → Planned → Type 0
 WritesInverse (Err refusal) name p = p ≡ prints SourceRefused (refused_line refusal)
 WritesInverse (Ok program) name p = p ≡ writes_text name (printed (inverse_program program))
 
--- the text is judged, and the plan is that of the judgement
+-- the text is checked, and the plan is that of the result
 pub record IsInversePlan (text name : List ℕ) (p : Planned) : Type 0 where
   pub judgement : Result Source Refusal
   pub judged : IsJudged text judgement

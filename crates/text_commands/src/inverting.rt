@@ -1,11 +1,11 @@
 // `show-inverse F OUT`: writes the inverse of a program.
 ghost use Rattle.std.specs.Prelude.{◌≡◌, ◌≤◌, [], ◌∷◌, length, IfOk, IfSome};
-ghost use Rattle.rpp_tree.specs.Views.{source_of};
-ghost use Rattle.rpp_tree.specs.declared.limits.TheConstants.{MOST_BYTES};
-ghost use Rattle.stmt_inverter.specs.Inverse.{inverse_program};
+ghost use Rattle.roopl_judge.specs.rpp_tree.Views.{source_of};
+ghost use Rattle.roopl_judge.specs.rpp_tree.declared.limits.TheConstants.{MOST_BYTES};
+ghost use Rattle.meaning_inverse.specs.stmt_inverter.Inverse.{inverse_program};
 ghost use Rattle.roopl_printer.specs.Spelled.{printed};
-ghost use Rattle.command_plan.specs.Plans.{planned, GivesPlan};
-ghost use Rattle.command_plan.specs.Files.{OnlyReads, source};
+ghost use Rattle.roopl_judge.specs.command_plan.Plans.{planned, GivesPlan};
+ghost use Rattle.roopl_judge.specs.command_plan.Files.{OnlyReads, source};
 ghost use Rattle.text_commands.specs.TextPlans.{writes_text, IsInversePlan, ShowsInverse};
 
 use crate::writing::write_text;
@@ -19,7 +19,7 @@ use rpp_words::NoMemory;
 use std::alloc::Global;
 use stmt_inverter::invert_program;
 
-/// Judges the source in a file, and writes the text of its inverse program into another.
+/// Checks the source in a file, and writes the text of its inverse program into another.
 pub fn show_inverse<S: Shelf>(
     alloc: Global,
     shelf: &mut S,

@@ -1,11 +1,11 @@
 -- What a script prints from the start of a run on.
 use Rattle.std.proofs.Common.{◌≡◌, ◌∙◌, sym, ap, List, Some}
-use Rattle.rpp_words.specs.declared.input.FieldWord.{FieldWord}
-use Rattle.rpp_words.specs.declared.input.Limits.{Limits}
-use Rattle.rpp_tree.specs.declared.tree.Program.{Program}
-use Rattle.rpp_tree.specs.Views.{source_of}
-use Rattle.roopl_semantics.specs.Report.{Text}
-use Rattle.two_way_debugger.specs.declared.command.Command.{Command}
+use Rattle.program_commands.specs.rpp_words.declared.input.FieldWord.{FieldWord}
+use Rattle.program_commands.specs.rpp_words.declared.input.Limits.{Limits}
+use Rattle.program_commands.specs.rpp_tree.declared.tree.Program.{Program}
+use Rattle.program_commands.specs.rpp_tree.Views.{source_of}
+use Rattle.program_commands.specs.roopl_semantics.Report.{Text}
+use Rattle.image_commands.specs.two_way_debugger.declared.command.Command.{Command}
 use Rattle.source_debugger.specs.declared.running.TheConstants.{MOST_COST}
 use Rattle.source_debugger.specs.Shown.{told}
 use Rattle.source_debugger.specs.Standing.{Standing, run_of, Leads}

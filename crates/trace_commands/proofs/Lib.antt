@@ -1,2 +1,3 @@
+pub use Rattle.image_commands.proofs as image_commands_laws
 pub mod Followed
 pub mod TraceTargets

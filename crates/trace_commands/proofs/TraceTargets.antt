@@ -2,16 +2,16 @@
 use Rattle.std.proofs.Common.{ℕ, List, None, Ok, Err, inl, inr, refl}
 use Rattle.std.specs.declared.option.Option.{Option}
 use Rattle.std.specs.Prelude.{Result}
-use Rattle.rpp_words.specs.declared.input.FieldWord.{FieldWord}
-use Rattle.rpp_words.specs.declared.input.Limits.{Limits}
-use Rattle.rpp_tree.specs.Tree.{Source}
-use Rattle.rpp_ports.specs.Ports.{Texts}
-use Rattle.two_way_debugger.specs.declared.command.Command.{Command}
-use Rattle.two_way_debugger.specs.declared.error.ScriptError.{ScriptError}
-use Rattle.two_way_debugger.specs.declared.error.ScriptError.TheVariants.{BadCommand, NoMemory}
-use Rattle.two_way_debugger.specs.Scripts.{script_of}
-use Rattle.command_plan.specs.Plans.{Planned, WritesOnly}
-use Rattle.command_plan.proofs.Writes.{along}
+use Rattle.program_commands.specs.rpp_words.declared.input.FieldWord.{FieldWord}
+use Rattle.program_commands.specs.rpp_words.declared.input.Limits.{Limits}
+use Rattle.program_commands.specs.rpp_tree.Tree.{Source}
+use Rattle.program_commands.specs.rpp_ports.Ports.{Texts}
+use Rattle.image_commands.specs.two_way_debugger.declared.command.Command.{Command}
+use Rattle.image_commands.specs.two_way_debugger.declared.error.ScriptError.{ScriptError}
+use Rattle.image_commands.specs.two_way_debugger.declared.error.ScriptError.TheVariants.{BadCommand, NoMemory}
+use Rattle.image_commands.specs.two_way_debugger.Scripts.{script_of}
+use Rattle.program_commands.specs.command_plan.Plans.{Planned, WritesOnly}
+use Rattle.program_commands.proofs.command_plan_laws.Writes.{along}
 use Rattle.program_commands.proofs.ProgramTargets.{refused_writes}
 use Rattle.trace_commands.specs.TracePlans.{IsScriptPlan, IsTracePlan, Traces}
 

@@ -1,1 +1,2 @@
+pub use Rattle.image_commands.specs as image_commands
 pub mod TracePlans

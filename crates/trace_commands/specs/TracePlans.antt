@@ -1,22 +1,22 @@
 -- The plan of `trace`.
 use Rattle.std.specs.Prelude.{◌≡◌, ◌⊎◌, ℕ, List, Some, Result, Ok, Err}
 use Rattle.std.specs.declared.option.Option.{Option}
-use Rattle.rpp_words.specs.declared.input.FieldWord.{FieldWord}
-use Rattle.rpp_words.specs.declared.input.Limits.{Limits}
-use Rattle.rpp_tree.specs.declared.limits.TheConstants.{MOST_BYTES}
-use Rattle.rpp_tree.specs.Tree.{Source}
-use Rattle.rpp_ports.specs.Ports.{Texts}
-use Rattle.meaning_points.specs.Trail.{trail}
-use Rattle.two_way_debugger.specs.declared.command.Command.{Command}
-use Rattle.pisa_scripts.specs.declared.lines.TheConstants.{MOST_SCRIPT}
-use Rattle.two_way_debugger.specs.declared.error.ScriptError.{ScriptError}
-use Rattle.two_way_debugger.specs.declared.error.ScriptError.TheVariants.{BadCommand}
-use Rattle.two_way_debugger.specs.declared.error.ScriptError.TheVariants as script
-use Rattle.two_way_debugger.specs.Scripts.{script_of}
+use Rattle.program_commands.specs.rpp_words.declared.input.FieldWord.{FieldWord}
+use Rattle.program_commands.specs.rpp_words.declared.input.Limits.{Limits}
+use Rattle.program_commands.specs.rpp_tree.declared.limits.TheConstants.{MOST_BYTES}
+use Rattle.program_commands.specs.rpp_tree.Tree.{Source}
+use Rattle.program_commands.specs.rpp_ports.Ports.{Texts}
+use Rattle.program_commands.specs.meaning_points.Trail.{trail}
+use Rattle.image_commands.specs.two_way_debugger.declared.command.Command.{Command}
+use Rattle.program_commands.specs.pisa_scripts.declared.lines.TheConstants.{MOST_SCRIPT}
+use Rattle.image_commands.specs.two_way_debugger.declared.error.ScriptError.{ScriptError}
+use Rattle.image_commands.specs.two_way_debugger.declared.error.ScriptError.TheVariants.{BadCommand}
+use Rattle.image_commands.specs.two_way_debugger.declared.error.ScriptError.TheVariants as script
+use Rattle.image_commands.specs.two_way_debugger.Scripts.{script_of}
 use Rattle.source_debugger.specs.Shown.{told}
-use Rattle.command_plan.specs.declared.plan.Verdict.TheVariants.{Done, InputRefused}
-use Rattle.command_plan.specs.Plans.{Planned, prints, WithText, WithInput}
-use Rattle.command_plan.specs.Texts.{bad_command_line}
+use Rattle.program_commands.specs.command_plan.declared.plan.Verdict.TheVariants.{Done, InputRefused}
+use Rattle.program_commands.specs.command_plan.Plans.{Planned, prints, WithText, WithInput}
+use Rattle.program_commands.specs.command_plan.Texts.{bad_command_line}
 use Rattle.program_commands.specs.RunPlans.{RefusesRun, RunsTo}
 
 -- the commands print this text along the run from its start on: there is fuel with which the run is
@@ -28,7 +28,7 @@ pub record Follows (commands : List Command) (program : Source) (limits : Limits
   pub told : told program (trail program limits input fuel) commands 0
       ≡ Some (record { position = last; text = text })
 
--- the first line that is no command is told, or what the commands print
+-- the first line that is no command is reported, or what the commands print
 abbrev pub IsScriptPlan : Result (List Command) ScriptError → Source → Limits → List FieldWord
     → Planned → Type 0
 IsScriptPlan (Err (BadCommand line)) program limits input p =
@@ -37,14 +37,14 @@ IsScriptPlan (Err script.NoMemory) program limits input p = ⊥
 IsScriptPlan (Ok commands) program limits input p =
     (text : List ℕ) × Follows commands program limits input text × (p ≡ prints Done text)
 
--- the first refusal of a text that is to be run is told, or the script is tried
+-- the first refusal of a text that is to be run is reported, or the script is tried
 abbrev pub IsTracePlan : (text script given : List ℕ) → (heap deep : ℕ) → Planned → Type 0
 IsTracePlan text script given heap deep p =
     RefusesRun text given heap deep p
     ⊎ RunsTo text given heap deep (λ program limits input. IsScriptPlan (script_of script) program
     limits input p)
 
--- the plan of `trace` by this script over this file, on an input where there is one
+-- the plan of `trace` by this script over this file, on an input if there is one
 abbrev pub Traces : (file script : List ℕ) → (input : Option (List ℕ)) → (heap deep : ℕ)
     → Option Texts
     → Planned → Type 0

@@ -1,14 +1,14 @@
 // `trace F H D SCRIPT [INPUT]`: follows a script along the run of a program, both ways.
 ghost use Rattle.std.specs.Prelude.{◌≡◌, ◌≤◌, ◌∷◌, length, option_map, List, ℕ, IfOk, string_bytes};
-ghost use Rattle.rpp_tree.specs.Views.{source_of};
-ghost use Rattle.rpp_tree.specs.declared.limits.TheConstants.{MOST_BYTES};
-ghost use Rattle.pisa_scripts.specs.declared.lines.TheConstants.{MOST_SCRIPT};
-ghost use Rattle.two_way_debugger.specs.Scripts.{script_of};
+ghost use Rattle.program_commands.specs.rpp_tree.Views.{source_of};
+ghost use Rattle.program_commands.specs.rpp_tree.declared.limits.TheConstants.{MOST_BYTES};
+ghost use Rattle.program_commands.specs.pisa_scripts.declared.lines.TheConstants.{MOST_SCRIPT};
+ghost use Rattle.image_commands.specs.two_way_debugger.Scripts.{script_of};
 ghost use Rattle.source_debugger.specs.Standing.{IsValidRun};
-ghost use Rattle.pisa_loader.specs.declared.input.TheConstants.{MOST_INPUT};
-ghost use Rattle.command_plan.specs.Plans.{planned, prints, GivesPlan, IsInputText};
-ghost use Rattle.rpp_ports.specs.Ports.{IsTextOf};
-ghost use Rattle.command_plan.specs.Files.{OnlyReads, source, input_files};
+ghost use Rattle.program_commands.specs.pisa_loader.declared.input.TheConstants.{MOST_INPUT};
+ghost use Rattle.program_commands.specs.command_plan.Plans.{planned, prints, GivesPlan, IsInputText};
+ghost use Rattle.program_commands.specs.rpp_ports.Ports.{IsTextOf};
+ghost use Rattle.program_commands.specs.command_plan.Files.{OnlyReads, source, input_files};
 ghost use Rattle.image_commands.specs.DebugPlans.{script_file};
 ghost use Rattle.trace_commands.specs.TracePlans.{Follows, IsScriptPlan, IsTracePlan, Traces};
 
@@ -33,8 +33,8 @@ struct Read {
     given: Vec<u8>,
 }
 
-/// Follows the script in a file along the run of the program in a file, on an input where there is
-/// one, and tells what its commands print.
+/// Follows the script in a file along the run of the program in a file, on an input if there is
+/// one, and reports what its commands print.
 pub fn trace<S: Shelf>(
     alloc: Global,
     shelf: &mut S,
@@ -55,7 +55,7 @@ pub fn trace<S: Shelf>(
     Ok(trace_text(alloc, &read, room)?)
 }
 
-// The texts of a source, a script, and an input where there is one.
+// The texts of a source, a script, and an input if there is one.
 fn read_all<S: Shelf>(
     alloc: Global,
     shelf: &mut S,
@@ -107,7 +107,7 @@ fn trace_text(alloc: Global, read: &Read, room: Room) -> Result<Plan, NoMemory>
     }
 }
 
-// The script is judged, and then it is followed.
+// The script is checked, and then it is followed.
 fn trace_script(
     alloc: Global,
     checked: Checked,

@@ -1,8 +1,8 @@
 -- The cells of a range, one after the other.
-use Rattle.std.proofs.Common.{◌≡◌, ◌∙◌, sym, ap, ℕ, suc, ◌+◌, ◌<◌, ◌≤◌, List, [], ◌∷◌, ◌++◌, length, get_or, take, drop}
-use Rattle.std.proofs.Common.{drop-cons, length-drop, append_assoc, Some, arith}
+use Rattle.std.proofs.Common.{◌≡◌, ◌∙◌, sym, ap, ℕ, suc, ◌+◌, ◌<◌, List, [], ◌∷◌, ◌++◌, length, get_or, take, drop}
+use Rattle.std.proofs.Common.{drop-cons, append_assoc, Some, arith}
 use Rattle.std.specs.Prelude.{min, slice_get}
-use Rattle.std.proofs.lemmas.List.{length-take, get_or-take, nil_from_length, append-nil}
+use Rattle.std.proofs.lemmas.List.{length-take, get_or-take}
 use Rattle.std.proofs.lemmas.Option.{slice_get-get_or}
 use Rattle.two_way_debugger.specs.Shown.{cell_lines}
 use Rattle.pisa_scripts.specs.Words.{cell_line}
@@ -10,7 +10,7 @@ use Rattle.pisa_scripts.specs.Words.{cell_line}
 some_is : (x y : ℕ) → Some x ≡ Some y → x ≡ y
 some_is x y h = cc
 
--- a cell, and those behind it
+-- a cell, and those after it
 front_cell : (n k word : ℕ) (cells : List ℕ) → n < min k (length cells) → slice_get cells n ≡ Some word
     → drop n (take k cells) ≡ word ∷ drop (suc n) (take k cells)
 front_cell n k word cells more is =
@@ -30,10 +30,3 @@ one_cell_more n next k word cells before after whole step more is grown so_far =
     rw (same, grown) (append_assoc before (cell_line n word) (cell_lines (suc n) (drop (suc n) (take k cells)))
     ∙ ap (λ xs. before ++ cell_lines n xs) (sym (front_cell n k word cells more (sym is)))
     ∙ so_far)
-
-pub no_cell_more : (n k : ℕ) (cells before whole : List ℕ) → min k (length cells) ≤ n
-    → before ++ cell_lines n (drop n (take k cells)) ≡ whole → before ≡ whole
-no_cell_more n k cells before whole over so_far =
-    let none : drop n (take k cells) ≡ [] = nil_from_length (drop n (take k cells))
-    (omega (arith, length-drop n (take k cells), length-take k cells)) in
-    sym (append-nil before) ∙ ap (λ xs. before ++ cell_lines n xs) (sym none) ∙ so_far

@@ -40,7 +40,7 @@ one_more_spent xs i d first at before now after h stands so_far costs =
     ∙ ap (λ n. before + n) (sym (spent-snoc (take i xs) x first)
     ∙ ap (λ ys. spent_in ys first) (sym (take_more xs i d h)))
 
--- what holds whatever the answer
+-- what holds whatever the result
 pub on_err_always : {A E : Type 0} (r : Result A E) (P : Type 0) → P → OnErr r P
 on_err_always (Ok x) P h = tt
 on_err_always (Err e) P h = h

@@ -1,4 +1,5 @@
 pub mod OneStep
+pub mod RunOn
 pub mod Walking
 pub mod CellRange
 pub mod Reading

@@ -1,16 +1,16 @@
--- What a run of one step says where it made none: the machine stopped where it stood.
+-- What a run of one step says if it made none: the machine stopped where it was.
 use Rattle.std.proofs.Common.{◌≡◌, ◌∙◌, ℕ, ◌+◌, refl, sym, ap, List, Option, Some, None, arith}
-use Rattle.pisa_isa.specs.declared.cell.Cell.{Cell}
-use Rattle.pisa_isa.specs.declared.machine.Stop.{Stop}
-use Rattle.pisa_isa.specs.Machine.{State, stop, next, fetch}
-use Rattle.pisa_isa.specs.Image.{Segments}
-use Rattle.pisa_isa.specs.Runs.{End, run, counted, after_step, stop_at_bound}
+use Rattle.pisa_scripts.specs.pisa_isa.declared.cell.Cell.{Cell}
+use Rattle.pisa_scripts.specs.pisa_isa.declared.machine.Stop.{Stop}
+use Rattle.pisa_scripts.specs.pisa_isa.Machine.{State, stop, next, fetch}
+use Rattle.pisa_scripts.specs.pisa_isa.Image.{Segments}
+use Rattle.pisa_scripts.specs.pisa_isa.Runs.{End, run, counted, after_step, stop_at_bound}
 use Rattle.pisa_machine.specs.Position.{Position}
 
-abbrev end_of : Stop → ℕ → State → End
+abbrev pub end_of : Stop → ℕ → State → End
 end_of why spent last = record { why = why; spent = spent; last = last }
 
-bound_counts_none : (o : Option Cell) (m : State) → counted (stop_at_bound o m.pc) ≡ 0
+pub bound_counts_none : (o : Option Cell) (m : State) → counted (stop_at_bound o m.pc) ≡ 0
 bound_counts_none None m = refl
 bound_counts_none (Some c) m = refl
 

@@ -2,9 +2,9 @@
 use Rattle.std.proofs.Common.{◌≡◌, ◌∙◌, ℕ, zero, suc, ◌+◌, ◌-◌, ◌<◌, ◌≤◌, ℤ, Bool, true, false, cond, sym, ap, Option}
 use Rattle.std.proofs.Common.{Some, None, arith}
 use Rattle.pisa_machine.specs.Position.{Position}
-use Rattle.pisa_isa.specs.declared.machine.Stop.{Stop}
-use Rattle.pisa_isa.specs.declared.machine.Stop.TheVariants.{Finished, Returned, Trap, BadAddress, OffCode, Bound}
-use Rattle.pisa_isa.specs.Runs.{counted}
+use Rattle.pisa_scripts.specs.pisa_isa.declared.machine.Stop.{Stop}
+use Rattle.pisa_scripts.specs.pisa_isa.declared.machine.Stop.TheVariants.{Finished, Returned, Trap, BadAddress, OffCode, Bound}
+use Rattle.pisa_scripts.specs.pisa_isa.Runs.{counted}
 use Rattle.two_way_debugger.specs.declared.moves.Ending.{Ending}
 use Rattle.two_way_debugger.specs.declared.moves.Ending.TheVariants.{Made, Last, Start, Stopped}
 use Rattle.two_way_debugger.specs.Moves.{Walk, moved, barrier, is_at, spent_on, ends, later, unless_ended, walk}
@@ -23,7 +23,7 @@ end_counts Last = omega arith
 end_counts Start = omega arith
 end_counts (Stopped e) = stop_counts e
 
--- a walk takes no more steps than moves are wanted
+-- a walk takes no more steps than moves are requested
 pub walk_within : (backward : Bool) (place : Option ℤ) (n : ℕ) (p : Position) → (walk backward place n p).spent ≤ n
 walk_within backward place zero p = omega arith
 walk_within backward place (suc n) p =
@@ -58,7 +58,7 @@ walk_ended backward place n i p e more is =
     (cond (is_at place (moved backward p)) (ends (moved backward p) Made)
     (walk backward place (n - (i + 1)) (moved backward p))))) is
 
--- the last that was wanted
+-- the last that was requested
 pub walk_arrived : (backward : Bool) (place : Option ℤ) (n i : ℕ) (p q : Position) → i < n → barrier backward p ≡ None
     → q ≡ moved backward p → is_at place q ≡ true
     → later i (walk backward place (n - i) p) ≡ later (i + 1) (ends q Made)
@@ -86,7 +86,7 @@ walk_more backward place n i p q more is next there =
     ∙ ap (λ (b : Bool). one_later i (cond b (ends q Made) (walk backward place (n - (i + 1)) q))) there
     ∙ again i (walk backward place (n - (i + 1)) q)
 
--- no more are wanted
+-- no more are requested
 pub walk_over : (backward : Bool) (place : Option ℤ) (n i : ℕ) (p : Position) → n ≤ i
     → later i (walk backward place (n - i) p) ≡ later i (ends p Made)
 walk_over backward place n i p over =

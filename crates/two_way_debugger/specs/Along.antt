@@ -1,4 +1,4 @@
--- What is left of commands that were broken off.
+-- What is left of commands that were aborted.
 use Rattle.std.specs.Prelude.{◌≡◌, ◌+◌, ℕ, List, take}
 use Rattle.pisa_machine.specs.Position.{Position}
 use Rattle.two_way_debugger.specs.declared.command.Command.{Command}

@@ -2,8 +2,8 @@
 use Rattle.std.specs.Prelude.{ℕ, zero, suc, ◌+◌, ◌-◌, ℤ, Bool, true, false, nat_eq, nat_lt}
 use Rattle.std.specs.Prelude.{if◌then◌else◌, Option, Some, None, option_map}
 use Rattle.std.specs.Ordering.{int_eq}
-use Rattle.pisa_isa.specs.Machine.{stop, next, back}
-use Rattle.pisa_isa.specs.Runs.{counted}
+use Rattle.pisa_scripts.specs.pisa_isa.Machine.{stop, next, back}
+use Rattle.pisa_scripts.specs.pisa_isa.Runs.{counted}
 use Rattle.pisa_machine.specs.Position.{Position}
 use Rattle.two_way_debugger.specs.declared.moves.TheConstants.{LAST_POSITION}
 use Rattle.two_way_debugger.specs.declared.moves.Ending.{Ending}
@@ -21,7 +21,7 @@ barrier false p = if nat_lt p.made LAST_POSITION then option_map Stopped (stop p
     else Some Last
 barrier true p = if nat_eq p.made 0 then Some Start else None
 
--- whether the machine stands at a place, where there is one to go to
+-- whether the machine is at a code address, if there is one to go to
 abbrev pub is_at : Option ℤ → Position → Bool
 is_at None p = false
 is_at (Some place) p = int_eq p.state.pc place
@@ -37,7 +37,7 @@ abbrev pub spent_on : Ending → ℕ
 spent_on (Stopped e) = counted e
 spent_on _ = 0
 
--- the steps of the machine in one wanted move
+-- the steps of the machine in one requested move
 abbrev pub spent_by : Option Ending → ℕ
 spent_by None = 1
 spent_by (Some ending) = spent_on ending
@@ -45,7 +45,7 @@ spent_by (Some ending) = spent_on ending
 abbrev pub ends : Position → Ending → Walk
 ends p ending = record { position = p; ending = ending; spent = spent_on ending }
 
--- moves behind others
+-- moves after others
 abbrev pub later : ℕ → Walk → Walk
 later n w = record w { spent = n + w.spent }
 
@@ -53,7 +53,7 @@ abbrev pub unless_ended : Option Ending → Position → Walk → Walk
 unless_ended (Some ending) p rest = ends p ending
 unless_ended None p rest = record rest { spent = suc rest.spent }
 
--- at most n moves, up to the first after which the machine stands at the place
+-- at most n moves, up to the first after which the machine is at the code address
 abbrev pub walk : (backward : Bool) → (place : Option ℤ) → ℕ → Position → Walk
 walk backward place zero p = ends p Made
 walk backward place (suc n) p =

@@ -10,7 +10,7 @@ use Rattle.two_way_debugger.specs.declared.command.Command.{Command}
 use Rattle.two_way_debugger.specs.declared.command.Command.TheVariants.{Step, Back, To, BackTo}
 use Rattle.two_way_debugger.specs.declared.command.Command.TheVariants.{Regs, Cells}
 use Rattle.two_way_debugger.specs.Moves.{Walk, ends, walk}
-use Rattle.rpp_words.specs.Texts.{line_end}
+use Rattle.pisa_scripts.specs.rpp_words.Texts.{line_end}
 use Rattle.pisa_scripts.specs.Words.{word_shown, direction, register_lines, cell_line}
 use Rattle.pisa_scripts.specs.Stops.{stop_line}
 
@@ -21,7 +21,7 @@ ending_shown Last = line_end
 ending_shown Start = codes " start" ++ line_end
 ending_shown (Stopped e) = codes " end " ++ stop_line e
 
--- the position, the place, the branch register, the direction, and how moves ended there
+-- the position, the code address, the branch register, the direction, and how moves ended there
 abbrev pub at_shown : Position → Ending → List ℕ
 at_shown p ending =
     (codes "at " ++ (decimal p.made

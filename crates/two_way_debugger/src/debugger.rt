@@ -27,7 +27,7 @@ impl Model for Debugger {
     ghost view = { λ d. d.machine };
 }
 
-// The text of moves, so many at most, up to a place where there is one to go to.
+// The text of moves, so many at most, up to a code address if there is one to go to.
 fn walk_text<L: Ledger>(
     alloc: Global,
     machine: &mut Machine,
@@ -46,7 +46,7 @@ fn walk_text<L: Ledger>(
     walk_line(alloc, machine, ending)
 }
 
-// Carries out a command, and answers its text.
+// Carries out a command, and returns its text.
 fn carry_out<L: Ledger>(
     alloc: Global,
     machine: &mut Machine,
@@ -69,7 +69,7 @@ fn carry_out<L: Ledger>(
 }
 
 impl Debugger {
-    /// A debugger of a machine, where it stands.
+    /// A debugger of a machine, at its position.
     pub fn new(machine: Machine) -> Debugger
         ensures { result ≡ machine }
     {
@@ -77,8 +77,8 @@ impl Debugger {
     }
 
     /// Carries out a command, and adds what it prints to a text. The counter rises by the steps of
-    /// the machine, at most one for each move that is wanted. After want of memory the moves were
-    /// made, and the text is as before.
+    /// the machine, at most one for each requested move. If memory runs out, the moves were made,
+    /// and the text is as before.
     pub fn command<L: Ledger>(
         &mut self,
         alloc: Global,
@@ -98,8 +98,8 @@ impl Debugger {
         Ok(())
     }
 
-    /// Carries out commands, one after the other, and adds what they print to a text. After want of
-    /// memory the moves of some first commands were made, and the text is as before.
+    /// Carries out commands, one after the other, and adds what they print to a text. If memory
+    /// runs out, the moves of some first commands were made, and the text is as before.
     pub fn follow<L: Ledger>(
         &mut self,
         alloc: Global,
@@ -122,7 +122,7 @@ impl Debugger {
         Ok(())
     }
 
-    /// The machine, where it stands.
+    /// The machine, at its position.
     pub fn machine(&self) -> &Machine
         ensures { result.now ≡ self.now }
     {

@@ -11,7 +11,7 @@ pub enum ScriptError {
     /// The line is neither blank nor a command.
     #[error("bad command in line {line}")]
     BadCommand { line: u32 },
-    /// Want of memory.
+    /// Memory ran out.
     #[error("no memory")]
     NoMemory,
 }

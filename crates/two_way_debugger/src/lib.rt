@@ -1,7 +1,7 @@
-//! A debugger that goes both ways along the run of a machine, by the commands of a script: steps
-//! and steps back, so many or up to a place, and what the registers and cells hold. A layer above
-//! may use that after any list of commands the position and the text are those of the definitions,
-//! and that a script is refused exactly at its first line that is no command.
+//! A debugger that goes both ways along the run of a machine. A script has its commands. It makes
+//! steps and undoes them, so many or up to a code address, and shows what the registers and cells
+//! hold. A layer above may use that after any list of commands the position and the text are those
+//! of the definitions. A script is refused exactly at its first line that is no command.
 #![tactic(auto)]
 
 mod command;

@@ -12,13 +12,13 @@ pub const LAST_POSITION: u64 = (1 << 63) - 1;
 /// How the moves of a command ended.
 #[derive(Clone, Copy, PartialEq, Eq, Debug)]
 pub(crate) enum Ending {
-    /// With the last that was wanted.
+    /// With the last requested one.
     Made,
     /// At the last position.
     Last,
-    /// At position 0, where one more step back was wanted.
+    /// At position 0, if one more step back was requested.
     Start,
-    /// At a stop, where one more step was wanted.
+    /// At a stop, if one more step was requested.
     Stopped(Stop),
 }
 
@@ -71,7 +71,7 @@ fn move_once<L: Ledger>(
     }
 }
 
-// Whether the machine stands at a place, where there is one to go to.
+// Whether the machine is at a code address, if there is one to go to.
 fn is_at(machine: &Machine, place: Option<i64>) -> bool
     ensures { result ≡ at_place place machine.now }
 {
@@ -81,8 +81,33 @@ fn is_at(machine: &Machine, place: Option<i64>) -> bool
     }
 }
 
-/// At most so many moves, up to the first after which the machine stands at the place.
-pub(crate) fn make_moves<L: Ledger>(
+// At most so many moves forward, in one run of the machine.
+fn run_on<L: Ledger>(machine: &mut Machine, most: u64, steps: &mut Steps<L>) -> Ending
+    ensures ending { result ≡ (walk false None most machine.old).ending }
+    ensures position { machine.new ≡ (walk false None most machine.old).position }
+    ensures counter { steps.new ≡ steps.old + (walk false None most machine.old).spent }
+{
+    let before = machine.made();
+    if most == 0 {
+        return Ending::Made;
+    }
+    if before >= LAST_POSITION {
+        return Ending::Last;
+    }
+    let bound = most.min(LAST_POSITION - before);
+    let end = machine.run(bound, steps);
+    if machine.made() != before + bound {
+        Ending::Stopped(end.stop)
+    } else if bound != most {
+        Ending::Last
+    } else {
+        Ending::Made
+    }
+}
+
+// At most so many moves, one by one, up to the first after which the machine is at the code
+// address.
+fn move_each<L: Ledger>(
     machine: &mut Machine,
     backward: bool,
     place: Option<i64>,
@@ -103,4 +128,24 @@ pub(crate) fn make_moves<L: Ledger>(
         }
     }
     Ending::Made
+}
+
+/// At most so many moves, up to the first after which the machine is at the code address. Moves
+/// forward without a code address are one run of the machine.
+pub(crate) fn make_moves<L: Ledger>(
+    machine: &mut Machine,
+    backward: bool,
+    place: Option<i64>,
+    most: u64,
+    steps: &mut Steps<L>,
+) -> Ending
+    ensures ending { result ≡ (walk backward place most machine.old).ending }
+    ensures position { machine.new ≡ (walk backward place most machine.old).position }
+    ensures counter { steps.new ≡ steps.old + (walk backward place most machine.old).spent }
+    ensures within { (walk backward place most machine.old).spent ≤ most }
+{
+    match place {
+        None if !backward => run_on(machine, most, steps),
+        _ => move_each(machine, backward, place, most, steps),
+    }
 }

@@ -8,7 +8,7 @@ use pisa_machine::Machine;
 use pisa_scripts::{add_cell, add_registers, add_stop, direction};
 use std::alloc::{AllocError, Global};
 
-/// The line on where a machine stands after moves that ended so.
+/// The line on the code address of a machine after moves that ended so.
 pub(crate) fn walk_line(
     alloc: Global,
     machine: &Machine,
@@ -77,7 +77,7 @@ pub(crate) fn cell_text(
     Ok(text)
 }
 
-// Behind the last of so many cells from one on, of those that there are.
+// After the last of so many cells from one on, of those that there are.
 fn end_of_cells(machine: &Machine, from: u32, count: u32) -> u32
     ensures { result ≡ min (from + count) (length machine.now.state.cells) }
 {

@@ -11,16 +11,16 @@ use Rattle.std.proofs.lemmas.List.{length-map}
 use Rattle.std.proofs.lemmas.List.Elements.{All-head, All-tail, All-nil, All-cons, All-append}
 use Rattle.std.proofs.lemmas.Map.Keys.{IsDistinct-push}
 use Rattle.std.proofs.lemmas.Map.Made.{All-is_member, length-le_from_is_member}
-use Rattle.rpp_tree.specs.declared.tree.Var.{Var}
-use Rattle.rpp_tree.specs.Tree.{Source}
-use Rattle.class_table.specs.Program.{IsAccepted}
-use Rattle.pisa_scripts.specs.Lines.{pieces}
-use Rattle.pisa_image.specs.Numbers.{◌>>=◌}
-use Rattle.pisa_loader.specs.declared.input.InputField.{InputField}
-use Rattle.pisa_loader.specs.InputLines.{is_field}
-use Rattle.roopl_semantics.specs.Source.{main_fields, is_int_type, is_int_field}
-use Rattle.store_report.specs.Ascii.{HasAsciiName as HasAsciiVar}
-use Rattle.store_report.proofs.Names.{ascii_main_fields}
+use Rattle.program_commands.specs.rpp_tree.declared.tree.Var.{Var}
+use Rattle.program_commands.specs.rpp_tree.Tree.{Source}
+use Rattle.program_commands.specs.class_table.Program.{IsAccepted}
+use Rattle.program_commands.specs.pisa_scripts.Lines.{pieces}
+use Rattle.program_commands.specs.pisa_image.Numbers.{◌>>=◌}
+use Rattle.program_commands.specs.pisa_loader.declared.input.InputField.{InputField}
+use Rattle.program_commands.specs.pisa_loader.InputLines.{is_field}
+use Rattle.program_commands.specs.roopl_semantics.Source.{main_fields, is_int_type, is_int_field}
+use Rattle.program_commands.specs.store_report.Ascii.{HasAsciiName as HasAsciiVar}
+use Rattle.program_commands.proofs.store_report_laws.Names.{ascii_main_fields}
 use Rattle.program_commands.specs.Inputs.{fields_from, input_fields}
 use Rattle.program_commands.proofs.ValidInput.{int_field}
 use Rattle.wrap_commands.specs.declared.error.NamesError.{NamesError}
@@ -62,7 +62,7 @@ field_in P (x ∷ fields) name field all e = by (bytes_eq x.name name)
     by true below e = subst P (same_some e) (All-head P x fields all)
     by false below e = below e
 
--- what holds of each field holds of each result
+-- what holds for each field holds for each result
 all_results : (P : InputField → Type 0) (fields results all : List InputField) (names : List (List ℕ)) → All P fields
     → All P results → results_from fields results names ≡ Ok all → All P all
 unfolding results_from

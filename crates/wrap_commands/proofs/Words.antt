@@ -1,13 +1,13 @@
--- The lines of the words behind a memory are those of the fields that hold them.
+-- The lines of the words after a memory are those of the fields that hold them.
 use Rattle.std.proofs.Common.{◌≡◌, ◌∙◌, refl, sym, ap, ℕ, suc, List, [], ◌∷◌, ◌++◌, length, length-append, append_assoc}
 use Rattle.std.proofs.Common.{map, Some, arith, slice_get}
 use Rattle.std.specs.Prelude.{slice_index}
 use Rattle.std.specs.List.{All}
 use Rattle.std.specs.Option.{unwrap_or}
 use Rattle.std.proofs.lemmas.List.Elements.{All-head, All-tail}
-use Rattle.pisa_loader.specs.declared.input.InputField.{InputField}
-use Rattle.roopl_semantics.specs.Store.{Value, Word, Nil}
-use Rattle.roopl_semantics.specs.Report.{signed_decimal, value_shown}
+use Rattle.program_commands.specs.pisa_loader.declared.input.InputField.{InputField}
+use Rattle.program_commands.specs.roopl_semantics.Store.{Value, Word, Nil}
+use Rattle.program_commands.specs.roopl_semantics.Report.{signed_decimal, value_shown}
 use Rattle.refine_wrap.specs.Programs.{field_cell}
 use Rattle.wrap_commands.specs.WrapNames.{result_cells}
 use Rattle.wrap_commands.specs.WrapShown.{result_line, result_lines, word_lines}

@@ -1,4 +1,4 @@
--- What the plan of a wrapped run rests on, and what it tells.
+-- The premises of the plan of a wrapped run, and what it reports.
 use Rattle.std.proofs.Common.{◌≡◌, ◌∙◌, sym, ap, subst, ℕ, ◌+◌, ◌-◌, ◌<◌, ◌≤◌, List, [], ◌∷◌, ◌++◌, length}
 use Rattle.std.proofs.Common.{length-append, map, replicate, arith, ⊎_elim}
 use Rattle.std.specs.Prelude.{ℤ}
@@ -6,32 +6,32 @@ use Rattle.std.specs.List.{All}
 use Rattle.std.proofs.lemmas.Bool.{cases_lt}
 use Rattle.std.proofs.lemmas.List.{length-map}
 use Rattle.std.proofs.lemmas.List.Elements.{All-head, All-tail, All-nil, All-cons, All-map}
-use Rattle.rpp_words.specs.Words.{IsWord}
-use Rattle.rpp_words.specs.Limits.{IsLimits}
-use Rattle.rpp_words.specs.declared.input.FieldWord.{FieldWord}
-use Rattle.rpp_words.specs.declared.input.Limits.{Limits}
-use Rattle.rpp_tree.specs.Tree.{Source}
-use Rattle.class_table.specs.Program.{IsAccepted}
-use Rattle.pisa_isa.specs.declared.cell.Cell.{Cell}
-use Rattle.pisa_isa.specs.declared.machine.Stop.{Stop}
-use Rattle.pisa_isa.specs.declared.machine.Stop.TheVariants.{Finished, Trap, Returned, BadAddress, OffCode, Bound}
-use Rattle.pisa_isa.specs.Image.{Segments, IsImage}
-use Rattle.pisa_isa.specs.Loaded.{loaded}
-use Rattle.pisa_isa.specs.Runs.{End, run, zero_registers}
-use Rattle.pisa_machine.specs.Position.{Position, IsMachine, first_position}
-use Rattle.pisa_loader.specs.declared.input.InputField.{InputField}
-use Rattle.roopl_semantics.specs.Store.{main_name, object_at}
-use Rattle.roopl_semantics.specs.Source.{GivesFault, IsValid}
-use Rattle.roopl_semantics.specs.Layout.{layout}
-use Rattle.roopl_semantics.specs.StandsFor.{StandsFor, EndsAt}
-use Rattle.bennett_wrap.specs.Wrapped.{Wrapped, begun_on, with_zeros}
+use Rattle.program_commands.specs.rpp_words.Words.{IsWord}
+use Rattle.program_commands.specs.rpp_words.Limits.{IsLimits}
+use Rattle.program_commands.specs.rpp_words.declared.input.FieldWord.{FieldWord}
+use Rattle.program_commands.specs.rpp_words.declared.input.Limits.{Limits}
+use Rattle.program_commands.specs.rpp_tree.Tree.{Source}
+use Rattle.program_commands.specs.class_table.Program.{IsAccepted}
+use Rattle.program_commands.specs.pisa_isa.declared.cell.Cell.{Cell}
+use Rattle.program_commands.specs.pisa_isa.declared.machine.Stop.{Stop}
+use Rattle.program_commands.specs.pisa_isa.declared.machine.Stop.TheVariants.{Finished, Trap, Returned, BadAddress, OffCode, Bound}
+use Rattle.program_commands.specs.pisa_isa.Image.{Segments, IsImage}
+use Rattle.program_commands.specs.pisa_isa.Loaded.{loaded}
+use Rattle.program_commands.specs.pisa_isa.Runs.{End, run, zero_registers}
+use Rattle.program_commands.specs.pisa_machine.Position.{Position, IsMachine, first_position}
+use Rattle.program_commands.specs.pisa_loader.declared.input.InputField.{InputField}
+use Rattle.program_commands.specs.roopl_semantics.Store.{main_name, object_at}
+use Rattle.program_commands.specs.roopl_semantics.Source.{GivesFault, IsValid}
+use Rattle.program_commands.specs.roopl_semantics.Layout.{layout}
+use Rattle.program_commands.specs.roopl_semantics.StandsFor.{StandsFor, EndsAt}
+use Rattle.refine_wrap.specs.bennett_wrap.Wrapped.{Wrapped, begun_on, with_zeros}
 use Rattle.refine_wrap.specs.Programs.{EndsAsSource, EndsDone, IsStatic, field_cell, enough_wrapped, wrapped_run}
 use Rattle.refine_wrap.proofs.IntFields.{int_fields}
 use Rattle.refine_wrap.proofs.Told.{wrapped_programs_follow}
 use Rattle.program_commands.proofs.ValidInput.{field_fits}
-use Rattle.command_plan.specs.declared.plan.Verdict.TheVariants.{Done}
-use Rattle.command_plan.specs.Plans.{Planned, prints}
-use Rattle.command_plan.specs.Texts.{steps_line}
+use Rattle.program_commands.specs.command_plan.declared.plan.Verdict.TheVariants.{Done}
+use Rattle.program_commands.specs.command_plan.Plans.{Planned, prints}
+use Rattle.program_commands.specs.command_plan.Texts.{steps_line}
 use Rattle.wrap_commands.specs.WrapNames.{HasLowNumber, result_cells}
 use Rattle.wrap_commands.specs.WrapShown.{result_lines, word_lines, initial_line}
 use Rattle.wrap_commands.specs.WrapPlans.{AreResults, TellsResults, TellsStop, TellsEnd, WrapsImage}
@@ -59,7 +59,7 @@ front_words [] ys all = All-nil IsWord
 front_words (x ∷ xs) ys all = All-cons IsWord x xs (All-head IsWord x (xs ++ ys) all)
     (front_words xs ys (All-tail IsWord x (xs ++ ys) all))
 
--- a machine that begins so, and runs, stands where the wrapped run ended
+-- a machine that begins so, and runs, is where the wrapped run ended
 pub has_wrapped : (program : Source) (fields : List InputField) (limits : Limits) (input : List FieldWord) (bound : ℕ)
     (image wrapped : Segments) (cells : List ℕ) (count : ℕ) (first end : Position) (why : Stop) (spent : ℕ)
     → IsAccepted program → IsLimits limits → IsValid program input → IsImage image → StandsFor program image
@@ -104,7 +104,7 @@ has_wrapped program fields limits input bound image wrapped cells count first en
           ∙ ap (run wrapped.code bound) (sym at_start) ∙ ap (λ c. run c bound first.state) (sym code) ∙ runs;
     }
 
--- ---- behind the run
+-- ---- after the run
 
 module _ (program : Source) (fields : List InputField) (limits : Limits) (input : List FieldWord) (bound : ℕ)
     (image : Segments) (end : Position) (spent : ℕ) where
@@ -154,7 +154,7 @@ module _ (program : Source) (fields : List InputField) (limits : Limits) (input 
       (length-map (result_cells fields) (Rattle.std.specs.Prelude.slice_index lay)
       ∙ length-map fields (λ field. field_cell field.field))
 
-  -- a plan that prints the lines of the words behind the first memory tells the results of the
+  -- a plan that prints the lines of the words after the first memory reports the results of the
   -- source's store
   pub tells_results : HasWrapped program fields limits input bound image end Finished spent
       → (initial : ℕ) (lines : List ℕ) (p : Planned)

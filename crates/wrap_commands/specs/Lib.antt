@@ -1,3 +1,4 @@
+pub use Rattle.program_commands.specs as program_commands
 pub mod WrapNames
 pub mod WrapShown
 pub mod WrapPlans

@@ -1,33 +1,33 @@
--- The plan of `wrap`. Of the machine steps that it makes, `count` is their counter as it is handed
--- in, and `counted` as it is left.
+-- The plan of `wrap`. Its machine steps are counted: `count` is their counter as it is passed, and
+-- `counted` as it is left.
 use Rattle.std.specs.Prelude.{◌≡◌, ℕ, ◌+◌, ◌<◌, ◌≤◌, List, ◌++◌, All, length, slice_get, None, Some}
 use Rattle.std.specs.Prelude.{Result, Ok, Err, IsTrue}
 use Rattle.std.specs.declared.option.Option.{Option}
-use Rattle.rpp_words.specs.declared.input.FieldWord.{FieldWord}
-use Rattle.rpp_words.specs.declared.input.Limits.{Limits}
-use Rattle.rpp_words.specs.declared.input.TheConstants.{MOST_DEEP}
-use Rattle.rpp_tree.specs.declared.limits.TheConstants.{MOST_BYTES}
-use Rattle.rpp_tree.specs.Tree.{Source}
-use Rattle.rpp_ports.specs.Ports.{Texts}
-use Rattle.class_table.specs.Refusal.{Refusal}
-use Rattle.pisa_isa.specs.declared.machine.Stop.{Stop}
-use Rattle.pisa_isa.specs.declared.machine.Stop.TheVariants.{Finished, Trap, Bound as AtBound}
-use Rattle.pisa_isa.specs.Image.{Segments, IsImage}
-use Rattle.pisa_isa.specs.Loaded.{loaded}
-use Rattle.pisa_isa.specs.Machine.{State as MachineState}
-use Rattle.pisa_isa.specs.Runs.{End}
-use Rattle.pisa_loader.specs.Limiting.{limits_refusal}
-use Rattle.pisa_loader.specs.declared.error.LoadError.{LoadError}
-use Rattle.pisa_loader.specs.declared.input.InputField.{InputField}
-use Rattle.roopl_semantics.specs.Store.{main_name, object_at}
-use Rattle.roopl_semantics.specs.Source.{main_fields, is_int_field}
-use Rattle.roopl_semantics.specs.StandsFor.{StandsFor, EndsAt}
-use Rattle.bennett_wrap.specs.Wrapped.{Wrapped}
+use Rattle.program_commands.specs.rpp_words.declared.input.FieldWord.{FieldWord}
+use Rattle.program_commands.specs.rpp_words.declared.input.Limits.{Limits}
+use Rattle.program_commands.specs.rpp_words.declared.input.TheConstants.{MOST_DEEP}
+use Rattle.program_commands.specs.rpp_tree.declared.limits.TheConstants.{MOST_BYTES}
+use Rattle.program_commands.specs.rpp_tree.Tree.{Source}
+use Rattle.program_commands.specs.rpp_ports.Ports.{Texts}
+use Rattle.program_commands.specs.class_table.Refusal.{Refusal}
+use Rattle.program_commands.specs.pisa_isa.declared.machine.Stop.{Stop}
+use Rattle.program_commands.specs.pisa_isa.declared.machine.Stop.TheVariants.{Finished, Trap, Bound as AtBound}
+use Rattle.program_commands.specs.pisa_isa.Image.{Segments, IsImage}
+use Rattle.program_commands.specs.pisa_isa.Loaded.{loaded}
+use Rattle.program_commands.specs.pisa_isa.Machine.{State as MachineState}
+use Rattle.program_commands.specs.pisa_isa.Runs.{End}
+use Rattle.program_commands.specs.pisa_loader.Limiting.{limits_refusal}
+use Rattle.program_commands.specs.pisa_loader.declared.error.LoadError.{LoadError}
+use Rattle.program_commands.specs.pisa_loader.declared.input.InputField.{InputField}
+use Rattle.program_commands.specs.roopl_semantics.Store.{main_name, object_at}
+use Rattle.program_commands.specs.roopl_semantics.Source.{main_fields, is_int_field}
+use Rattle.program_commands.specs.roopl_semantics.StandsFor.{StandsFor, EndsAt}
+use Rattle.refine_wrap.specs.bennett_wrap.Wrapped.{Wrapped}
 use Rattle.refine_wrap.specs.Programs.{EndsDone, wrapped_run, enough_wrapped}
-use Rattle.roopl_judge.specs.Judged.{IsJudged}
-use Rattle.command_plan.specs.declared.plan.Verdict.TheVariants.{Done, Bound, InputRefused}
-use Rattle.command_plan.specs.Plans.{Planned, prints, WithText, WithInput}
-use Rattle.command_plan.specs.Texts.{load_line, steps_line, bound_lines}
+use Rattle.program_commands.specs.roopl_judge.Judged.{IsJudged}
+use Rattle.program_commands.specs.command_plan.declared.plan.Verdict.TheVariants.{Done, Bound, InputRefused}
+use Rattle.program_commands.specs.command_plan.Plans.{Planned, prints, WithText, WithInput}
+use Rattle.program_commands.specs.command_plan.Texts.{load_line, steps_line, bound_lines}
 use Rattle.program_commands.specs.Inputs.{input_fields, given_input}
 use Rattle.program_commands.specs.ProgramPlans.{OfProgram, ReportsFault}
 use Rattle.wrap_commands.specs.declared.error.NamesError.{NamesError}
@@ -43,8 +43,8 @@ pub record AreResults (program : Source) (fields : List InputField) : Type 0 whe
   pub names : All HasAsciiName fields
   pub few : length fields ≤ 64
 
--- The source gives a store, and the plan tells the named fields of it. The final memory is the
--- loaded one with the results alone added.
+-- The semantics gives a store, and the plan reports its named fields. The final memory is the
+-- loaded one, and only the results are added.
 pub record TellsResults (program : Source) (image : Segments) (fields : List InputField)
     (limits : Limits) (input : List FieldWord) (last : MachineState) (spent : ℕ)
     (p : Planned) : Type 0 where
@@ -75,9 +75,9 @@ abbrev pub TellsEnd : End → Source → Segments → List InputField → Limits
 TellsEnd end program image fields limits input steps p =
     TellsStop end.why program image fields limits input end.last end.spent steps p
 
--- There is an image that stands for the program, and one that is it wrapped for the cells of these
--- fields, and the plan tells how the run of that ended, of at most so many steps from the loaded
--- memory with zeros behind it. No other steps are made.
+-- There is an image that implements the program, and one that is it wrapped for the cells of these
+-- fields. The plan reports how the run of the wrapped one ended, of at most so many steps from the
+-- loaded memory followed by zeros. No other steps are made.
 pub record WrapsImage (count counted : ℕ) (program : Source) (fields : List InputField)
     (limits : Limits) (input : List FieldWord) (steps : ℕ) (p : Planned) : Type 0 where
   pub image : Segments
@@ -91,7 +91,7 @@ pub record WrapsImage (count counted : ℕ) (program : Source) (fields : List In
   pub once : counted
       ≡ count + (wrapped_run image (result_cells fields) wrapped.code limits input steps).spent
 
--- the input is judged, and then the run is made on it
+-- the input is checked, and then the run is made on it
 abbrev pub IsGivenPlan : (count counted : ℕ) → Result (List FieldWord) LoadError → Source
     → List InputField → Limits → ℕ → Planned → Type 0
 IsGivenPlan count counted (Err e) program fields limits steps p =
@@ -99,7 +99,7 @@ IsGivenPlan count counted (Err e) program fields limits steps p =
 IsGivenPlan count counted (Ok input) program fields limits steps p =
     WrapsImage count counted program fields limits input steps p
 
--- the names are judged before the input
+-- the names are checked before the input
 abbrev pub IsNamedPlan : (count counted : ℕ) → Result (List InputField) NamesError
     → (given : List ℕ) → Source → Limits → ℕ → Planned → Type 0
 IsNamedPlan count counted (Err (UnknownResult at)) given program limits steps p =
@@ -116,13 +116,14 @@ IsSizedPlan count counted (Some e) names given program limits steps p =
 IsSizedPlan count counted None names given program limits steps p =
     IsNamedPlan count counted (results_of (input_fields program) names) given program limits steps p
 
--- the first refusal of a text is told and no step is made, or P holds of the program that it is
+-- the first refusal of a text is reported and no step is made, or P holds for the program that it
+-- is
 abbrev pub OfRunProgram : (count counted : ℕ) → (P : Source → Planned → Type 0)
     → Result Source Refusal → Planned → Type 0
 OfRunProgram count counted P (Err refusal) p = OfProgram P (Err refusal) p × (counted ≡ count)
 OfRunProgram count counted P (Ok program) p = P program p
 
--- the text is judged, and the plan is that of the judgement
+-- the text is checked, and the plan is that of the result
 pub record IsWrapPlan (count counted : ℕ) (text names given : List ℕ) (heap deep steps : ℕ)
     (p : Planned) : Type 0 where
   pub judgement : Result Source Refusal
@@ -131,7 +132,7 @@ pub record IsWrapPlan (count counted : ℕ) (text names given : List ℕ) (heap 
       (λ program. IsSizedPlan count counted (limits_refusal heap deep MOST_DEEP) names given
       program (record { heap = heap; deep = deep }) steps) judgement p
 
--- the plan of `wrap` of this file for these names, on an input where there is one
+-- the plan of `wrap` of this file for these names, on an input if there is one
 abbrev pub WrapsFile : (count counted : ℕ) → (file names : List ℕ) → (input : Option (List ℕ))
     → (heap deep steps : ℕ) → Option Texts → Planned → Type 0
 WrapsFile count counted file names input heap deep steps told p =

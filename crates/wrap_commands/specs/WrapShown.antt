@@ -3,11 +3,11 @@ use Rattle.std.specs.Prelude.{ℕ, suc, List, [], ◌∷◌, ◌++◌, codes, sl
 use Rattle.std.specs.Fmt.{decimal}
 use Rattle.std.specs.Option.{unwrap_or}
 use Rattle.std.specs.Str.{IsAscii}
-use Rattle.rpp_words.specs.Texts.{line_end}
-use Rattle.pisa_loader.specs.declared.input.InputField.{InputField}
-use Rattle.roopl_semantics.specs.Store.{Value, Nil}
-use Rattle.roopl_semantics.specs.Report.{signed_decimal, value_shown}
-use Rattle.pisa_isa.specs.Machine.{word_at}
+use Rattle.program_commands.specs.rpp_words.Texts.{line_end}
+use Rattle.program_commands.specs.pisa_loader.declared.input.InputField.{InputField}
+use Rattle.program_commands.specs.roopl_semantics.Store.{Value, Nil}
+use Rattle.program_commands.specs.roopl_semantics.Report.{signed_decimal, value_shown}
+use Rattle.program_commands.specs.pisa_isa.Machine.{word_at}
 
 -- a name that can be printed byte by byte
 abbrev pub HasAsciiName : InputField → Type 0
@@ -34,6 +34,6 @@ word_lines (field ∷ fields) cells at =
 abbrev pub initial_line : ℕ → List ℕ
 initial_line count = codes "initial " ++ (decimal count ++ (codes " cells" ++ line_end))
 
--- what is printed where the name with this number is refused
+-- what is printed if the name with this number is refused
 abbrev pub unknown_result_line : (at : ℕ) → List ℕ
 unknown_result_line at = codes "refused 44 UnknownResult at " ++ (decimal at ++ line_end)

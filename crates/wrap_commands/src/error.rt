@@ -11,7 +11,7 @@ pub(crate) enum NamesError {
     /// No int field of the main class has the name, or an earlier name is the same.
     #[error("unknown result {at}")]
     UnknownResult { at: usize },
-    /// Want of memory.
+    /// Memory ran out.
     #[error("no memory")]
     NoMemory,
 }

@@ -1,5 +1,6 @@
-//! The command `wrap`: a program is run, named int fields of its main object are copied behind its
-//! memory, and it is run back. It reads its files and makes a plan; the top call carries it out.
+//! The command `wrap`: a program is run, its results are copied, and it is run backward. The
+//! results are named int fields of its main object, which are copied after its memory. It reads its
+//! files and makes a plan; the top call carries it out.
 #![tactic(auto)]
 
 mod error;

@@ -1,6 +1,6 @@
 // The names of results.
 ghost use Rattle.std.specs.Prelude.{◌≡◌, ◌++◌, ◌∷◌, [], IfOk, MatchOption, Some, None};
-ghost use Rattle.pisa_loader.specs.InputLines.{is_field};
+ghost use Rattle.program_commands.specs.pisa_loader.InputLines.{is_field};
 ghost use Rattle.wrap_commands.specs.WrapNames.{field_of_name, with_result, results_of, Gives};
 
 use crate::error::NamesError;
@@ -26,7 +26,7 @@ pub(crate) fn read_names(
     Ok(results)
 }
 
-// The field of the name behind those of these results.
+// The field of the name after those of these results.
 fn next_result(
     alloc: Global,
     fields: &[InputField],

@@ -1,12 +1,12 @@
-// `wrap F H D STEPS NAMES [INPUT]`: judges the words and the texts that they name.
+// `wrap F H D STEPS NAMES [INPUT]`: checks the arguments and the texts that they name.
 ghost use Rattle.std.specs.Prelude.{◌≡◌, ◌≤◌, ◌<◌, ◌+◌, ◌^◌, ◌∷◌, length, option_map, IfOk, IfErr, string_bytes};
-ghost use Rattle.rpp_tree.specs.Views.{source_of};
-ghost use Rattle.rpp_tree.specs.declared.limits.TheConstants.{MOST_BYTES};
-ghost use Rattle.rpp_words.specs.Limits.{IsLimits};
-ghost use Rattle.pisa_loader.specs.Limiting.{limits_refusal};
-ghost use Rattle.pisa_loader.specs.declared.input.TheConstants.{MOST_INPUT};
-ghost use Rattle.command_plan.specs.Files.{OnlyReads, UnreadCause, source, input_files};
-ghost use Rattle.command_plan.specs.Plans.{planned, GivesPlan};
+ghost use Rattle.program_commands.specs.rpp_tree.Views.{source_of};
+ghost use Rattle.program_commands.specs.rpp_tree.declared.limits.TheConstants.{MOST_BYTES};
+ghost use Rattle.program_commands.specs.rpp_words.Limits.{IsLimits};
+ghost use Rattle.program_commands.specs.pisa_loader.Limiting.{limits_refusal};
+ghost use Rattle.program_commands.specs.pisa_loader.declared.input.TheConstants.{MOST_INPUT};
+ghost use Rattle.program_commands.specs.command_plan.Files.{OnlyReads, UnreadCause, source, input_files};
+ghost use Rattle.program_commands.specs.command_plan.Plans.{planned, GivesPlan};
 ghost use Rattle.program_commands.specs.Inputs.{input_fields as fields_of, given_input};
 ghost use Rattle.wrap_commands.specs.WrapNames.{results_of};
 ghost use Rattle.wrap_commands.specs.WrapPlans.{AreResults, IsGivenPlan, IsNamedPlan, IsSizedPlan, IsWrapPlan, WrapsFile};
@@ -36,8 +36,8 @@ struct Request {
 }
 
 /// Compiles a file, wraps the image for the fields with these names, which commas join, runs it on
-/// an input where there is one, and tells the results. It makes the steps of that run and no
-/// others, and none where a file cannot be read.
+/// an input if there is one, and reports the results. It makes the steps of that run and no others,
+/// and none if a file cannot be read.
 pub fn wrap<S: Shelf, L: Ledger>(
     alloc: Global,
     shelf: &mut S,
@@ -111,7 +111,7 @@ fn wrap_sized<L: Ledger>(
     }
 }
 
-// The names are judged before the input.
+// The names are checked before the input.
 fn wrap_named<L: Ledger>(
     alloc: Global,
     checked: &Checked,
@@ -137,7 +137,7 @@ fn wrap_named<L: Ledger>(
     }
 }
 
-// The input is judged, and then the run is made on it.
+// The input is checked, and then the run is made on it.
 fn wrap_given<L: Ledger>(
     alloc: Global,
     checked: &Checked,

@@ -1,11 +1,11 @@
 // The run of a wrapped image, and its plan.
 ghost use Rattle.std.specs.Prelude.{◌≡◌, ◌<◌, ◌≤◌, ◌+◌, ◌^◌, All, IfOk};
-ghost use Rattle.rpp_tree.specs.Views.{source_of};
-ghost use Rattle.rpp_words.specs.Limits.{IsLimits};
-ghost use Rattle.class_table.specs.Program.{IsAccepted};
-ghost use Rattle.roopl_semantics.specs.Source.{IsValid};
+ghost use Rattle.program_commands.specs.rpp_tree.Views.{source_of};
+ghost use Rattle.program_commands.specs.rpp_words.Limits.{IsLimits};
+ghost use Rattle.program_commands.specs.class_table.Program.{IsAccepted};
+ghost use Rattle.program_commands.specs.roopl_semantics.Source.{IsValid};
 ghost use Rattle.refine_wrap.specs.Programs.{field_cell as cell_of_field};
-ghost use Rattle.command_plan.specs.Plans.{planned};
+ghost use Rattle.program_commands.specs.command_plan.Plans.{planned};
 ghost use Rattle.wrap_commands.specs.WrapNames.{HasLowNumber, result_cells};
 ghost use Rattle.wrap_commands.specs.WrapPlans.{AreResults, TellsResults, TellsStop, WrapsImage};
 ghost use Rattle.wrap_commands.specs.WrapRun.{HasWrapped};
@@ -34,7 +34,7 @@ pub(crate) struct WrapSetting {
 }
 
 /// Compiles a program, wraps its image, loads that with an input and with cells for the results,
-/// runs it and tells how it ended.
+/// runs it and reports how it ended.
 pub(crate) fn run_wrapped<L: Ledger>(
     alloc: Global,
     checked: &Checked,

@@ -1,8 +1,8 @@
 // What `wrap` prints.
 ghost use Rattle.std.specs.Prelude.{◌≡◌, ◌≤◌, ◌+◌, ◌++◌, ◌^◌, ◌<◌, All, length, string_bytes, IfOk, OnOk};
 ghost use Rattle.std.specs.Str.{IsAscii};
-ghost use Rattle.roopl_semantics.specs.Report.{signed_decimal};
-ghost use Rattle.command_plan.specs.Plans.{planned, prints};
+ghost use Rattle.program_commands.specs.roopl_semantics.Report.{signed_decimal};
+ghost use Rattle.program_commands.specs.command_plan.Plans.{planned, prints};
 ghost use Rattle.wrap_commands.specs.WrapShown.{HasAsciiName, result_line, word_lines, initial_line, unknown_result_line};
 
 use command_plan::{Plan, Verdict};
@@ -10,7 +10,7 @@ use pisa_loader::InputField;
 use pisa_machine::{Machine, word_at};
 use std::alloc::{AllocError, Global};
 
-/// Adds the lines of results whose words stand in a memory from an address on.
+/// Adds the lines of results whose words are in a memory from an address on.
 pub(crate) fn add_results(
     out: &mut String,
     machine: &Machine,
@@ -66,7 +66,7 @@ fn add_name(out: &mut String, bytes: &[u8]) -> Result<(), AllocError>
     Ok(())
 }
 
-/// A text with the line on the number of the program's cells behind it.
+/// A text followed by the line on the number of the program's cells.
 pub(crate) fn with_initial(text: String, count: u32) -> Result<String, AllocError>
     ensures { IfOk result (λ longer.
         string_bytes longer ≡ string_bytes text ++ initial_line count) }

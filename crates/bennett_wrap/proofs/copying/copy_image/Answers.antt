@@ -1,6 +1,6 @@
 use Rattle.std.proofs.Common.{◌≡◌, ◌∙◌, ◌≤◌, ◌++◌, ◌∷◌, [], ap, subst, sym}
-use Rattle.pisa_isa.specs.declared.image.TheConstants.{MOST_CELLS}
-use Rattle.pisa_isa.specs.Image.{Segments}
+use Rattle.image_inverter.specs.pisa_isa.declared.image.TheConstants.{MOST_CELLS}
+use Rattle.image_inverter.specs.pisa_isa.Image.{Segments}
 use Rattle.paired_code.specs.Cells.{start, finish}
 use Rattle.paired_code.specs.Code.{Code, bodies}
 use Rattle.paired_code.specs.Link.{link_size, link_code}

@@ -1,5 +1,5 @@
 use Rattle.std.proofs.Common.{◌∙◌, ap, arith, length, subst, sym}
-use Rattle.pisa_isa.specs.Image.{Segments}
+use Rattle.image_inverter.specs.pisa_isa.Image.{Segments}
 use Rattle.bennett_wrap.specs.Wrapped.{Wrapped}
 use Rattle.bennett_wrap.proofs.Written.{small_all, in_range, accepted, not_refused, size_is, wraps_all, words_of}
 use Rattle.bennett_wrap.proofs.wrapping.wrap_image.Goals as goal

@@ -1,7 +1,7 @@
 use Rattle.std.proofs.Common.{◌≤◌, length, sym, ap, ◌∙◌, subst}
 use Rattle.rpp_tree.specs.Tree.{Call}
 use Rattle.rpp_tree.specs.Views.{source_of, expression_of, lvalue_of, optional_lvalue_of, statement_of}
-use Rattle.class_table.specs.Program.{IsAccepted}
+use Rattle.refine_objects.specs.class_table.Program.{IsAccepted}
 use Rattle.std.specs.Prelude.{IfOk}
 use Rattle.block_codegen.specs.Pieces.{StatementStands, InnerPiece}
 use Rattle.rpp_tree.proofs.Statements.{statement_update, statement_swap, statement_call}

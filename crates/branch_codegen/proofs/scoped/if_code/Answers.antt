@@ -1,5 +1,5 @@
 use Rattle.rpp_tree.specs.Views.{expression_of}
-use Rattle.code_scope.specs.Visible.{known_in}
+use Rattle.refine_expressions.specs.code_scope.Visible.{known_in}
 use Rattle.branch_codegen.proofs.InScope.{if_returns}
 use Rattle.branch_codegen.proofs.scoped.if_code.Goals as goal
 

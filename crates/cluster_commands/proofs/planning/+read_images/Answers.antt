@@ -1,7 +1,7 @@
 use Rattle.std.proofs.Common.{◌≡◌, ◌∙◌, ap, sym, subst, map, ◌∷◌, []}
 use Rattle.std.specs.Prelude.{string_bytes}
 use Rattle.std.proofs.lemmas.List.{map-append}
-use Rattle.rpp_ports.specs.Ports.{IsTextOf}
+use Rattle.command_plan.specs.rpp_ports.Ports.{IsTextOf}
 use Rattle.command_plan.specs.Files.{OnlyReads, image_file}
 use Rattle.command_plan.proofs.TwoReads.{then_reads}
 use Rattle.cluster_commands.proofs.TextsOn.{text_on}

@@ -1,7 +1,7 @@
 use Rattle.std.proofs.Common.{◌≡◌, ◌∙◌, sym, ap, subst, List, [], ◌∷◌, ℕ, ◌+◌, map, drop, length, Vec, Global}
 use Rattle.std.proofs.lemmas.List.{length-append}
-use Rattle.pisa_isa.specs.Image.{Segments}
-use Rattle.pisa_image.specs.Reading.{image_at}
+use Rattle.pisa_cluster.specs.pisa_isa.Image.{Segments}
+use Rattle.command_plan.specs.pisa_image.Reading.{image_at}
 use Rattle.cluster_commands.specs.ClusterPlans.{images_at}
 use Rattle.cluster_commands.proofs.ImagesOn.{with_front, image_read}
 use Rattle.cluster_commands.proofs.planning.judge_images.Goals as goal

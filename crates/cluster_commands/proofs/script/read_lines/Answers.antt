@@ -1,7 +1,7 @@
 use Rattle.std.proofs.Common.{◌≡◌, ◌∙◌, ◌≤◌, ◌+◌, sym, ap, [], map, length, get_or, Bor, List, ℕ, arith}
 use Rattle.std.proofs.lemmas.Result.{err_from_is_err_and}
 use Rattle.cluster_commands.specs.ClusterScripts.{with_line, events_from}
-use Rattle.pisa_scripts.specs.Lines.{pieces}
+use Rattle.command_plan.specs.pisa_scripts.Lines.{pieces}
 use Rattle.cluster_commands.proofs.Reading.{fails_with, goes_on, stops, is_done, few_lines}
 use Rattle.cluster_commands.proofs.script.read_lines.Goals as goal
 

@@ -1,6 +1,6 @@
 use Rattle.std.proofs.Common.{sym, subst, rules, ◌≤◌, length, List}
-use Rattle.rpp_tree.specs.declared.tree.Var.{Var}
-use Rattle.rpp_tree.specs.Views.{source_of}
+use Rattle.refine_form.specs.rpp_tree.declared.tree.Var.{Var}
+use Rattle.refine_form.specs.rpp_tree.Views.{source_of}
 use Rattle.code_scope.proofs.Parameters.{parameters_few}
 use Rattle.code_scope.proofs.scope.params_of.Goals as goal
 

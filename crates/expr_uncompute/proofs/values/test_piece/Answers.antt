@@ -1,8 +1,8 @@
 use Rattle.std.proofs.Common.{rules}
 use Rattle.rpp_tree.specs.Views.{expression_of}
-use Rattle.paired_code.specs.Code.{unmarked}
-use Rattle.paired_code.proofs.Contract.{if_ok_law}
-use Rattle.code_scope.specs.Visible.{spot_of, free_of, known_by}
+use Rattle.register_expressions.specs.paired_code.Code.{unmarked}
+use Rattle.register_expressions.proofs.paired_code_laws.Contract.{if_ok_law}
+use Rattle.register_expressions.specs.code_scope.Visible.{spot_of, free_of, known_by}
 use Rattle.expr_uncompute.specs.Code.{test_cells}
 use Rattle.expr_uncompute.specs.Promises.{TestLaw}
 use Rattle.std.specs.Prelude.{◌≤◌, ◌*◌, length}

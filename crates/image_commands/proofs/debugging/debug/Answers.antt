@@ -1,6 +1,6 @@
 use Rattle.std.proofs.Common.{List, ℕ, inl, inr, ⊎_elim}
-use Rattle.pisa_image.specs.Reading.{image_at}
-use Rattle.pisa_scripts.specs.declared.lines.TheConstants.{MOST_SCRIPT}
+use Rattle.command_plan.specs.pisa_image.Reading.{image_at}
+use Rattle.command_plan.specs.pisa_scripts.declared.lines.TheConstants.{MOST_SCRIPT}
 use Rattle.command_plan.specs.declared.reading.TheConstants.{MOST_IMAGE}
 use Rattle.command_plan.specs.Plans.{planned, WithText}
 use Rattle.command_plan.proofs.GivenTexts.{with_text}

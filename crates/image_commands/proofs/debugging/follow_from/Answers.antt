@@ -1,5 +1,5 @@
 use Rattle.std.proofs.Common.{◌∙◌, ◌+◌, ap, take}
-use Rattle.pisa_machine.specs.Position.{Position}
+use Rattle.two_way_debugger.specs.pisa_machine.Position.{Position}
 use Rattle.two_way_debugger.specs.Shown.{spent_in}
 use Rattle.image_commands.specs.DebugPlans.{MovesSome}
 use Rattle.image_commands.proofs.Short.{err_always}

@@ -1,8 +1,8 @@
 use Rattle.command_plan.specs.Plans.{planned}
-use Rattle.pisa_asm.specs.declared.assembler.TheConstants.{MOST_TEXT}
+use Rattle.command_plan.specs.pisa_asm.declared.assembler.TheConstants.{MOST_TEXT}
 use Rattle.command_plan.proofs.GivenTexts.{with_text}
 use Rattle.image_commands.specs.ImagePlans.{IsAsmPlan}
-use Rattle.pisa_asm.specs.Passes.{noted_of_text}
+use Rattle.command_plan.specs.pisa_asm.Passes.{noted_of_text}
 use Rattle.image_commands.proofs.images.asm.Goals as goal
 
 pub returns-clause-plan : goal.returns-clause-plan

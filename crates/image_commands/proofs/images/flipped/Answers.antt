@@ -1,9 +1,9 @@
 use Rattle.std.proofs.Common.{◌≡◌, ◌∙◌, sym, ap, subst₂, true, List, length}
-use Rattle.pisa_isa.specs.declared.cell.Cell.{Cell}
-use Rattle.pisa_isa.specs.Image.{Segments}
-use Rattle.pisa_isa.specs.Flipped.{flipped_image}
-use Rattle.pisa_isa.specs.Notes.{NoteLists, fits, turned_notes}
-use Rattle.pisa_isa.proofs.Noting.{fits-flipped}
+use Rattle.image_inverter.specs.pisa_isa.declared.cell.Cell.{Cell}
+use Rattle.image_inverter.specs.pisa_isa.Image.{Segments}
+use Rattle.image_inverter.specs.pisa_isa.Flipped.{flipped_image}
+use Rattle.image_inverter.specs.pisa_isa.Notes.{NoteLists, fits, turned_notes}
+use Rattle.image_inverter.proofs.pisa_isa_laws.Noting.{fits-flipped}
 use Rattle.image_commands.proofs.images.flipped.Goals as goal
 
 pub seal-requires : goal.seal-requires

@@ -2,7 +2,7 @@ use Rattle.command_plan.specs.Plans.{planned}
 use Rattle.command_plan.specs.declared.reading.TheConstants.{MOST_IMAGE}
 use Rattle.command_plan.proofs.GivenTexts.{with_text}
 use Rattle.image_commands.specs.ImagePlans.{IsListPlan}
-use Rattle.pisa_image.specs.Reading.{image_at}
+use Rattle.command_plan.specs.pisa_image.Reading.{image_at}
 use Rattle.image_commands.proofs.images.list.Goals as goal
 
 pub returns-clause-plan : goal.returns-clause-plan

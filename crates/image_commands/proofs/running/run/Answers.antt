@@ -1,6 +1,6 @@
 use Rattle.std.proofs.Common.{option_map, List, ℕ}
 use Rattle.std.specs.declared.option.Option.{Option}
-use Rattle.pisa_image.specs.Reading.{image_at}
+use Rattle.command_plan.specs.pisa_image.Reading.{image_at}
 use Rattle.command_plan.specs.declared.reading.TheConstants.{MOST_IMAGE}
 use Rattle.command_plan.specs.Files.{state_of_names, save_of_names}
 use Rattle.command_plan.specs.Plans.{planned, WithState}

@@ -1,7 +1,7 @@
 use Rattle.std.proofs.Common.{sym, subst}
 use Rattle.std.specs.List.{All}
-use Rattle.pisa_isa.specs.Notes.{NoteLists, HasAsciiText}
-use Rattle.pisa_isa.proofs.NoteNames.{ascii_names}
+use Rattle.image_inverter.specs.pisa_isa.Notes.{NoteLists, HasAsciiText}
+use Rattle.image_inverter.proofs.pisa_isa_laws.NoteNames.{ascii_names}
 use Rattle.image_commands.proofs.running.run_from.Goals as goal
 
 pub run_machine-requires-clause-names : goal.run_machine-requires-clause-names

@@ -1,7 +1,7 @@
 use Rattle.std.specs.Prelude.{◌+◌, ◌*◌}
 use Rattle.rpp_tree.specs.Views.{expression_of, lvalue_of}
-use Rattle.code_scope.specs.Visible.{spot_of, free_of, known_in}
-use Rattle.register_expressions.specs.Steps.{tokens}
+use Rattle.expr_uncompute.specs.code_scope.Visible.{spot_of, free_of, known_in}
+use Rattle.expr_uncompute.specs.register_expressions.Steps.{tokens}
 use Rattle.expr_uncompute.specs.Steps.{place_tokens}
 use Rattle.object_codegen.specs.declared.shape.Shape.TheVariants.{Lengthy}
 use Rattle.object_codegen.specs.Code.{order_cells, new_mid}

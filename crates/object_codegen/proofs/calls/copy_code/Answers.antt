@@ -1,6 +1,6 @@
 use Rattle.std.specs.Prelude.{◌+◌, ◌*◌}
 use Rattle.rpp_tree.specs.Views.{lvalue_of}
-use Rattle.code_scope.specs.Visible.{spot_of, free_of, known_in}
+use Rattle.expr_uncompute.specs.code_scope.Visible.{spot_of, free_of, known_in}
 use Rattle.expr_uncompute.specs.Steps.{place_tokens}
 use Rattle.object_codegen.specs.Code.{copy_mid}
 use Rattle.object_codegen.proofs.Bounds.{copy_cells_are}

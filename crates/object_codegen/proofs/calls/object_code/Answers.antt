@@ -1,8 +1,8 @@
 use Rattle.std.proofs.Common.{[], ◌∷◌, arith}
 use Rattle.std.specs.Prelude.{◌+◌, ◌*◌}
 use Rattle.rpp_tree.specs.Views.{lvalue_of}
-use Rattle.code_scope.specs.Visible.{spot_of, free_of, known_in}
-use Rattle.register_expressions.specs.Code.{xori}
+use Rattle.expr_uncompute.specs.code_scope.Visible.{spot_of, free_of, known_in}
+use Rattle.expr_uncompute.specs.register_expressions.Code.{xori}
 use Rattle.expr_uncompute.specs.Steps.{place_tokens}
 use Rattle.object_codegen.specs.declared.shape.Shape.TheVariants.{Fixed}
 use Rattle.object_codegen.specs.Code.{order, new_mid}

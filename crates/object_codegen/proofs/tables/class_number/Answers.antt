@@ -1,6 +1,6 @@
 use Rattle.std.proofs.Common.{arith}
 use Rattle.rpp_tree.specs.Views.{source_of}
-use Rattle.roopl_semantics.proofs.MainPlace.{class_inside}
+use Rattle.static_layout.proofs.roopl_semantics_laws.MainPlace.{class_inside}
 use Rattle.object_codegen.proofs.tables.class_number.Goals as goal
 
 pub returns-in-None-clause-inside : goal.returns-in-None-clause-inside

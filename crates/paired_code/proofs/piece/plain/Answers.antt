@@ -6,7 +6,7 @@ use Rattle.paired_code.specs.Code.{Code}
 use Rattle.paired_code.proofs.Small.{runs_single}
 use Rattle.paired_code.specs.Fit.{AllFit}
 use Rattle.paired_code.proofs.Fits.{inner_single}
-use Rattle.pisa_isa.proofs.Ranges.{imm_word}
+use Rattle.code_conventions.proofs.pisa_isa_laws.Ranges.{imm_word}
 use Rattle.paired_code.proofs.piece.plain.Goals as goal
 
 pub sealed-requires-clause-fit : goal.sealed-requires-clause-fit

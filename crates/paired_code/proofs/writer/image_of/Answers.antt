@@ -1,6 +1,6 @@
 use Rattle.std.proofs.Common.{◌≡◌, ◌+◌, length, ap, subst, sym, refl, arith, ◌∙◌}
 use Rattle.std.proofs.lemmas.List.{length-map}
-use Rattle.pisa_isa.specs.Image.{Segments}
+use Rattle.code_conventions.specs.pisa_isa.Image.{Segments}
 use Rattle.paired_code.specs.Link.{link_code, routines_size}
 use Rattle.paired_code.specs.Fit.{EachFit}
 use Rattle.paired_code.specs.Code.{bodies}

@@ -1,6 +1,6 @@
 use Rattle.std.proofs.Common.{List, subst, sym}
 use Rattle.std.specs.List.Sorted.{IsPermutation}
-use Rattle.pisa_isa.specs.Notes.{NotedImage}
+use Rattle.code_conventions.specs.pisa_isa.Notes.{NotedImage}
 use Rattle.paired_code.specs.Code.{Code, link_marks, EachWithin}
 use Rattle.paired_code.proofs.Shifted.{linked_fits}
 use Rattle.paired_code.proofs.writer.link.Goals as goal

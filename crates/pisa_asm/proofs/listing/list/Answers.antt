@@ -1,7 +1,7 @@
 use Rattle.std.proofs.Common.{◌≡◌, ◌≤◌, ◌∙◌, ap, subst, sym, ℕ, List, length, rules}
 use Rattle.std.specs.Prelude.{string_bytes}
 use Rattle.std.specs.List.{All}
-use Rattle.rpp_words.specs.Words.{IsWord}
+use Rattle.pisa_isa.specs.rpp_words.Words.{IsWord}
 use Rattle.pisa_isa.specs.declared.notes.FieldName.{FieldName}
 use Rattle.pisa_isa.specs.Image.{Segments, IsImage}
 use Rattle.pisa_isa.specs.Notes.{HasAsciiText}

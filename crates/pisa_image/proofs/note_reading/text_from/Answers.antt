@@ -1,6 +1,6 @@
 use Rattle.std.proofs.Common.{◌≡◌, ◌+◌, ◌∙◌, ap, ◌++◌, ◌∷◌, [], length, length-append, arith}
 use Rattle.std.proofs.lemmas.Result.{err_from_is_err_and}
-use Rattle.rpp_words.specs.Names.{is_name_byte}
+use Rattle.pisa_isa.specs.rpp_words.Names.{is_name_byte}
 use Rattle.pisa_image.specs.Reading.{tested_byte, text_from}
 use Rattle.pisa_image.proofs.Many.{goes_on, stops, is_done}
 use Rattle.pisa_image.proofs.Whole.{fails_with}

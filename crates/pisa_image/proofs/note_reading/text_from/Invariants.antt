@@ -1,5 +1,5 @@
 use Rattle.std.proofs.Common.{◌≡◌, ◌-◌, ◌+◌, ◌∷◌, [], length}
-use Rattle.rpp_words.specs.Names.{is_name_byte}
+use Rattle.pisa_isa.specs.rpp_words.Names.{is_name_byte}
 use Rattle.pisa_image.specs.Numbers.{many_at}
 use Rattle.pisa_image.specs.Reading.{tested_byte}
 use Rattle.pisa_image.proofs.Many.{with_front}

@@ -1,6 +1,6 @@
 use Rattle.std.proofs.Common.{◌≡◌, ◌++◌, ◌∷◌, [], arith}
 use Rattle.std.proofs.lemmas.Result.{err_from_is_err_and}
-use Rattle.rpp_words.specs.Words.{IsWord}
+use Rattle.pisa_isa.specs.rpp_words.Words.{IsWord}
 use Rattle.pisa_image.specs.Numbers.{word_bytes, word_at, many_at}
 use Rattle.pisa_image.proofs.Many.{Taken, many_take, goes_on, stops, is_done}
 use Rattle.pisa_image.proofs.Words.{word_takes, fails_with}

@@ -1,6 +1,6 @@
 use Rattle.std.proofs.Common.{rules, ◌≡◌, ◌<◌, ◌^◌, ◌∙◌, ap, subst, sym, List, ℕ, length}
 use Rattle.std.specs.List.{All}
-use Rattle.rpp_words.specs.Words.{IsWord}
+use Rattle.pisa_isa.specs.rpp_words.Words.{IsWord}
 use Rattle.pisa_isa.specs.Image.{Segments, IsImage}
 use Rattle.pisa_isa.specs.Notes.{NoteLists}
 use Rattle.pisa_image.specs.ImageBytes.{image_bytes}

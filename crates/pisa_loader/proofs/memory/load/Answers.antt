@@ -1,8 +1,8 @@
 use Rattle.std.proofs.Common.{◌∙◌, ap}
 use Rattle.std.proofs.lemmas.List.{append-nil}
 use Rattle.std.proofs.lemmas.Result.{IfOk-weaker}
-use Rattle.pisa_isa.specs.Loaded.{loaded}
-use Rattle.pisa_isa.specs.Runs.{zero_registers}
+use Rattle.pisa_machine.specs.pisa_isa.Loaded.{loaded}
+use Rattle.pisa_machine.specs.pisa_isa.Runs.{zero_registers}
 use Rattle.pisa_machine.specs.Position.{first_position}
 use Rattle.pisa_loader.proofs.memory.load.Goals as goal
 

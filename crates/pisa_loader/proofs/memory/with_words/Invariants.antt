@@ -1,5 +1,5 @@
 use Rattle.std.proofs.Common.{◌≡◌, drop, length, vec_len}
-use Rattle.pisa_isa.specs.Loaded.{with_words}
+use Rattle.pisa_machine.specs.pisa_isa.Loaded.{with_words}
 use Rattle.pisa_loader.proofs.memory.with_words.Given as goal
 
 abbrev pub invariant-loop-entry : goal.invariant-loop-entry

@@ -5,7 +5,7 @@ use Rattle.pisa_machine.specs.Told.{counted_steps}
 use Rattle.pisa_machine.specs.Ways.{state_at}
 use Rattle.pisa_machine.proofs.noting.note_one_way.Given as goal
 
--- the steps so far led to what stands in the locals, and are noted and counted
+-- the steps so far led to what is in the locals, and are noted and counted
 abbrev pub invariant-loop-made : goal.invariant-loop-made
 invariant-loop-made g l = record {
   reaches : steps l.code l.made (state_of l.initial.core (g.C.Cells.words l.initial.cells))

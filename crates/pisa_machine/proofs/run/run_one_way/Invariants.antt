@@ -4,7 +4,7 @@ use Rattle.pisa_isa.specs.Runs.{steps}
 use Rattle.pisa_machine.specs.Ways.{state_at}
 use Rattle.pisa_machine.proofs.run.run_one_way.Given as goal
 
--- the steps so far led to what stands in the locals, and are counted
+-- the steps so far led to what is in the locals, and are counted
 abbrev pub invariant-loop-made : goal.invariant-loop-made
 invariant-loop-made g l = record {
   reaches : steps l.code l.made (state_of l.initial.core (g.C.Cells.words l.initial.cells))

@@ -1,10 +1,10 @@
 use Rattle.std.proofs.Common.{◌≡◌, ◌∙◌, ap, subst, ◌≤◌, List, length}
 use Rattle.rpp_tree.specs.declared.tree.Var.{Var}
 use Rattle.rpp_tree.specs.Views.{source_of}
-use Rattle.pisa_isa.specs.Notes.{NoteLists}
-use Rattle.code_conventions.specs.declared.memory.TheConstants.{FIRST_FIELD}
-use Rattle.roopl_semantics.specs.Source.{main_fields}
-use Rattle.roopl_semantics.proofs.MainPlace.{fields_read}
+use Rattle.refine_program.specs.pisa_isa.Notes.{NoteLists}
+use Rattle.refine_program.specs.code_conventions.declared.memory.TheConstants.{FIRST_FIELD}
+use Rattle.refine_program.specs.roopl_semantics.Source.{main_fields}
+use Rattle.refine_program.proofs.roopl_semantics_laws.MainPlace.{fields_read}
 use Rattle.program_codegen.specs.Notes.{field_names}
 use Rattle.program_codegen.proofs.NotesFit.{sealed_fit, sealed_notes}
 use Rattle.program_codegen.proofs.images.compile.Goals as goal

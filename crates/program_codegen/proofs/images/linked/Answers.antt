@@ -1,10 +1,10 @@
 use Rattle.std.proofs.Common.{◌≡◌, ◌∙◌, sym, ap, subst, ◌+◌, length, arith}
 use Rattle.rpp_tree.specs.Views.{source_of}
-use Rattle.class_table.specs.Classes.{main_of}
-use Rattle.class_table.specs.First.{each_below}
-use Rattle.class_table.specs.Table.{Table}
-use Rattle.paired_code.specs.Code.{bodies}
-use Rattle.paired_code.specs.Link.{places, first_top}
+use Rattle.refine_program.specs.class_table.Classes.{main_of}
+use Rattle.refine_program.specs.class_table.First.{each_below}
+use Rattle.refine_program.specs.class_table.Table.{Table}
+use Rattle.refine_program.specs.paired_code.Code.{bodies}
+use Rattle.refine_program.specs.paired_code.Link.{places, first_top}
 use Rattle.refine_program.specs.Methods.{methods_before, routine_of}
 use Rattle.refine_program.specs.Laws.{IsProgramImage}
 use Rattle.program_codegen.proofs.ImageMade.{few_cells, few_marks, code_size, is_program_image, stands, has_marks}

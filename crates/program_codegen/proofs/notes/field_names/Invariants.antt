@@ -1,5 +1,5 @@
 use Rattle.std.proofs.Common.{◌≡◌, ◌+◌, ◌++◌, drop}
-use Rattle.code_conventions.specs.declared.memory.TheConstants.{FIRST_FIELD}
+use Rattle.refine_program.specs.code_conventions.declared.memory.TheConstants.{FIRST_FIELD}
 use Rattle.program_codegen.specs.Notes.{field_names}
 use Rattle.program_codegen.proofs.notes.field_names.Given as goal
 

@@ -1,8 +1,8 @@
 use Rattle.std.proofs.Common.{◌≡◌, ◌++◌, ◌+◌, ℕ, List, map, take}
 use Rattle.std.specs.Prelude.{slice_index}
 use Rattle.rpp_tree.specs.Views.{source_of}
-use Rattle.class_table.specs.Classes.{class_slots}
-use Rattle.paired_code.specs.Link.{static_word}
+use Rattle.refine_program.specs.class_table.Classes.{class_slots}
+use Rattle.refine_program.specs.paired_code.Link.{static_word}
 use Rattle.refine_program.specs.Methods.{routine_of}
 use Rattle.program_codegen.proofs.statics.add_slots.Given as goal
 

@@ -1,11 +1,11 @@
 use Rattle.std.proofs.Common.{◌≡◌, ◌∙◌, ap, ◌++◌, length, map, arith}
 use Rattle.rpp_tree.specs.Views.{source_of}
-use Rattle.class_table.specs.First.{each_below}
-use Rattle.class_table.specs.Table.{Table}
-use Rattle.roopl_semantics.specs.Layout.{tables}
-use Rattle.paired_code.specs.Link.{static_word}
+use Rattle.refine_program.specs.class_table.First.{each_below}
+use Rattle.refine_program.specs.class_table.Table.{Table}
+use Rattle.refine_program.specs.roopl_semantics.Layout.{tables}
+use Rattle.refine_program.specs.paired_code.Link.{static_word}
 use Rattle.refine_program.specs.Methods.{slot_places}
-use Rattle.static_layout.proofs.Counted.{many_classes}
+use Rattle.refine_program.proofs.static_layout_laws.Counted.{many_classes}
 use Rattle.program_codegen.proofs.Tables.{table_pushed}
 use Rattle.program_codegen.proofs.statics.add_tables.Goals as goal
 

@@ -1,8 +1,8 @@
 use Rattle.std.proofs.Common.{◌≡◌, ◌++◌, ℕ, List, map}
 use Rattle.rpp_tree.specs.Views.{source_of}
-use Rattle.class_table.specs.First.{each_below}
-use Rattle.roopl_semantics.specs.Layout.{tables}
-use Rattle.paired_code.specs.Link.{static_word}
+use Rattle.refine_program.specs.class_table.First.{each_below}
+use Rattle.refine_program.specs.roopl_semantics.Layout.{tables}
+use Rattle.refine_program.specs.paired_code.Link.{static_word}
 use Rattle.refine_program.specs.Methods.{slot_places}
 use Rattle.program_codegen.proofs.statics.add_tables.Given as goal
 

@@ -1,5 +1,5 @@
 use Rattle.std.proofs.Common.{◌≡◌, ◌++◌, map, take}
-use Rattle.paired_code.specs.declared.part.StaticWord.TheVariants.{Word}
+use Rattle.refine_program.specs.paired_code.declared.part.StaticWord.TheVariants.{Word}
 use Rattle.program_codegen.proofs.statics.add_words.Given as goal
 
 -- the words so far

@@ -1,13 +1,13 @@
 use Rattle.std.proofs.Common.{◌≡◌, ◌∙◌, sym, ap, ◌++◌, ℕ, List, length, replicate, arith}
 use Rattle.rpp_tree.specs.declared.tree.Var.{Var}
 use Rattle.rpp_tree.specs.Views.{source_of}
-use Rattle.class_table.specs.declared.method.MethodId.{MethodId}
-use Rattle.class_table.specs.Classes.{main_of}
-use Rattle.class_table.specs.Table.{Table}
-use Rattle.code_conventions.specs.Header.{header}
-use Rattle.roopl_semantics.specs.Layout.{table_at, tables}
-use Rattle.roopl_semantics.specs.Source.{main_fields}
-use Rattle.roopl_semantics.proofs.MainPlace.{class_inside, fields_read}
+use Rattle.refine_program.specs.class_table.declared.method.MethodId.{MethodId}
+use Rattle.refine_program.specs.class_table.Classes.{main_of}
+use Rattle.refine_program.specs.class_table.Table.{Table}
+use Rattle.refine_program.specs.code_conventions.Header.{header}
+use Rattle.refine_program.specs.roopl_semantics.Layout.{table_at, tables}
+use Rattle.refine_program.specs.roopl_semantics.Source.{main_fields}
+use Rattle.refine_program.proofs.roopl_semantics_laws.MainPlace.{class_inside, fields_read}
 use Rattle.refine_program.specs.Methods.{table_places}
 use Rattle.program_codegen.proofs.Tables.{statics_read}
 use Rattle.program_codegen.proofs.statics.statics.Goals as goal

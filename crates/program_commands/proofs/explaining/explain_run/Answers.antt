@@ -1,5 +1,5 @@
-use Rattle.rpp_tree.specs.Views.{source_of}
-use Rattle.roopl_semantics.specs.Source.{source}
+use Rattle.roopl_judge.specs.rpp_tree.Views.{source_of}
+use Rattle.store_report.specs.roopl_semantics.Source.{source}
 use Rattle.program_commands.proofs.Telling.{explains_run}
 use Rattle.program_commands.proofs.explaining.explain_run.Goals as goal
 

@@ -1,9 +1,9 @@
 use Rattle.std.proofs.Common.{false, sym, subst}
-use Rattle.rpp_tree.specs.Views.{source_of}
-use Rattle.pisa_isa.specs.declared.machine.Stop.{Stop}
-use Rattle.pisa_isa.specs.Loaded.{loaded}
+use Rattle.roopl_judge.specs.rpp_tree.Views.{source_of}
+use Rattle.image_inverter.specs.pisa_isa.declared.machine.Stop.{Stop}
+use Rattle.image_inverter.specs.pisa_isa.Loaded.{loaded}
 use Rattle.program_commands.specs.GoRun.{HasRun}
-use Rattle.command_plan.specs.Plans.{planned}
+use Rattle.roopl_judge.specs.command_plan.Plans.{planned}
 use Rattle.program_commands.specs.ProgramPlans.{ReportsStop}
 use Rattle.program_commands.proofs.Reported.{no_return, no_bad_address, no_off_code, gives_fault, too_early}
 use Rattle.program_commands.proofs.going.report_run.Goals as goal

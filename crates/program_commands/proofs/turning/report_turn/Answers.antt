@@ -1,5 +1,5 @@
 use Rattle.std.proofs.Common.{ap, true, inl, inr, ⊎_elim}
-use Rattle.pisa_isa.specs.declared.machine.Stop.{Stop}
+use Rattle.image_inverter.specs.pisa_isa.declared.machine.Stop.{Stop}
 use Rattle.program_commands.specs.ProgramPlans.{steps_back}
 use Rattle.program_commands.specs.RunPlans.{back_steps}
 use Rattle.program_commands.proofs.Turned.{none_back}

@@ -1,14 +1,14 @@
 use Rattle.std.proofs.Common.{◌≡◌, ◌∙◌, sym, ap, inr, ◌+◌}
 use Rattle.std.specs.Prelude.{◌⊎◌}
-use Rattle.pisa_isa.specs.Flipped.{flipped}
-use Rattle.pisa_isa.specs.Runs.{started}
+use Rattle.image_inverter.specs.pisa_isa.Flipped.{flipped}
+use Rattle.image_inverter.specs.pisa_isa.Runs.{started}
 use Rattle.program_commands.specs.ToldShort.{IsToldSoFar}
 use Rattle.program_commands.proofs.Watched.{err_always, told_short, so_far_from}
-use Rattle.rpp_tree.specs.Views.{source_of}
-use Rattle.pisa_isa.specs.Flipped.{flipped_image}
-use Rattle.pisa_isa.specs.Image.{Segments}
-use Rattle.pisa_isa.specs.Runs.{run}
-use Rattle.pisa_machine.specs.Position.{Position, first_position}
+use Rattle.roopl_judge.specs.rpp_tree.Views.{source_of}
+use Rattle.image_inverter.specs.pisa_isa.Flipped.{flipped_image}
+use Rattle.image_inverter.specs.pisa_isa.Image.{Segments}
+use Rattle.image_inverter.specs.pisa_isa.Runs.{run}
+use Rattle.store_report.specs.pisa_machine.Position.{Position, first_position}
 use Rattle.program_commands.proofs.Turned.{back_cells, back_spent, broken_within}
 use Rattle.program_commands.proofs.turning.run_back.Goals as goal
 

@@ -1,5 +1,5 @@
 use Rattle.std.proofs.Common.{◌+◌, ◌-◌, ◌*◌, get_or, drop, arith}
-use Rattle.rpp_words.proofs.Decimals.{decimal_from-grows, decimal_from-drop}
+use Rattle.rpp_tree.proofs.rpp_words_laws.Decimals.{decimal_from-grows, decimal_from-drop}
 use Rattle.roopl_lexer.proofs.number.number_of.Goals as goal
 
 pub returns-then-number-from : goal.returns-then-number-from

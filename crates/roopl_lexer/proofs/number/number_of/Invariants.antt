@@ -1,6 +1,6 @@
 use Rattle.std.proofs.Common.{◌≡◌, ◌≤◌, drop}
 use Rattle.rpp_tree.specs.declared.limits.TheConstants.{MOST_NUMBER}
-use Rattle.rpp_words.specs.Texts.{decimal_from}
+use Rattle.rpp_tree.specs.rpp_words.Texts.{decimal_from}
 use Rattle.roopl_lexer.proofs.number.number_of.Given as goal
 
 abbrev pub invariant-loop-digit : goal.invariant-loop-digit

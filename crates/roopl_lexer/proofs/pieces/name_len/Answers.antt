@@ -1,6 +1,6 @@
 use Rattle.std.proofs.Common.{length, sym, arith}
 use Rattle.std.proofs.lemmas.List.Sums.{prefix_len_is}
-use Rattle.rpp_words.specs.Names.{is_name_byte}
+use Rattle.rpp_tree.specs.rpp_words.Names.{is_name_byte}
 use Rattle.roopl_lexer.proofs.pieces.name_len.Goals as goal
 
 pub returns-clause-length : goal.returns-clause-length

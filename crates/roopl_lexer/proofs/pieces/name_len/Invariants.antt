@@ -1,5 +1,5 @@
 use Rattle.std.proofs.Common.{◌≡◌, ℕ, ◌<◌, get_or, true}
-use Rattle.rpp_words.specs.Names.{is_name_byte}
+use Rattle.rpp_tree.specs.rpp_words.Names.{is_name_byte}
 use Rattle.roopl_lexer.proofs.pieces.name_len.Given as goal
 
 abbrev pub invariant-loop-i : goal.invariant-loop-i

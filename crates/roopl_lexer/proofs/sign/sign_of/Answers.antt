@@ -1,4 +1,4 @@
--- Each arm has the signs of one, two and three bytes at the front.
+-- Each arm has the symbols of one, two and three bytes at the beginning.
 use Rattle.std.proofs.Common.{arith}
 use Rattle.std.specs.Prelude.{None}
 use Rattle.roopl_lexer.proofs.Signs.{longest_of, finds_one, finds_two, finds_three}

@@ -1,9 +1,9 @@
--- Each arm writes the tokens of its statement, one part behind the other.
+-- Each arm writes the tokens of its statement, one part after the other.
 use Rattle.std.proofs.Common.{[], ◌∷◌, ◌++◌, append_assoc, refl, ap, ◌∙◌}
 use Rattle.std.proofs.lemmas.Result.{IfOk-equal}
 use Rattle.std.proofs.lemmas.List.Concat.{flat_map-append}
 use Rattle.rpp_tree.specs.Views.{expression_of, lvalue_of, optional_lvalue_of, statement_of, block_of}
-use Rattle.roopl_lexer.specs.declared.token.Keyword.TheVariants as word
+use Rattle.roopl_parser.specs.roopl_lexer.declared.token.Keyword.TheVariants as word
 use Rattle.roopl_printer.specs.Printed.{a_name, a_word}
 use Rattle.roopl_printer.specs.Spelled.{first_word, call_word, spelled_expression, spelled_block, spelled_binding}
 use Rattle.roopl_printer.specs.Spelled.{spelled_type, spelled_place, spelled_target}

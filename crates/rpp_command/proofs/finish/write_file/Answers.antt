@@ -1,8 +1,8 @@
 use Rattle.std.proofs.Common.{◌∙◌, ℕ, List, ap, subst}
 use Rattle.std.specs.Prelude.{IsTrue}
-use Rattle.rpp_ports.specs.Ports.{Rose, LeavesAfter, WriteCause}
-use Rattle.rpp_ports.specs.declared.shelf.ShelfFault.{ShelfFault}
-use Rattle.rpp_ports.specs.declared.shelf.ShelfFault.TheVariants.{Failed}
+use Rattle.command_line.specs.rpp_ports.Ports.{Rose, LeavesAfter, WriteCause}
+use Rattle.command_line.specs.rpp_ports.declared.shelf.ShelfFault.{ShelfFault}
+use Rattle.command_line.specs.rpp_ports.declared.shelf.ShelfFault.TheVariants.{Failed}
 use Rattle.rpp_command.specs.Answers.{Tries, unwritten}
 use Rattle.rpp_command.proofs.finish.write_file.Goals as goal
 

@@ -1,5 +1,5 @@
 use Rattle.std.proofs.Common.{subst, subst₂, sym, map, string_bytes}
-use Rattle.command_plan.specs.Files.{OnlyReads}
+use Rattle.command_line.specs.command_plan.Files.{OnlyReads}
 use Rattle.cluster_commands.specs.ClusterPlans.{cluster_files}
 use Rattle.rpp_command.specs.Causes.{files_of}
 use Rattle.command_line.specs.Lines.{asked}

@@ -2,7 +2,7 @@ use Rattle.std.proofs.Common.{◌-◌, map, vec_len, string_bytes}
 use Rattle.rpp_probes.proofs.Told.{IsToldTo}
 use Rattle.rpp_probes.proofs.telling.tell_all.Given as goal
 
--- those in front were told
+-- the probes before observed it
 abbrev pub invariant-loop-at : goal.invariant-loop-at
 invariant-loop-at g l =
     IsToldTo l.step l.at

@@ -2,7 +2,7 @@ use Rattle.std.proofs.Common.{map}
 use Rattle.rpp_probes.proofs.Sure.{AreTold}
 use Rattle.rpp_probes.proofs.telling.tell_each_of.Given as goal
 
--- those in front were told
+-- the probes before observed it
 abbrev pub invariant-loop-probe : goal.invariant-loop-probe
 invariant-loop-probe g l =
     AreTold l.steps l.probe-index

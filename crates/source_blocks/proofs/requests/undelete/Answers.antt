@@ -1,6 +1,6 @@
 use Rattle.std.proofs.Common.{refl}
 use Rattle.rpp_tree.specs.Views.{creation_of, lvalue_of}
-use Rattle.meaning_machine.specs.Reversed.{undeleted}
+use Rattle.source_steps.specs.meaning_machine.Reversed.{undeleted}
 use Rattle.source_steps.specs.Metered.{metered}
 use Rattle.source_steps.specs.StateView.{setting_of}
 use Rattle.source_blocks.proofs.Scoped.{framed_in, changed_gives, sound_after}

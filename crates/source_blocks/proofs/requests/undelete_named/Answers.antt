@@ -1,7 +1,7 @@
 use Rattle.std.proofs.Common.{ap₂, refl, subst}
 use Rattle.rpp_tree.specs.Tree.{Whole, Object as AnObject}
 use Rattle.rpp_tree.specs.Views.{lvalue_with}
-use Rattle.meaning_machine.specs.Reversed.{undeleted}
+use Rattle.source_steps.specs.meaning_machine.Reversed.{undeleted}
 use Rattle.source_steps.specs.Ends.{Ends}
 use Rattle.source_steps.specs.Metered.{metered}
 use Rattle.source_steps.specs.StateView.{setting_of, state_of}

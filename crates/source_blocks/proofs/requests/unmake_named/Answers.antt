@@ -1,6 +1,6 @@
 use Rattle.std.proofs.Common.{ap₂, subst}
 use Rattle.rpp_tree.specs.Views.{lvalue_with}
-use Rattle.meaning_machine.specs.Reversed.{unmade}
+use Rattle.source_steps.specs.meaning_machine.Reversed.{unmade}
 use Rattle.source_steps.specs.Metered.{Gives, metered}
 use Rattle.source_steps.specs.StateView.{setting_of}
 use Rattle.source_blocks.specs.Runs.{state_in}

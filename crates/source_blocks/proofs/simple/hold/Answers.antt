@@ -1,7 +1,7 @@
 use Rattle.std.proofs.Common.{ap₂, refl, subst}
 use Rattle.rpp_tree.specs.Tree.{Swap, Whole}
 use Rattle.rpp_tree.specs.Views.{lvalue_of, lvalue_with}
-use Rattle.roopl_semantics.specs.Execution.{element_name}
+use Rattle.source_steps.specs.roopl_semantics.Execution.{element_name}
 use Rattle.source_steps.specs.Ends.{Ends, does_simply}
 use Rattle.source_steps.specs.StateView.{state_of}
 use Rattle.source_blocks.proofs.Scoped.{framed_in, changed_gives, sound_after}

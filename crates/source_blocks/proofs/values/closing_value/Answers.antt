@@ -1,7 +1,7 @@
 use Rattle.std.proofs.Common.{◌≡◌, sym, subst, ◌∙◌}
-use Rattle.roopl_semantics.specs.Run.{spend, give}
-use Rattle.roopl_semantics.specs.Store.{Nil}
-use Rattle.roopl_semantics.specs.Value.{evaluated}
+use Rattle.source_steps.specs.roopl_semantics.Run.{spend, give}
+use Rattle.source_steps.specs.roopl_semantics.Store.{Nil}
+use Rattle.source_steps.specs.roopl_semantics.Value.{evaluated}
 use Rattle.source_steps.specs.Metered.{Went, Failed, metered}
 use Rattle.source_steps.specs.StateView.{setting_of}
 use Rattle.source_steps.proofs.Fuelled.{goes, fails, gives}

@@ -1,6 +1,6 @@
-use Rattle.roopl_semantics.specs.Value.{evaluated}
+use Rattle.source_steps.specs.roopl_semantics.Value.{evaluated}
 use Rattle.rpp_tree.specs.Views.{expression_of}
-use Rattle.source_store.specs.ValueView.{value_of}
+use Rattle.source_steps.specs.source_store.ValueView.{value_of}
 use Rattle.source_steps.specs.Metered.{Gives, metered}
 use Rattle.source_steps.specs.StateView.{setting_of}
 use Rattle.source_blocks.proofs.Scoped.{framed_in, at_state}

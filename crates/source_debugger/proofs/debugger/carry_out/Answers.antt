@@ -1,7 +1,7 @@
 use Rattle.std.proofs.Common.{◌≡◌, ◌∙◌, sym, ap, subst, rules, Option, Some}
 use Rattle.std.specs.Prelude.{IfOk, string_bytes}
 use Rattle.rpp_tree.specs.Views.{source_of}
-use Rattle.meaning_points.specs.Trail.{trail}
+use Rattle.source_meaning.specs.meaning_points.Trail.{trail}
 use Rattle.two_way_debugger.specs.declared.command.Command.{Command}
 use Rattle.source_debugger.specs.declared.running.TheConstants.{MOST_COST}
 use Rattle.source_debugger.specs.declared.moves.Walk.{Walk}

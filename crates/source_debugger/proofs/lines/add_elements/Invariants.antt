@@ -1,6 +1,6 @@
 use Rattle.std.proofs.Common.{◌≡◌, ◌++◌, drop}
 use Rattle.std.specs.Prelude.{string_bytes}
-use Rattle.source_store.specs.ValueView.{values_of}
+use Rattle.source_meaning.specs.source_store.ValueView.{values_of}
 use Rattle.source_debugger.specs.Named.{elements_named}
 use Rattle.source_debugger.proofs.lines.add_elements.Given as goal
 

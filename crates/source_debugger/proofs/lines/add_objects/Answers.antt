@@ -1,7 +1,7 @@
 use Rattle.std.proofs.Common.{◌≡◌, ◌∙◌, ℕ, ◌+◌, ◌-◌, ◌++◌, refl, ap, arith, List}
 use Rattle.std.specs.Prelude.{string_bytes}
 use Rattle.rpp_tree.specs.Views.{source_of}
-use Rattle.roopl_semantics.specs.Store.{object_named}
+use Rattle.source_meaning.specs.roopl_semantics.Store.{object_named}
 use Rattle.source_debugger.specs.Named.{object_lines, objects_from}
 use Rattle.source_debugger.proofs.Following.{objects_next}
 use Rattle.source_debugger.proofs.lines.add_objects.Goals as goal

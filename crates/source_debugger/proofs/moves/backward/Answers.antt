@@ -1,7 +1,7 @@
 use Rattle.std.proofs.Common.{◌∙◌, sym, ap, rules, None}
 use Rattle.source_debugger.specs.declared.watching.Watching.TheVariants as watch
 use Rattle.rpp_tree.specs.Views.{source_of}
-use Rattle.meaning_points.specs.Trail.{trail}
+use Rattle.source_meaning.specs.meaning_points.Trail.{trail}
 use Rattle.source_debugger.specs.declared.running.TheConstants.{MOST_COST}
 use Rattle.source_debugger.specs.Ended.{IsEnded, latest_of, back_to}
 use Rattle.source_debugger.specs.Walks.{backward}

@@ -1,6 +1,6 @@
 use Rattle.std.proofs.Common.{◌∙◌, sym, ap, Some}
 use Rattle.rpp_tree.specs.Views.{source_of}
-use Rattle.meaning_points.specs.Trail.{trail}
+use Rattle.source_meaning.specs.meaning_points.Trail.{trail}
 use Rattle.source_debugger.specs.declared.running.TheConstants.{MOST_COST}
 use Rattle.source_debugger.specs.Courses.{heap_of}
 use Rattle.source_debugger.proofs.Onwards.{forward_is}

@@ -1,5 +1,5 @@
 use Rattle.std.proofs.Common.{◌∙◌, refl, sym, arith}
-use Rattle.source_execution.specs.Standing.{config_at}
+use Rattle.source_meaning.specs.source_execution.Standing.{config_at}
 use Rattle.source_debugger.specs.Courses.{heap_of}
 use Rattle.source_debugger.specs.declared.running.Arrival.{Arrival}
 use Rattle.source_debugger.proofs.Endings.{stands}

@@ -1,6 +1,6 @@
 use Rattle.std.proofs.Common.{◌∙◌, sym, subst, None}
 use Rattle.rpp_tree.specs.Views.{source_of}
-use Rattle.meaning_points.specs.Trail.{trail}
+use Rattle.source_meaning.specs.meaning_points.Trail.{trail}
 use Rattle.source_debugger.specs.declared.watching.Watching.TheVariants as watch
 use Rattle.source_debugger.specs.declared.running.TheConstants.{MOST_COST}
 use Rattle.source_debugger.specs.Ended.{IsEnded}

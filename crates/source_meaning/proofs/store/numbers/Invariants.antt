@@ -1,6 +1,6 @@
 use Rattle.std.proofs.Common.{◌≡◌, take, map}
-use Rattle.roopl_semantics.specs.Store.{number_of}
-use Rattle.source_store.specs.ValueView.{values_of}
+use Rattle.source_execution.specs.roopl_semantics.Store.{number_of}
+use Rattle.source_execution.specs.source_store.ValueView.{values_of}
 use Rattle.source_meaning.proofs.store.numbers.Given as goal
 
 abbrev pub invariant-loop-value : goal.invariant-loop-value

@@ -1,4 +1,4 @@
-use Rattle.rpp_tree.specs.Views.{source_of}
+use Rattle.source_execution.specs.rpp_tree.Views.{source_of}
 use Rattle.source_meaning.proofs.Ending.{stays_so, comes_back}
 use Rattle.source_meaning.proofs.whole.interpret.Goals as goal
 

@@ -1,6 +1,6 @@
 use Rattle.std.proofs.Common.{◌-◌}
-use Rattle.rpp_tree.specs.Views.{source_of}
-use Rattle.roopl_semantics.specs.Source.{source}
+use Rattle.source_execution.specs.rpp_tree.Views.{source_of}
+use Rattle.source_execution.specs.roopl_semantics.Source.{source}
 use Rattle.source_meaning.specs.declared.outcome.Outcome.TheVariants as outcome
 use Rattle.source_meaning.specs.Outcomes.{IsOutcome}
 use Rattle.source_meaning.proofs.Ending.{main_done, main_counts, main_stops, done_as}

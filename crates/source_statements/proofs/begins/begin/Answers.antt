@@ -1,9 +1,9 @@
 use Rattle.std.proofs.Common.{◌∙◌, ap, Some}
 use Rattle.rpp_tree.specs.declared.tree.Ident.{Ident}
 use Rattle.rpp_tree.specs.Tree.{Whole}
-use Rattle.roopl_semantics.specs.Execution.{element_name}
-use Rattle.meaning_machine.specs.Machine.{called}
-use Rattle.source_steps.specs.StateView.{setting_of}
+use Rattle.source_blocks.specs.roopl_semantics.Execution.{element_name}
+use Rattle.source_blocks.specs.meaning_machine.Machine.{called}
+use Rattle.source_blocks.specs.source_steps.StateView.{setting_of}
 use Rattle.source_blocks.specs.Tasks.{line_of}
 use Rattle.source_blocks.specs.Runs.{config_of, here_in, rest_in}
 use Rattle.source_statements.proofs.Begun.{call_begun, same_gives}

@@ -3,10 +3,10 @@ use Rattle.rpp_tree.specs.declared.tree.Ident.{Ident}
 use Rattle.rpp_tree.specs.Views.{expression_of, optional_lvalue_of, statement_of, block_of}
 use Rattle.rpp_tree.proofs.Statements.{statement_if, statement_from, statement_construct, statement_local}
 use Rattle.rpp_tree.proofs.Statements.{statement_call}
-use Rattle.roopl_semantics.specs.Execution.{in_direction}
-use Rattle.stmt_inverter.specs.Inverse.{inverse_statement}
-use Rattle.meaning_machine.specs.Machine.{held_local, called}
-use Rattle.source_steps.specs.StateView.{setting_of}
+use Rattle.source_blocks.specs.roopl_semantics.Execution.{in_direction}
+use Rattle.source_blocks.specs.stmt_inverter.Inverse.{inverse_statement}
+use Rattle.source_blocks.specs.meaning_machine.Machine.{held_local, called}
+use Rattle.source_blocks.specs.source_steps.StateView.{setting_of}
 use Rattle.source_blocks.specs.Runs.{config_of, here_in, rest_in}
 use Rattle.source_statements.proofs.Begun.{local_begun, construct_begun, call_begun, same_gives}
 use Rattle.source_statements.proofs.begins.begin_backward.Goals as goal

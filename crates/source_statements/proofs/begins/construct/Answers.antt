@@ -1,7 +1,7 @@
 use Rattle.std.proofs.Common.{ap, List, ℕ}
 use Rattle.rpp_tree.specs.Tree.{Null}
-use Rattle.meaning_machine.specs.Machine.{held_local}
-use Rattle.source_steps.specs.StateView.{setting_of}
+use Rattle.source_blocks.specs.meaning_machine.Machine.{held_local}
+use Rattle.source_blocks.specs.source_steps.StateView.{setting_of}
 use Rattle.source_blocks.specs.Tasks.{task_of}
 use Rattle.source_blocks.specs.declared.task.Task.TheVariants as task
 use Rattle.source_blocks.specs.Runs.{config_of, here_in, rest_in}

@@ -1,6 +1,6 @@
-use Rattle.meaning_machine.specs.Machine.{Holding}
-use Rattle.roopl_semantics.specs.Execution.{opened}
-use Rattle.source_store.specs.ValueView.{value_of}
+use Rattle.source_blocks.specs.meaning_machine.Machine.{Holding}
+use Rattle.source_blocks.specs.roopl_semantics.Execution.{opened}
+use Rattle.source_blocks.specs.source_store.ValueView.{value_of}
 use Rattle.source_blocks.specs.Tasks.{task_of}
 use Rattle.source_blocks.specs.Opens.{closing_of}
 use Rattle.source_blocks.specs.Runs.{config_of, state_in}

@@ -1,5 +1,5 @@
-use Rattle.source_store.specs.ValueView.{value_of}
-use Rattle.source_steps.specs.StateView.{setting_of}
+use Rattle.source_blocks.specs.source_store.ValueView.{value_of}
+use Rattle.source_blocks.specs.source_steps.StateView.{setting_of}
 use Rattle.source_blocks.specs.Tasks.{task_of}
 use Rattle.source_blocks.specs.Opens.{closing_of}
 use Rattle.source_blocks.specs.Runs.{config_of, here_in, rest_in}

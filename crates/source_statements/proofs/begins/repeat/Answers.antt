@@ -1,7 +1,7 @@
 use Rattle.std.proofs.Common.{ap}
 use Rattle.std.specs.Prelude.{not}
-use Rattle.source_store.specs.ValueView.{value_of}
-use Rattle.source_steps.specs.StateView.{setting_of}
+use Rattle.source_blocks.specs.source_store.ValueView.{value_of}
+use Rattle.source_blocks.specs.source_steps.StateView.{setting_of}
 use Rattle.source_blocks.specs.Runs.{config_of, here_in, rest_in}
 use Rattle.source_statements.proofs.Begun.{loop_fails, loop_refused, loop_goes}
 use Rattle.source_statements.proofs.begins.repeat.Goals as goal

@@ -1,4 +1,4 @@
-use Rattle.source_steps.specs.StateView.{setting_of}
+use Rattle.source_blocks.specs.source_steps.StateView.{setting_of}
 use Rattle.source_blocks.specs.Runs.{config_of, here_in, rest_in}
 use Rattle.source_statements.proofs.Entered.{own_unpaid, own_too_deep, own_goes}
 use Rattle.source_statements.proofs.calls.call_own.Goals as goal

@@ -1,9 +1,9 @@
 use Rattle.std.proofs.Common.{◌≡◌, map}
 use Rattle.std.specs.Prelude.{MatchResult}
-use Rattle.roopl_semantics.specs.Execution.{cells_named}
-use Rattle.source_steps.specs.CellView.{cell_of}
-use Rattle.source_steps.specs.StateView.{setting_of}
-use Rattle.source_steps.specs.declared.stop.Stop.TheVariants as stop
+use Rattle.source_blocks.specs.roopl_semantics.Execution.{cells_named}
+use Rattle.source_blocks.specs.source_steps.CellView.{cell_of}
+use Rattle.source_blocks.specs.source_steps.StateView.{setting_of}
+use Rattle.source_blocks.specs.source_steps.declared.stop.Stop.TheVariants as stop
 use Rattle.source_blocks.proofs.Scoped.{framed_in, at_state}
 use Rattle.source_statements.proofs.calls.cells_in_order.Goals as goal
 

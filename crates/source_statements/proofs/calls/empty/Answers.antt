@@ -1,6 +1,6 @@
 use Rattle.std.proofs.Common.{map, refl}
-use Rattle.roopl_semantics.specs.Execution.{moved_out}
-use Rattle.source_steps.specs.CellView.{cell_of}
+use Rattle.source_blocks.specs.roopl_semantics.Execution.{moved_out}
+use Rattle.source_blocks.specs.source_steps.CellView.{cell_of}
 use Rattle.source_blocks.proofs.Scoped.{framed_in, moved_is, still_sound}
 use Rattle.source_statements.proofs.calls.empty.Goals as goal
 

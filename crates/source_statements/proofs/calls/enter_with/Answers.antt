@@ -2,12 +2,12 @@ use Rattle.std.proofs.Common.{◌≡◌, ◌<◌, List, refl, sym, ap, ap₂, su
 use Rattle.std.specs.Option.{unwrap_or, option_map}
 use Rattle.rpp_tree.specs.Tree.{Procedure}
 use Rattle.rpp_tree.specs.Views.{procedure_of}
-use Rattle.class_table.specs.Members.{no_procedure}
-use Rattle.class_table.specs.Classes.{method_named}
-use Rattle.roopl_semantics.specs.Value.{Cell, read}
-use Rattle.roopl_semantics.specs.Execution.{cells_named, class_of, moved_out, in_direction}
-use Rattle.source_steps.specs.CellView.{cell_of}
-use Rattle.source_steps.specs.StateView.{setting_of}
+use Rattle.source_blocks.specs.class_table.Members.{no_procedure}
+use Rattle.source_blocks.specs.class_table.Classes.{method_named}
+use Rattle.source_blocks.specs.roopl_semantics.Value.{Cell, read}
+use Rattle.source_blocks.specs.roopl_semantics.Execution.{cells_named, class_of, moved_out, in_direction}
+use Rattle.source_blocks.specs.source_steps.CellView.{cell_of}
+use Rattle.source_blocks.specs.source_steps.StateView.{setting_of}
 use Rattle.source_blocks.specs.declared.frames.Caller.{Caller}
 use Rattle.source_blocks.specs.declared.run.Run.{Run}
 use Rattle.source_blocks.specs.Blocks.{count_of}

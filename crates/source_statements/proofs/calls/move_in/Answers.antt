@@ -1,8 +1,8 @@
 use Rattle.std.proofs.Common.{List, Option, map, sym, ap, ◌∙◌}
-use Rattle.roopl_semantics.specs.Value.{Cell}
-use Rattle.roopl_semantics.specs.Execution.{moved_out}
-use Rattle.source_steps.specs.declared.cell.Cell.{Cell as Place}
-use Rattle.source_steps.specs.CellView.{cell_of}
+use Rattle.source_blocks.specs.roopl_semantics.Value.{Cell}
+use Rattle.source_blocks.specs.roopl_semantics.Execution.{moved_out}
+use Rattle.source_blocks.specs.source_steps.declared.cell.Cell.{Cell as Place}
+use Rattle.source_blocks.specs.source_steps.CellView.{cell_of}
 use Rattle.source_blocks.specs.declared.frames.Receiver.{Receiver}
 use Rattle.source_blocks.specs.Opens.{cells_in}
 use Rattle.source_blocks.specs.Runs.{state_in}

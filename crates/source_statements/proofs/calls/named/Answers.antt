@@ -1,8 +1,8 @@
 use Rattle.std.proofs.Common.{◌∙◌, ap}
-use Rattle.roopl_semantics.specs.Value.{read, cell_named}
-use Rattle.source_steps.specs.CellView.{cell_of}
+use Rattle.source_blocks.specs.roopl_semantics.Value.{read, cell_named}
+use Rattle.source_blocks.specs.source_steps.CellView.{cell_of}
 use Rattle.source_blocks.specs.Runs.{state_in}
-use Rattle.source_steps.specs.StateView.{setting_of}
+use Rattle.source_blocks.specs.source_steps.StateView.{setting_of}
 use Rattle.source_blocks.proofs.Scoped.{framed_by, slice_is}
 use Rattle.source_statements.proofs.calls.named.Goals as goal
 

@@ -1,8 +1,8 @@
 use Rattle.std.proofs.Common.{◌∙◌, sym, ap, ◌∷◌, [], Option, map}
-use Rattle.roopl_semantics.specs.Store.{Value}
-use Rattle.roopl_semantics.specs.Value.{read}
-use Rattle.source_steps.specs.declared.cell.Cell.{Cell as Place}
-use Rattle.source_steps.specs.CellView.{cell_of}
+use Rattle.source_blocks.specs.roopl_semantics.Store.{Value}
+use Rattle.source_blocks.specs.roopl_semantics.Value.{read}
+use Rattle.source_blocks.specs.source_steps.declared.cell.Cell.{Cell as Place}
+use Rattle.source_blocks.specs.source_steps.CellView.{cell_of}
 use Rattle.source_blocks.specs.Runs.{state_in, only_cell}
 use Rattle.source_blocks.proofs.Scoped.{framed_by, slice_is}
 use Rattle.source_statements.proofs.calls.receiver_of.Goals as goal

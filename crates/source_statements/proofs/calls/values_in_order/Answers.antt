@@ -1,7 +1,7 @@
 use Rattle.std.proofs.Common.{◌∙◌, List, ap, map}
-use Rattle.roopl_semantics.specs.Value.{read}
-use Rattle.source_steps.specs.declared.cell.Cell.{Cell as Place}
-use Rattle.source_steps.specs.CellView.{cell_of}
+use Rattle.source_blocks.specs.roopl_semantics.Value.{read}
+use Rattle.source_blocks.specs.source_steps.declared.cell.Cell.{Cell as Place}
+use Rattle.source_blocks.specs.source_steps.CellView.{cell_of}
 use Rattle.source_blocks.specs.Runs.{state_in}
 use Rattle.source_blocks.proofs.Scoped.{framed_by, slice_is}
 use Rattle.source_statements.proofs.calls.values_in_order.Goals as goal

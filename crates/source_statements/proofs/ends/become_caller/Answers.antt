@@ -1,6 +1,6 @@
 use Rattle.std.proofs.Common.{sym, ap, ◌∙◌, arith}
-use Rattle.source_steps.specs.declared.expressions.Setting.{Setting as Here}
-use Rattle.source_steps.specs.StateView.{setting_of}
+use Rattle.source_blocks.specs.source_steps.declared.expressions.Setting.{Setting as Here}
+use Rattle.source_blocks.specs.source_steps.StateView.{setting_of}
 use Rattle.source_blocks.specs.Opens.{caller_of}
 use Rattle.source_blocks.proofs.Blocks.{task_small}
 use Rattle.source_statements.proofs.ends.become_caller.Goals as goal

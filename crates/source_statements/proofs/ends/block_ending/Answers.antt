@@ -1,6 +1,6 @@
 use Rattle.std.proofs.Common.{◌-◌, ◌∙◌, List, map, reverse, length, ap, subst}
 use Rattle.std.specs.Prelude.{slice_get}
-use Rattle.source_steps.specs.CellView.{cell_of}
+use Rattle.source_blocks.specs.source_steps.CellView.{cell_of}
 use Rattle.source_blocks.specs.declared.frames.Frame.{Frame}
 use Rattle.source_blocks.specs.declared.frames.Part.{Part}
 use Rattle.source_blocks.specs.Opens.{open_of, part_of, caller_of, cells_in, values_in, HasPart}

@@ -1,5 +1,5 @@
-use Rattle.source_store.specs.ValueView.{value_of}
-use Rattle.source_steps.specs.StateView.{setting_of}
+use Rattle.source_blocks.specs.source_store.ValueView.{value_of}
+use Rattle.source_blocks.specs.source_steps.StateView.{setting_of}
 use Rattle.source_blocks.specs.Runs.{config_of}
 use Rattle.source_statements.proofs.Ended.{again_fails, again_refused, again_goes}
 use Rattle.source_statements.proofs.ends.end_again.Goals as goal

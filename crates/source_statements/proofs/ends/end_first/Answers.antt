@@ -1,6 +1,6 @@
 use Rattle.std.proofs.Common.{sym, ◌∙◌}
-use Rattle.source_store.specs.ValueView.{value_of}
-use Rattle.source_steps.specs.StateView.{setting_of}
+use Rattle.source_blocks.specs.source_store.ValueView.{value_of}
+use Rattle.source_blocks.specs.source_steps.StateView.{setting_of}
 use Rattle.source_blocks.specs.Runs.{config_of}
 use Rattle.source_blocks.proofs.Opened.{some_open}
 use Rattle.source_statements.proofs.Ended.{first_fails, first_over, first_again}

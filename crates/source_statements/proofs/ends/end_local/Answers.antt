@@ -1,9 +1,9 @@
 use Rattle.std.proofs.Common.{◌∙◌, ap}
 use Rattle.std.specs.Prelude.{not}
-use Rattle.roopl_semantics.specs.Store.{Value, same_value}
-use Rattle.roopl_semantics.specs.Execution.{closed}
-use Rattle.source_store.specs.ValueView.{value_of}
-use Rattle.source_steps.specs.StateView.{setting_of}
+use Rattle.source_blocks.specs.roopl_semantics.Store.{Value, same_value}
+use Rattle.source_blocks.specs.roopl_semantics.Execution.{closed}
+use Rattle.source_blocks.specs.source_store.ValueView.{value_of}
+use Rattle.source_blocks.specs.source_steps.StateView.{setting_of}
 use Rattle.source_blocks.specs.Runs.{config_of, state_in}
 use Rattle.source_blocks.proofs.Scoped.{state_config}
 use Rattle.source_statements.proofs.Ended.{close_fails, close_differs, close_goes}

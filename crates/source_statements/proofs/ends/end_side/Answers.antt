@@ -1,8 +1,8 @@
 use Rattle.std.proofs.Common.{ap, ◌∙◌, Bool, if◌then◌else◌}
 use Rattle.std.specs.Prelude.{not}
 use Rattle.rpp_tree.specs.Views.{expression_of}
-use Rattle.source_store.specs.ValueView.{value_of}
-use Rattle.source_steps.specs.StateView.{setting_of}
+use Rattle.source_blocks.specs.source_store.ValueView.{value_of}
+use Rattle.source_blocks.specs.source_steps.StateView.{setting_of}
 use Rattle.source_blocks.specs.Runs.{config_of}
 use Rattle.source_blocks.proofs.Opened.{some_open}
 use Rattle.source_statements.proofs.Ended.{side_fails, side_differs, side_goes}

@@ -1,5 +1,5 @@
 use Rattle.std.proofs.Common.{◌∙◌, ap}
-use Rattle.roopl_semantics.specs.Value.{Slot, read}
+use Rattle.source_blocks.specs.roopl_semantics.Value.{Slot, read}
 use Rattle.source_blocks.proofs.Scoped.{framed_by, slice_is}
 use Rattle.source_statements.proofs.ends.innermost.Goals as goal
 

@@ -1,7 +1,7 @@
 use Rattle.std.proofs.Common.{◌∙◌, ap}
 use Rattle.std.specs.Prelude.{◌||◌}
 use Rattle.rpp_tree.specs.Views.{expression_of}
-use Rattle.roopl_semantics.specs.Value.{variable_value}
+use Rattle.source_store.specs.roopl_semantics.Value.{variable_value}
 use Rattle.source_steps.specs.Apart.{meets}
 use Rattle.source_steps.specs.StateView.{state_of, setting_of}
 use Rattle.source_steps.proofs.Elements.{meets_one, meets_both}

@@ -1,5 +1,5 @@
 use Rattle.std.proofs.Common.{◌≡◌, ◌∙◌, ap, subst, replicate}
-use Rattle.meaning_machine.specs.Reversed.{ungiven}
+use Rattle.source_store.specs.meaning_machine.Reversed.{ungiven}
 use Rattle.source_store.specs.ValueView.{values_of}
 use Rattle.source_steps.specs.CellView.{cell_of}
 use Rattle.source_steps.specs.Metered.{Gives, metered}

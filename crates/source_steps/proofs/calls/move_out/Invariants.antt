@@ -1,5 +1,5 @@
 use Rattle.std.proofs.Common.{◌≡◌, drop, map}
-use Rattle.roopl_semantics.specs.Execution.{moved_out}
+use Rattle.source_store.specs.roopl_semantics.Execution.{moved_out}
 use Rattle.source_steps.specs.CellView.{cell_of}
 use Rattle.source_steps.specs.StateView.{IsFramed, state_of}
 use Rattle.source_steps.proofs.calls.move_out.Given as goal

@@ -1,5 +1,5 @@
 use Rattle.std.proofs.Common.{◌≡◌, take, map, ◌++◌}
-use Rattle.roopl_semantics.specs.Execution.{cells_named}
+use Rattle.source_store.specs.roopl_semantics.Execution.{cells_named}
 use Rattle.source_steps.specs.CellView.{cell_of}
 use Rattle.source_steps.specs.StateView.{state_of, setting_of}
 use Rattle.source_steps.proofs.calls.name_cells.Given as goal

@@ -1,5 +1,5 @@
 use Rattle.std.proofs.Common.{◌≡◌, take, map}
-use Rattle.roopl_semantics.specs.Value.{read}
+use Rattle.source_store.specs.roopl_semantics.Value.{read}
 use Rattle.source_store.specs.ValueView.{value_of}
 use Rattle.source_steps.specs.CellView.{cell_of}
 use Rattle.source_steps.specs.StateView.{state_of}

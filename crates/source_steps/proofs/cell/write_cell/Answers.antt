@@ -1,5 +1,5 @@
 use Rattle.std.proofs.Common.{ap, ◌∙◌, List, length, length-set}
-use Rattle.roopl_semantics.specs.Store.{Binding, State}
+use Rattle.source_store.specs.roopl_semantics.Store.{Binding, State}
 use Rattle.source_steps.specs.StateView.{state_of, frame_of}
 use Rattle.source_steps.proofs.Tables.{frame_set}
 use Rattle.source_steps.proofs.cell.write_cell.Goals as goal

@@ -1,7 +1,7 @@
 use Rattle.std.proofs.Common.{◌≡◌, ◌∙◌, sym, ap, subst, arith, length}
 use Rattle.std.proofs.lemmas.List.{length-map}
 use Rattle.std.specs.Prelude.{nat_lt}
-use Rattle.roopl_semantics.specs.Execution.{order_of_cells}
+use Rattle.source_store.specs.roopl_semantics.Execution.{order_of_cells}
 use Rattle.source_store.specs.HeapView.{Took}
 use Rattle.source_store.specs.ValueView.{value_of, values_of, head_of}
 use Rattle.source_steps.specs.CellView.{cell_of}

@@ -1,6 +1,6 @@
 use Rattle.std.proofs.Common.{◌≡◌, ◌∙◌, sym, ap, subst, length, replicate}
 use Rattle.std.proofs.lemmas.List.{length-map, length-replicate}
-use Rattle.roopl_semantics.specs.Execution.{allocated}
+use Rattle.source_store.specs.roopl_semantics.Execution.{allocated}
 use Rattle.source_store.specs.ValueView.{value_of, values_of, head_of}
 use Rattle.source_steps.specs.CellView.{cell_of}
 use Rattle.source_steps.specs.Metered.{Gives, metered}

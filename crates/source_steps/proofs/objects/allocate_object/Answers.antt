@@ -1,8 +1,8 @@
 use Rattle.std.proofs.Common.{◌∙◌, sym, ap, subst, length}
 use Rattle.std.proofs.lemmas.List.{length-map}
-use Rattle.class_table.specs.Classes.{class_fields}
-use Rattle.roopl_semantics.specs.Store.{OfClass, zero_values}
-use Rattle.roopl_semantics.specs.Execution.{allocated}
+use Rattle.source_store.specs.class_table.Classes.{class_fields}
+use Rattle.source_store.specs.roopl_semantics.Store.{OfClass, zero_values}
+use Rattle.source_store.specs.roopl_semantics.Execution.{allocated}
 use Rattle.source_store.specs.ValueView.{value_of, values_of}
 use Rattle.source_steps.specs.CellView.{cell_of}
 use Rattle.source_steps.specs.Metered.{Gives, metered}

@@ -1,6 +1,6 @@
 use Rattle.std.proofs.Common.{sym, subst}
 use Rattle.rpp_tree.specs.Views.{lvalue_of}
-use Rattle.roopl_semantics.specs.Elements.{own_element, index_elements, kept_apart}
+use Rattle.source_store.specs.roopl_semantics.Elements.{own_element, index_elements, kept_apart}
 use Rattle.source_steps.specs.Metered.{Gives}
 use Rattle.source_steps.specs.StateView.{state_of, setting_of}
 use Rattle.source_steps.specs.Ends.{gone}

@@ -1,5 +1,5 @@
 use Rattle.std.proofs.Common.{◌≡◌, take, map}
-use Rattle.roopl_semantics.specs.Store.{zero_values}
+use Rattle.source_store.specs.roopl_semantics.Store.{zero_values}
 use Rattle.source_store.specs.ValueView.{value_of}
 use Rattle.source_steps.proofs.objects.zeros.Given as goal
 

@@ -1,6 +1,6 @@
 use Rattle.std.proofs.Common.{ap, ◌∙◌, List}
 use Rattle.std.proofs.lemmas.List.{map-set}
-use Rattle.roopl_semantics.specs.Store.{Value, Object}
+use Rattle.meaning_machine.specs.roopl_semantics.Store.{Value, Object}
 use Rattle.source_store.specs.ValueView.{values_of, value_of, head_of}
 use Rattle.source_store.proofs.changes.put.Goals as goal
 

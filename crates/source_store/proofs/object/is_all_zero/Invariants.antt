@@ -1,5 +1,5 @@
 use Rattle.std.proofs.Common.{◌≡◌, drop}
-use Rattle.roopl_semantics.specs.Execution.{all_zero}
+use Rattle.meaning_machine.specs.roopl_semantics.Execution.{all_zero}
 use Rattle.source_store.specs.ValueView.{values_of}
 use Rattle.source_store.proofs.object.is_all_zero.Given as goal
 

@@ -2,8 +2,8 @@ use Rattle.std.proofs.Common.{List, subst, sym, ap, ◌∙◌}
 use Rattle.std.specs.Prelude.{IfOk}
 use Rattle.rpp_tree.specs.Views.{source_of}
 use Rattle.refine_form.specs.declared.spot.Spot.{Spot}
-use Rattle.method_calls.specs.Names.{slot_of}
-use Rattle.method_calls.specs.Laws.{CallOnCode}
+use Rattle.branch_codegen.specs.method_calls.Names.{slot_of}
+use Rattle.branch_codegen.specs.method_calls.Laws.{CallOnCode}
 use Rattle.statement_codegen.proofs.CallLaws.{on_returns}
 use Rattle.statement_codegen.proofs.calls.code_on.Goals as goal
 

@@ -1,10 +1,10 @@
 use Rattle.std.proofs.Common.{List, subst, sym, ap, ◌∙◌}
 use Rattle.std.specs.Prelude.{IfOk}
 use Rattle.rpp_tree.specs.Views.{source_of}
-use Rattle.class_table.specs.declared.method.MethodId.{MethodId}
+use Rattle.branch_codegen.specs.class_table.declared.method.MethodId.{MethodId}
 use Rattle.refine_form.specs.declared.spot.Spot.{Spot}
-use Rattle.method_calls.specs.Names.{slot_of}
-use Rattle.method_calls.specs.Laws.{OwnCallCode}
+use Rattle.branch_codegen.specs.method_calls.Names.{slot_of}
+use Rattle.branch_codegen.specs.method_calls.Laws.{OwnCallCode}
 use Rattle.statement_codegen.proofs.CallLaws.{own_returns}
 use Rattle.statement_codegen.proofs.calls.own_code.Goals as goal
 

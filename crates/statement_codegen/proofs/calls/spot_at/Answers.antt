@@ -1,7 +1,7 @@
 use Rattle.std.proofs.Common.{sym, ◌≤◌, subst, length, arith}
 use Rattle.std.proofs.lemmas.List.{length-reverse}
-use Rattle.code_scope.specs.Visible.{known_by}
-use Rattle.method_calls.specs.Facts.{IsNear}
+use Rattle.branch_codegen.specs.code_scope.Visible.{known_by}
+use Rattle.branch_codegen.specs.method_calls.Facts.{IsNear}
 use Rattle.statement_codegen.proofs.Names.{spot_near}
 use Rattle.statement_codegen.proofs.calls.spot_at.Goals as goal
 

@@ -1,8 +1,8 @@
 use Rattle.std.proofs.Common.{◌≡◌, take, map}
 use Rattle.std.specs.List.{All}
 use Rattle.rpp_tree.specs.declared.tree.Ident.{Ident}
-use Rattle.code_scope.specs.Visible.{spot_of, known_in}
-use Rattle.method_calls.specs.Facts.{IsNear}
+use Rattle.branch_codegen.specs.code_scope.Visible.{spot_of, known_in}
+use Rattle.branch_codegen.specs.method_calls.Facts.{IsNear}
 use Rattle.statement_codegen.proofs.calls.spots_at.Given as goal
 
 abbrev pub invariant-loop-name : goal.invariant-loop-name

@@ -1,5 +1,5 @@
 use Rattle.rpp_tree.specs.Views.{expression_of}
-use Rattle.code_scope.specs.Visible.{known_in}
+use Rattle.branch_codegen.specs.code_scope.Visible.{known_in}
 use Rattle.statement_codegen.proofs.Clauses.{local_returns}
 use Rattle.statement_codegen.proofs.locals.local_code.Goals as goal
 

@@ -1,7 +1,7 @@
 use Rattle.std.proofs.Common.{◌≡◌, ap, ◌+◌, List, length}
-use Rattle.rpp_tree.specs.declared.tree.Var.{Var}
-use Rattle.rpp_tree.specs.Views.{source_of}
-use Rattle.code_conventions.specs.declared.memory.TheConstants.{FIRST_FIELD}
+use Rattle.roopl_semantics.specs.rpp_tree.declared.tree.Var.{Var}
+use Rattle.roopl_semantics.specs.rpp_tree.Views.{source_of}
+use Rattle.roopl_semantics.specs.code_conventions.declared.memory.TheConstants.{FIRST_FIELD}
 use Rattle.roopl_semantics.proofs.MainPlace.{fields_read}
 use Rattle.static_layout.proofs.tables.first_table.Goals as goal
 

@@ -1,7 +1,7 @@
 use Rattle.std.proofs.Common.{◌≡◌, ◌∙◌, sym, ap, ◌+◌, length}
-use Rattle.rpp_tree.specs.Views.{source_of}
-use Rattle.class_table.specs.Table.{Table, table_of, slots_in}
-use Rattle.code_conventions.specs.declared.memory.TheConstants.{TABLE_HEADER}
+use Rattle.roopl_semantics.specs.rpp_tree.Views.{source_of}
+use Rattle.roopl_semantics.specs.class_table.Table.{Table, table_of, slots_in}
+use Rattle.roopl_semantics.specs.code_conventions.declared.memory.TheConstants.{TABLE_HEADER}
 use Rattle.static_layout.proofs.Counted.{table_next}
 use Rattle.static_layout.proofs.tables.next_table.Goals as goal
 

@@ -1,5 +1,5 @@
 use Rattle.std.proofs.Common.{◌≡◌, ◌≤◌}
-use Rattle.rpp_tree.specs.Views.{source_of}
+use Rattle.roopl_semantics.specs.rpp_tree.Views.{source_of}
 use Rattle.roopl_semantics.specs.Layout.{table_at}
 use Rattle.static_layout.proofs.Counted.{farthest}
 use Rattle.static_layout.proofs.tables.table_at.Given as goal

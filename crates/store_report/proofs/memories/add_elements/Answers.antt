@@ -1,9 +1,9 @@
 use Rattle.std.proofs.Common.{◌≡◌, ◌∙◌, ap, ◌<◌, ◌+◌, ◌++◌, ℕ, suc, ◌-◌, List, arith, append_assoc}
 use Rattle.std.specs.Prelude.{string_bytes, replicate, codes}
 use Rattle.std.specs.Fmt.{decimal}
-use Rattle.rpp_words.specs.Texts.{line_end}
-use Rattle.roopl_semantics.specs.Report.{Text, element_lines, value_shown}
-use Rattle.pisa_isa.specs.Machine.{word_at as word_told}
+use Rattle.refine_frame.specs.rpp_words.Texts.{line_end}
+use Rattle.static_layout.specs.roopl_semantics.Report.{Text, element_lines, value_shown}
+use Rattle.pisa_machine.specs.pisa_isa.Machine.{word_at as word_told}
 use Rattle.store_report.specs.declared.leads.Lead.{Lead}
 use Rattle.store_report.specs.Shown.{value_by, values_by, addresses_of}
 use Rattle.store_report.proofs.memories.add_elements.Goals as goal

@@ -1,6 +1,6 @@
 use Rattle.std.proofs.Common.{◌≡◌, ◌+◌, ◌-◌, ◌++◌}
 use Rattle.std.specs.Prelude.{string_bytes, replicate}
-use Rattle.roopl_semantics.specs.Report.{element_lines}
+use Rattle.static_layout.specs.roopl_semantics.Report.{element_lines}
 use Rattle.store_report.specs.Shown.{values_by, addresses_of}
 use Rattle.store_report.proofs.memories.add_elements.Given as goal
 

@@ -1,6 +1,6 @@
 use Rattle.std.proofs.Common.{◌≡◌, ◌+◌, ◌++◌, drop}
 use Rattle.std.specs.Prelude.{string_bytes}
-use Rattle.roopl_semantics.specs.Report.{field_lines}
+use Rattle.static_layout.specs.roopl_semantics.Report.{field_lines}
 use Rattle.store_report.specs.Leads.{leads_of}
 use Rattle.store_report.specs.Shown.{values_by, addresses_of}
 use Rattle.store_report.proofs.memories.add_fields.Given as goal

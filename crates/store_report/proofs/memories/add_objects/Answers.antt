@@ -3,8 +3,8 @@ use Rattle.std.proofs.Common.{append_assoc}
 use Rattle.std.specs.Prelude.{string_bytes}
 use Rattle.rpp_tree.specs.Views.{source_of}
 use Rattle.rpp_tree.specs.Tree.{Source}
-use Rattle.class_table.specs.Table.{Table}
-use Rattle.roopl_semantics.specs.Report.{Text}
+use Rattle.refine_frame.specs.class_table.Table.{Table}
+use Rattle.static_layout.specs.roopl_semantics.Report.{Text}
 use Rattle.store_report.specs.declared.leads.Lead.{Lead}
 use Rattle.store_report.specs.Leads.{Met}
 use Rattle.store_report.specs.Shown.{object_by, objects_by, addresses_of}

@@ -1,10 +1,10 @@
 use Rattle.std.proofs.Common.{◌≡◌, ◌∙◌, sym, ap, subst, length, arith}
 use Rattle.std.specs.Prelude.{All, IfOk, Result, Ok, Err, string_bytes}
 use Rattle.rpp_tree.specs.Views.{source_of}
-use Rattle.class_table.specs.Table.{Table, table_of}
-use Rattle.class_table.proofs.Numbers.{length-each_below}
-use Rattle.roopl_semantics.specs.Layout.{table_at, table_addresses}
-use Rattle.roopl_semantics.proofs.MainPlace.{fields_read}
+use Rattle.refine_frame.specs.class_table.Table.{Table, table_of}
+use Rattle.refine_frame.proofs.class_table_laws.Numbers.{length-each_below}
+use Rattle.static_layout.specs.roopl_semantics.Layout.{table_at, table_addresses}
+use Rattle.static_layout.proofs.roopl_semantics_laws.MainPlace.{fields_read}
 use Rattle.store_report.specs.Ascii.{HasAsciiName, AreAscii}
 use Rattle.store_report.specs.Shown.{report_by}
 use Rattle.store_report.specs.Told.{report_told}

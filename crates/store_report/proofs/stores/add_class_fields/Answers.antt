@@ -1,11 +1,11 @@
 use Rattle.std.proofs.Common.{◌∙◌, sym, ap, subst}
 use Rattle.std.specs.Prelude.{All}
 use Rattle.rpp_tree.specs.Views.{source_of}
-use Rattle.class_table.specs.Table.{fields_in}
+use Rattle.refine_frame.specs.class_table.Table.{fields_in}
 use Rattle.store_report.specs.Ascii.{HasAsciiName}
 use Rattle.store_report.proofs.Names.{ascii_class_fields}
 use Rattle.store_report.proofs.Lining.{lines_of}
-use Rattle.source_steps.proofs.Tables.{fields_read}
+use Rattle.source_meaning.proofs.source_steps_laws.Tables.{fields_read}
 use Rattle.store_report.proofs.stores.add_class_fields.Goals as goal
 
 pub add_fields-requires : goal.add_fields-requires

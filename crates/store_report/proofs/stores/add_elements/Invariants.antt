@@ -1,7 +1,7 @@
 use Rattle.std.proofs.Common.{◌≡◌, ◌++◌, drop}
 use Rattle.std.specs.Prelude.{string_bytes}
-use Rattle.source_store.specs.ValueView.{values_of}
-use Rattle.roopl_semantics.specs.Report.{element_lines}
+use Rattle.source_meaning.specs.source_store.ValueView.{values_of}
+use Rattle.static_layout.specs.roopl_semantics.Report.{element_lines}
 use Rattle.store_report.proofs.stores.add_elements.Given as goal
 
 abbrev pub invariant-loop-index : goal.invariant-loop-index

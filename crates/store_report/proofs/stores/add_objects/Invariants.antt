@@ -1,7 +1,7 @@
 use Rattle.std.proofs.Common.{◌≡◌, ◌++◌, drop}
 use Rattle.std.specs.Prelude.{string_bytes}
 use Rattle.rpp_tree.specs.Views.{source_of}
-use Rattle.roopl_semantics.specs.Report.{object_lines}
+use Rattle.static_layout.specs.roopl_semantics.Report.{object_lines}
 use Rattle.store_report.proofs.stores.add_objects.Given as goal
 
 abbrev pub invariant-loop-at : goal.invariant-loop-at

@@ -1,7 +1,7 @@
 use Rattle.std.proofs.Common.{◌≡◌, ◌∙◌, sym, ap, ◌<◌, ◌+◌, replicate, ℕ, suc, ◌-◌, List, arith}
 use Rattle.store_report.specs.declared.leads.Lead.TheVariants as lead
 use Rattle.store_report.specs.Leads.{Met, meets_one, meets}
-use Rattle.pisa_isa.specs.Machine.{word_at as word_told}
+use Rattle.pisa_machine.specs.pisa_isa.Machine.{word_at as word_told}
 use Rattle.store_report.proofs.walking.meet_elements.Goals as goal
 
 next : (cells : List ℕ) (met : Met) (at n count : ℕ) → n < count

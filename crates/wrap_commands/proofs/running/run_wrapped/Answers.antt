@@ -1,11 +1,11 @@
 use Rattle.std.proofs.Common.{◌≡◌, ◌∙◌, sym, ap, subst, ℕ, List, length, arith}
 use Rattle.std.specs.List.{All}
-use Rattle.rpp_tree.specs.Views.{source_of}
-use Rattle.pisa_isa.specs.Image.{Segments, IsImage}
-use Rattle.pisa_machine.specs.Position.{Position}
-use Rattle.pisa_loader.specs.Limiting.{IsInputOf}
-use Rattle.bennett_wrap.specs.Wrapped.{Wrapped}
-use Rattle.command_plan.specs.Plans.{planned}
+use Rattle.program_commands.specs.rpp_tree.Views.{source_of}
+use Rattle.program_commands.specs.pisa_isa.Image.{Segments, IsImage}
+use Rattle.program_commands.specs.pisa_machine.Position.{Position}
+use Rattle.program_commands.specs.pisa_loader.Limiting.{IsInputOf}
+use Rattle.refine_wrap.specs.bennett_wrap.Wrapped.{Wrapped}
+use Rattle.program_commands.specs.command_plan.Plans.{planned}
 use Rattle.program_commands.proofs.Turned.{weaken}
 use Rattle.program_commands.proofs.ValidInput.{input_fits}
 use Rattle.wrap_commands.specs.WrapNames.{HasLowNumber, result_cells}

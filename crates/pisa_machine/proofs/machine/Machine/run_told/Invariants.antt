@@ -2,7 +2,7 @@ use Rattle.std.proofs.Common.{◌≡◌, ◌+◌, ◌-◌, ◌≤◌, map, strin
 use Rattle.pisa_machine.proofs.Watched.{IsTold}
 use Rattle.pisa_machine.proofs.machine.Machine.run_told.Given as goal
 
--- the steps so far were told, made and counted
+-- the steps so far were observed, made and counted
 abbrev pub invariant-loop-made : goal.invariant-loop-made
 invariant-loop-made g l = record {
   told : IsTold l.initial.self.image.code l.made l.initial.self.state l.self.state

@@ -1,8 +1,8 @@
 use Rattle.std.proofs.Common.{◌≡◌, ◌∙◌, ℕ, Option, Some, None, sym, ap, subst}
 use Rattle.rpp_tree.specs.Places.{statement_place}
-use Rattle.source_blocks.specs.Tasks.{task_of}
+use Rattle.source_statements.specs.source_blocks.Tasks.{task_of}
 use Rattle.source_execution.specs.Standing.{Standing, config_at, next_place}
-use Rattle.source_blocks.proofs.Blocks.{rest_here, rest_end}
+use Rattle.source_statements.proofs.source_blocks_laws.Blocks.{rest_here, rest_end}
 use Rattle.source_execution.proofs.execution.Execution.place.Goals as goal
 
 pub returns-in-None : goal.returns-in-None

@@ -1,5 +1,5 @@
 use Rattle.std.proofs.Common.{◌∙◌, ap}
-use Rattle.roopl_semantics.specs.Report.{live_count}
+use Rattle.source_execution.specs.roopl_semantics.Report.{live_count}
 use Rattle.source_meaning.proofs.store.Store.live.Goals as goal
 
 pub returns : goal.returns

@@ -1,7 +1,7 @@
 use Rattle.std.proofs.Common.{◌∙◌, ap}
 use Rattle.std.specs.Prelude.{slice_get}
 use Rattle.std.specs.Option.{unwrap_or}
-use Rattle.roopl_semantics.specs.Store.{Nil, main_name, number_of, object_at}
+use Rattle.source_execution.specs.roopl_semantics.Store.{Nil, main_name, number_of, object_at}
 use Rattle.source_meaning.proofs.store.Store.main_field.Goals as goal
 
 pub returns : goal.returns

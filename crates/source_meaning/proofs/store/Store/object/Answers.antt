@@ -1,8 +1,8 @@
 use Rattle.std.proofs.Common.{◌∙◌, ap, subst, None}
 use Rattle.std.specs.Prelude.{slice_get}
 use Rattle.std.specs.Option.{unwrap_or, option_map}
-use Rattle.roopl_semantics.specs.Store.{object_named}
-use Rattle.roopl_semantics.specs.Laws.{CountsReferences}
+use Rattle.source_execution.specs.roopl_semantics.Store.{object_named}
+use Rattle.source_execution.specs.roopl_semantics.Laws.{CountsReferences}
 use Rattle.source_meaning.specs.Numbers.{numbers_of, seen_object}
 use Rattle.source_meaning.proofs.store.Store.object.Goals as goal
 

@@ -1,5 +1,5 @@
 use Rattle.std.proofs.Common.{not, sym, ap, ◌∙◌, arith}
-use Rattle.roopl_semantics.proofs.Orders.{order_from_one}
+use Rattle.meaning_machine.proofs.roopl_semantics_laws.Orders.{order_from_one}
 use Rattle.source_store.proofs.Asked.{asked_is_taken}
 use Rattle.source_store.proofs.heap.Heap.has_block.Goals as goal
 

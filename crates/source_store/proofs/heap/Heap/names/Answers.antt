@@ -1,6 +1,6 @@
 use Rattle.std.proofs.Common.{◌≡◌, ◌+◌, length, sym, ap, ◌∙◌, arith}
-use Rattle.buddy_book.specs.Place.{count_taken}
-use Rattle.roopl_semantics.specs.Store.{object_named}
+use Rattle.meaning_machine.specs.buddy_book.Place.{count_taken}
+use Rattle.meaning_machine.specs.roopl_semantics.Store.{object_named}
 use Rattle.source_store.proofs.Tables.{named_past}
 use Rattle.source_store.proofs.heap.Heap.names.Goals as goal
 

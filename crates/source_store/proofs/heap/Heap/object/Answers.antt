@@ -1,6 +1,6 @@
 use Rattle.std.proofs.Common.{sym, ap, ◌∙◌}
 use Rattle.std.specs.Prelude.{slice_get}
-use Rattle.roopl_semantics.specs.Store.{object_named}
+use Rattle.meaning_machine.specs.roopl_semantics.Store.{object_named}
 use Rattle.source_store.specs.HeapView.{live_in}
 use Rattle.source_store.proofs.Tables.{object_named_store}
 use Rattle.source_store.proofs.heap.Heap.object.Goals as goal

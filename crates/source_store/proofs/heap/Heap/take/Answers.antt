@@ -1,6 +1,6 @@
 use Rattle.std.proofs.Common.{◌≡◌, ◌++◌, ◌∷◌, [], length, arith, ap, ◌∙◌, refl, Some}
-use Rattle.buddy_book.specs.Place.{Taken}
-use Rattle.roopl_semantics.specs.Execution.{order_of_cells}
+use Rattle.meaning_machine.specs.buddy_book.Place.{Taken}
+use Rattle.meaning_machine.specs.roopl_semantics.Execution.{order_of_cells}
 use Rattle.source_store.specs.declared.object.Object.{Object as Live}
 use Rattle.source_store.specs.declared.requests.Request.TheVariants as asked
 use Rattle.source_store.proofs.Blocks.{took_so, took_shown}

@@ -1,5 +1,5 @@
 use Rattle.std.proofs.Common.{◌≡◌, ◌-◌, sym, ap, ◌∙◌, arith, Some, length, slice_get, refl}
-use Rattle.roopl_semantics.specs.Execution.{order_of_cells}
+use Rattle.meaning_machine.specs.roopl_semantics.Execution.{order_of_cells}
 use Rattle.source_store.specs.declared.object.Object.{Object as Live}
 use Rattle.source_store.specs.declared.requests.Request.TheVariants as asked
 use Rattle.source_store.specs.ValueView.{head_of, values_of}

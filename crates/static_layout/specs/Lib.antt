@@ -1,0 +1,1 @@
+pub use Rattle.roopl_semantics.specs as roopl_semantics

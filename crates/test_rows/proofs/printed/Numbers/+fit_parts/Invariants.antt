@@ -1,0 +1,5 @@
+use Rattle.std.proofs.Common.{length}
+use Rattle.test_rows.proofs.printed.Numbers.+fit_parts.Given as goal
+
+abbrev pub decreases-fit_parts : goal.decreases-fit_parts
+decreases-fit_parts l = length l.parts.now

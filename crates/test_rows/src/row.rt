@@ -1,0 +1,173 @@
+// A row: files, commands, and what they print, answer and leave.
+use crate::answers::Answer;
+use crate::files;
+use crate::printed::Numbers;
+use crate::texts::{is_word, words};
+use anyhow::{Context, Result, bail, ensure};
+use rpp_ports::MemoryShelf;
+use std::alloc::Global;
+
+/// Runs a row, and says how it differs from what its lines expect.
+pub fn run_row(alloc: Global, lines: &[String]) -> Result<()> {
+    let mut row = Row {
+        alloc,
+        shelf: MemoryShelf::new(alloc, Vec::new(alloc), Vec::new(alloc)),
+        numbers: Numbers::new(alloc),
+        answer: None,
+        has_run: false,
+    };
+    for line in lines {
+        row.take(line.as_str())?;
+    }
+    row.settle()?;
+    ensure!(row.has_run, "it has no command");
+    Ok(())
+}
+
+// A row as it runs: its files, the numbers that were printed, and the last answer.
+#[derive(Drop)]
+struct Row {
+    alloc: Global,
+    shelf: MemoryShelf,
+    numbers: Numbers,
+    answer: Option<Answer>,
+    has_run: bool,
+}
+
+impl Row {
+    // Does what a line says.
+    fn take(&mut self, line: &str) -> Result<()> {
+        if line == "$" {
+            return self.run("", false);
+        }
+        if let Some(text) = line.strip_prefix("$ ") {
+            return self.run(text, true);
+        }
+        if line.starts_with('>') || line.starts_with("= ") || line.starts_with("unlike ") {
+            return self.want(line);
+        }
+        if let Some(text) = line.strip_prefix("if ") {
+            self.settle()?;
+            return self.compare_numbers(text);
+        }
+        self.take_files(line)
+    }
+
+    // Does what a line on files says.
+    fn take_files(&mut self, line: &str) -> Result<()> {
+        if let Some((name, other, changes)) = files::copying(line) {
+            self.settle()?;
+            return files::copy(self.alloc, &mut self.shelf, name, other, changes);
+        }
+        let Some((how, rest)) = line.split_once(' ') else {
+            return self.take_text("file", line);
+        };
+        if how == "none" || how == "same" || how == "size" {
+            self.settle()?;
+        }
+        match how {
+            "none" => files::look_for_none(&self.shelf, rest),
+            "same" => files::look_for_same(&self.shelf, rest),
+            "size" => files::look_for_size(&self.shelf, rest),
+            "is" | "begins" | "ends" => self.take_text(how, rest),
+            _ => self.take_text("file", line),
+        }
+    }
+
+    // Writes a file, or compares one that a command has left.
+    fn take_text(&mut self, how: &str, line: &str) -> Result<()> {
+        let (name, text) = line
+            .split_once(':')
+            .context("a line that is none of a row")?;
+        ensure!(is_word(name), "{name} is no name of a file");
+        let text = text.strip_prefix(' ').unwrap_or(text);
+        if how == "file" {
+            return files::write(self.alloc, &mut self.shelf, name, text);
+        }
+        self.settle()?;
+        files::compare(self.alloc, &self.shelf, how, name, text)
+    }
+
+    // Runs a command.
+    fn run(&mut self, text: &str, has_words: bool) -> Result<()> {
+        self.settle()?;
+        let text = self.with_numbers(text)?;
+        let mut words = words(self.alloc, text.as_str())?;
+        if !has_words {
+            words.clear();
+        }
+        self.answer = Some(Answer::new(self.alloc, text.as_str(), &words, &mut self.shelf)?);
+        self.has_run = true;
+        Ok(())
+    }
+
+    // Wants what a line says of the last answer.
+    fn want(&mut self, line: &str) -> Result<()> {
+        let Some(answer) = &mut self.answer else {
+            bail!("no command stands before {line}");
+        };
+        if let Some(statuses) = line.strip_prefix("= ") {
+            return answer.end_with(self.alloc, statuses);
+        }
+        if let Some(text) = line.strip_prefix("unlike ") {
+            return answer.refuse(self.alloc, text);
+        }
+        answer.want(line.strip_prefix("> ").unwrap_or(""))
+    }
+
+    // Compares the last result with what is expected of it.
+    fn settle(&mut self) -> Result<()> {
+        match self.answer.take() {
+            Some(answer) => answer.settle(&mut self.numbers),
+            None => Ok(()),
+        }
+    }
+
+    // The text with its <NAME>s, <NAME+1>s and <NAME-1>s.
+    fn with_numbers(&self, text: &str) -> Result<String> {
+        let mut made = String::new(self.alloc);
+        for (at, piece) in text.split('<').enumerate() {
+            if at == 0 {
+                made.push_str(piece)?;
+                continue;
+            }
+            match piece.split_once('>') {
+                Some((name, rest)) => {
+                    let value = self
+                        .numbers
+                        .value(name)
+                        .context(format_args!("no number {name} was printed"))?;
+                    write!(made, "{value}{rest}")?;
+                }
+                None => write!(made, "<{piece}")?,
+            }
+        }
+        Ok(made)
+    }
+
+    // Compares sums of numbers that were printed.
+    fn compare_numbers(&self, text: &str) -> Result<()> {
+        let text = self.with_numbers(text)?;
+        let text = text.as_str();
+        let holds = if let Some((left, right)) = text.split_once(" = ") {
+            sum(left)? == sum(right)?
+        } else if let Some((left, right)) = text.split_once(" <= ") {
+            sum(left)? <= sum(right)?
+        } else {
+            let (left, right) = text.split_once(" < ").context("two sums")?;
+            sum(left)? < sum(right)?
+        };
+        ensure!(holds, "{text} does not hold");
+        Ok(())
+    }
+}
+
+// The sum of numbers with + between them.
+fn sum(text: &str) -> Result<i64> {
+    let mut sum: i64 = 0;
+    for number in text.split(" + ") {
+        let number = number.parse::<i64>().context("a number")?;
+        sum = sum.checked_add(number).context("a sum")?;
+    }
+    Ok(sum)
+}
