@@ -1,6 +1,7 @@
-"""Plain judges of texts and files, written apart from the program: each finds the first refusal by the rules of a format.
+"""Plain checkers of texts and files, independent of the program: each finds the first refusal by the rules of a format.
 
-A refusal is its number with its place, or with None where it has none. docs/FORMATS.md and docs/LANGUAGE.md have the rules."""
+A refusal is its number with its position, or with None. docs/reference/formats.md and docs/reference/messages.md have the
+rules."""
 import re
 
 NAMES = dict(enumerate('''BadByte NumberTooLarge Syntax Limit DuplicateClass UnknownClass InheritanceCycle DuplicateField DuplicateMethod
@@ -26,13 +27,13 @@ class Refused(Exception):
 
 
 def line_of(refusal):
-    """The line that tells a refusal."""
+    """The line that reports a refusal."""
     number, place = refusal
     return f'refused {number} {NAMES[number]}' + ('' if place is None else f' at {place}') + '\n'
 
 
 def found(judge, *given):
-    """The refusal that a judge finds, or None."""
+    """The refusal that a checker finds, or None."""
     try:
         judge(*given)
         return None
@@ -91,7 +92,7 @@ def judge_cell(data, at):
 
 
 def judge_marks(data, at, cells):
-    """The marks at a place, behind which the answer is."""
+    """The source-map entries at an offset, then the answer."""
     count = field(data, at, 4, 0, 20000)
     for mark in range(at + 4, at + 4 + 12 * count, 12):
         first = field(data, mark, 4, 0, cells)
@@ -101,7 +102,7 @@ def judge_marks(data, at, cells):
 
 
 def judge_names(data, at, statics):
-    """The names at a place, behind which the answer is."""
+    """The names at an offset, then the answer."""
     count, at, left = field(data, at, 4, 0, 64), at + 4, 1048576
     for _ in range(count):
         field(data, at, 4, 40, statics + 39)
@@ -225,7 +226,7 @@ def fits_operand(kind, word):
 
 
 def judge_form(words, line):
-    """The words behind the labels of a line, by their form."""
+    """The words after the labels of a line, by their form."""
     name, *rest = words or [b'']
     if not words:
         return
@@ -304,7 +305,7 @@ def length_of_token(text):
 
 
 def cut_tokens(text):
-    """The places where tokens begin, as far as they go, and the first refusal of the cutting."""
+    """The offsets where tokens begin, as far as they go, and the first refusal of the tokenization."""
     at, places = 0, []
     while True:
         at = re.compile(rb'(?:[ \t\n\r]|//[^\n]*)*').match(text, at).end()
