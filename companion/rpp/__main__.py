@@ -1,0 +1,122 @@
+"""The command `rpp`: finds the module of the first word, and hands it the others.
+
+A command is a line of COMMANDS. Its module has a function `main(words) -> status` and is loaded when the command is called;
+a function `parser()` beside it tells completion and `rpp help` the words.
+"""
+import importlib
+import os
+import sys
+from typing import List, NamedTuple
+
+from .options import Unfit
+from .program import Interrupted, Killed, NoProgram, OverSource
+from .screen import WHEN, choose
+from .spelling import similar
+
+
+class Command(NamedTuple):
+    """A command: its module below this package, and what it does."""
+    module: str
+    text: str
+
+
+# In the order of `rpp --help`.
+COMMANDS = {
+    'run': Command('run', 'run a source, and say where and why it stopped'),
+    'check': Command('check', 'check sources, with messages in the form F:LINE:COL: text'),
+    'fmt': Command('fmt', 'lay sources out in place'),
+    'debug': Command('debug', 'go both ways along a run, by a prompt or a script'),
+    'film': Command('film', 'one page that shows a run both ways'),
+    'side': Command('side', 'a source beside its inverse'),
+    'inverse': Command('inverse', 'the program that undoes a source'),
+    'list': Command('listing', 'the cells of the compiled program, with the statement of each'),
+    'heap': Command('heap', 'the memory of a run as a picture'),
+    'picture': Command('picture', 'the store at a position, as a figure for a paper'),
+    'state': Command('state', 'a start state with an input, for `rooplpp run`'),
+    'test': Command('testing', 'judge programs by what their comments expect, or an exercise expects'),
+    'stat': Command('measuring', 'what runs take over a range of inputs, as a table or a plot'),
+    'kernel': Command('kernel', 'ROOPL++ in Jupyter notebooks'),
+    'lsp': Command('lsp', 'the language server, over standard input'),
+    'dap': Command('dap', 'the debug adapter, over standard input'),
+    'help': Command('help', 'what a command, a refusal or a fault is'),
+    'complete': Command('complete', 'what can follow on a command line, for shells'),
+    'version': Command('version', 'the commit, the kit, and which program is called'),
+}
+COLOUR = '--color'
+WRONG_WORDS = 1
+
+
+def usage() -> str:
+    rows = [f'  {name:9}{command.text}' for name, command in COMMANDS.items()]
+    return '\n'.join([
+        'rpp: the companion of rooplpp for people',
+        '',
+        'usage: rpp COMMAND WORDS ..',
+        '', *rows, '',
+        '`rpp help COMMAND` tells its words, `rpp help 16` what refusal or fault 16 is, and `rpp help if` what a statement does.',
+        f'Every command takes `{COLOUR} WHEN`: {", ".join(WHEN)}. A source that is named - is standard input.', ''])
+
+
+def without_colour(words: List[str]) -> List[str]:
+    """The words without `--color WHEN` or `--color=WHEN`, which says whether colours are used."""
+    left: List[str] = []
+    waiting = list(words)
+    while waiting:
+        word = waiting.pop(0)
+        if word == '--':
+            return left + [word, *waiting]
+        if word != COLOUR and not word.startswith(f'{COLOUR}='):
+            left.append(word)
+            continue
+        when = word[len(COLOUR) + 1:] if '=' in word else waiting.pop(0) if waiting else ''
+        if when not in WHEN:
+            raise Unfit(f'{COLOUR} {when}: it is one of {", ".join(WHEN)}')
+        choose(when)
+    return left
+
+
+def main(words: List[str]) -> int:
+    try:
+        return run_command(words if words[:1] == ['complete'] else without_colour(words))
+    except Unfit as wrong:
+        print(f'rpp: {wrong}', file=sys.stderr)
+        return WRONG_WORDS
+
+
+def run_command(words: List[str]) -> int:
+    if not words or words[0] in ('--help', '-h'):
+        print(usage(), end='')
+        return 0 if words else WRONG_WORDS
+    command = COMMANDS.get({'--version': 'version', '-V': 'version'}.get(words[0], words[0]))
+    if command is None:
+        near = similar(words[0], COMMANDS)
+        meant = f'; did you mean `{near}`?' if near else '; `rpp --help` names them all'
+        print(f'rpp: there is no command {words[0]}{meant}', file=sys.stderr)
+        return WRONG_WORDS
+    try:
+        status = importlib.import_module(f'rpp.{command.module}').main(words[1:])
+        sys.stdout.flush()
+        return status
+    except (NoProgram, OverSource, Unfit, Killed) as wrong:
+        text = str(wrong)
+        print(text if text.startswith('rpp:') else f'rpp: {text}', file=sys.stderr)
+        return 126 if isinstance(wrong, NoProgram) else WRONG_WORDS
+    except BrokenPipeError:
+        # Who reads the output has enough of it: as a filter does, end without a word.
+        os.dup2(os.open(os.devnull, os.O_WRONLY), sys.stdout.fileno())
+        return 141
+    except OSError as wrong:
+        print(f'rpp: {wrong.filename}: {wrong.strerror}' if wrong.filename else f'rpp: {wrong}', file=sys.stderr)
+        return 2
+    except (Interrupted, KeyboardInterrupt):
+        print('rpp: stopped by ^C', file=sys.stderr)
+        return 130
+
+
+def command() -> int:
+    """The command as an installation starts it."""
+    return main(sys.argv[1:])
+
+
+if __name__ == '__main__':
+    sys.exit(command())

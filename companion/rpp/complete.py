@@ -1,0 +1,87 @@
+"""`rpp complete WORD ..`: what the last word of a command line can be, a line each. The completion of shells asks it."""
+import argparse
+import importlib
+import os
+from typing import Iterable, List, Optional
+
+from .forms import FORMS, WORDS
+from .names import input_fields as fields_of
+from .options import Parser
+from .rules import FAULTS, REFUSALS
+
+SOURCES = ('source', 'sources')
+
+
+def parser() -> Parser:
+    return Parser(prog='rpp complete', description=__doc__.split(':', 1)[1].strip())
+
+
+def main(words: List[str]) -> int:
+    last = words[-1] if words else ''
+    for each in candidates(words[:-1], last):
+        print(each)
+    return 0
+
+
+def candidates(before: List[str], last: str) -> List[str]:
+    from .__main__ import COMMANDS
+    if not before:
+        return matching(last, [*COMMANDS, '--help'])
+    if before[0] == 'help':
+        known = {str(rule.number) for rule in REFUSALS + FAULTS} | {rule.name for rule in REFUSALS + FAULTS}
+        return matching(last, sorted(known | set(COMMANDS) | {name.rstrip('[]:') for name in FORMS} | set(WORDS)))
+    command = COMMANDS.get(before[0])
+    if command is None:
+        return []
+    words = parser_of(command.module)
+    asked = option_named(words, before[-1])
+    if asked is not None and asked.nargs != 0:
+        return matching(last, asked.choices) if asked.choices else files(last, '')
+    if last.startswith('-'):
+        return matching(last, [name for each in words._actions for name in each.option_strings if name.startswith('--')])
+    positional = [each.dest for each in words._actions if not each.option_strings]
+    fields = input_fields(before) if 'assignments' in positional else []
+    return files(last, '.rpp' if set(positional) & set(SOURCES) else '') + matching(last, [f'{name}=' for name in fields])
+
+
+def parser_of(module: str) -> argparse.ArgumentParser:
+    """The parser of a command; one without words where its module has none."""
+    found = importlib.import_module(f'rpp.{module}')
+    return found.parser() if hasattr(found, 'parser') else Parser()
+
+
+def option_named(words: argparse.ArgumentParser, name: str) -> Optional[argparse.Action]:
+    return next((each for each in words._actions if name in each.option_strings), None)
+
+
+def matching(last: str, words: Iterable[str]) -> List[str]:
+    return [str(each) for each in words if str(each).startswith(last)]
+
+
+def files(last: str, ending: str) -> List[str]:
+    """The files with this ending, and the folders, whose names begin so."""
+    folder, begin = os.path.split(last)
+    try:
+        names = sorted(os.listdir(folder or '.'))
+    except OSError:
+        return []
+    found = []
+    for name in names:
+        path = os.path.join(folder, name)
+        if not name.startswith(begin) or name.startswith('.') and not begin:
+            continue
+        if os.path.isdir(path):
+            found.append(f'{path}/')
+        elif name.endswith(ending):
+            found.append(path)
+    return found
+
+
+def input_fields(before: List[str]) -> List[str]:
+    """The int fields of the main object of the source among these words, less those that have a number."""
+    source = next((word for word in before[1:] if os.path.isfile(word)), None)
+    if source is None:
+        return []
+    given = {word.split('=')[0] for word in before if '=' in word}
+    with open(source, 'rb') as file:
+        return [each for each in fields_of(file.read()) if each not in given]

@@ -1,0 +1,63 @@
+"""The message for a refusal or a fault: what is wrong with the names at hand, and what to write.
+
+    said = of_refusal(text, 16, 1131)       # the bytes of the source, the number, the place
+    said.sentence, said.fix, said.edits     # '`count` must not occur in its own value: ..', 'Read the value into ..', ()
+    said.is_own                             # whether the sentence is of this very text, not the general one of the rule
+
+Only the program says that a text is refused, and where; this module reads the text."""
+from typing import NamedTuple, Optional, Tuple
+
+from .fault_slots import Where, fault_slots
+from .rules import FAULT_OF, REFUSAL_OF, Rule
+from .slots import filled, slots
+from .syntax import Edit, byte_hint, syntax_hint
+
+
+class Message(NamedTuple):
+    """A message of one refusal or fault."""
+    rule: Optional[Rule]
+    sentence: str
+    fix: str = ''
+    detail: str = ''
+    edits: Tuple[Edit, ...] = ()
+    title: str = ''
+    is_own: bool = False
+
+    @property
+    def one_line(self) -> str:
+        """The sentence with its detail."""
+        return f'{self.sentence} {self.detail}'.strip()
+
+
+def of_refusal(text: bytes, number: int, at: Optional[int]) -> Message:
+    rule = REFUSAL_OF.get(number)
+    if rule is None or at is None:
+        return Message(rule, rule.sentence if rule else '', rule.fix if rule else '')
+    if rule.name == 'Syntax':
+        return of_syntax(text, rule, at)
+    if rule.name == 'BadByte':
+        hint = byte_hint(text, at)
+        if hint is not None:
+            return Message(rule, hint.sentence, hint.fix, '', hint.edits, hint.title, True)
+    found = filled(rule.forms, slots(text, number, at), rule.fix)
+    return Message(rule, *(found or (rule.sentence, rule.fix)), is_own=found is not None)
+
+
+def of_syntax(text: bytes, rule: Rule, at: int) -> Message:
+    hint = syntax_hint(text, at)
+    found = filled(rule.forms, {'expected': hint.expected, 'found': hint.found} if hint.expected else {})
+    detail = found[0] if found else ''
+    if hint.sentence:
+        return Message(rule, hint.sentence, hint.fix, detail, hint.edits, hint.title, True)
+    return Message(rule, detail or rule.sentence, rule.fix)
+
+
+def of_fault(number: int, where: Optional[Where], is_back: bool = False) -> Message:
+    """The message of a fault, in the words of the direction in which its body ran; `where` is None where that is not known."""
+    rule = FAULT_OF.get(number)
+    if rule is None:
+        return Message(None, '')
+    is_back = where.is_back if where else is_back
+    fix = rule.fix_back if is_back and rule.fix_back else rule.fix
+    found = filled(rule.back if is_back and rule.back else rule.forms, fault_slots(where, number), fix) if where else None
+    return Message(rule, *(found or (rule.sentence, fix)), is_own=found is not None)

@@ -1,0 +1,157 @@
+"""`rpp film F [-o OUT.html]`: a page of a run, along which a browser goes both ways. What it shows of the run is what
+`trace` printed."""
+import os
+import sys
+from typing import Any, Dict, List, Optional, Tuple
+
+from .options import Parser, Unfit, add_run_options, add_source, input_file
+from .outline import Outline
+from .page import as_script, page, tell_refused, write_page
+from .places import Text
+from .program import Interrupted, Program
+from .reading import shown, title
+from .trace import Fault, Moment, Refused, SourceRun, Thing
+
+MOST_POINTS = 2000
+CHUNK = 500
+FILES = ['film.css', 'film.js']
+WORDS = ('The arrow keys left and right go one statement, with shift over calls; home and end, the slider and the picture of '
+         'the open calls above it go anywhere. A statement that is being undone has another colour.')
+SCRIPT = '''const film = RooplFilm.show(document.querySelector('main'), {data},
+  {{keys: document, start: Number(location.hash.slice(1)), onmove: index => history.replaceState(null, '', '#' + index)}});
+'''
+
+
+class Directions:
+    """Tells, point by point, whether the body in which a statement stands runs backward: it does where an odd number of
+    the calls open round it are written `uncall`."""
+
+    def __init__(self, outline: Outline):
+        self.outline = outline
+        self.open = [False]
+        self.before: Optional[int] = None
+
+    def uncalled(self, place: Optional[int], depth: Optional[int]) -> bool:
+        """For the next point, with its place and depth."""
+        if depth is not None and depth > len(self.open) and self.before is not None:
+            call = self.outline.call_at(self.before)
+            self.open.append(self.open[-1] != (call is not None and call.is_uncall))
+        del self.open[max(depth or 1, 1):]
+        self.before = place
+        return self.open[-1]
+
+
+class Film:
+    """The data of film.js: each object that stands at several positions is written once."""
+
+    def __init__(self, text: Text):
+        self.directions = Directions(Outline(text, []))
+        self.objects: List[Dict[str, Any]] = []
+        self.numbers: Dict[Thing, int] = {}
+        self.positions: List[Dict[str, Any]] = []
+
+    def add(self, moment: Moment) -> None:
+        """Adds the position behind the last one."""
+        point = moment.point
+        position = {'place': point.place, 'depth': point.depth or 0,
+                    'uncalled': self.directions.uncalled(point.place, point.depth),
+                    'variables': moment.variables, 'objects': [self.number(thing) for thing in moment.objects.values()]}
+        if point.fault:
+            position['note'] = fault_note(point.fault)
+        self.positions.append(position)
+
+    def number(self, thing: Thing) -> int:
+        """The index of an object as it stands now."""
+        if thing not in self.numbers:
+            self.numbers[thing] = len(self.objects)
+            self.objects.append({'name': f'#{thing.number}', 'head': thing.head, 'count': thing.count, 'cells': thing.cells})
+        return self.numbers[thing]
+
+
+def moments_of(run: SourceRun, most: int) -> Tuple[List[Moment], str]:
+    """The first moments of a run, at most so many, and why they are not all, or ''."""
+    found: List[Moment] = []
+    chunk = CHUNK
+    while len(found) < most:
+        try:
+            part = run.states(len(found), min(chunk, most - len(found)))
+        except Interrupted:
+            return found, 'stopped by ^C'
+        except Refused as refused:
+            if refused.told.kind != 'memory' or not found and chunk == 1:
+                raise
+            if chunk == 1:
+                return found, 'the program had not memory enough for what comes then'
+            chunk //= 2
+            continue
+        found += part
+        progress(len(found))
+        if not part or run.last and run.last.position < len(found):
+            return found, ''
+    return found, f'--most {10 * most} shows more' if run.last is None else ''
+
+
+def progress(count: int) -> None:
+    """Says on a terminal how far the reading of a long run has come."""
+    if sys.stderr.isatty():
+        print(f'{count} positions', end='\r', file=sys.stderr, flush=True)
+
+
+def film_data(run: SourceRun, most: int) -> Tuple[Dict[str, Any], str]:
+    """The data of film.js for the first positions of a run, at most so many, and why they are not all, or ''."""
+    film = Film(run.text)
+    moments, lacking = moments_of(run, most)
+    for moment in moments:
+        film.add(moment)
+    # (a fault is told where a move beyond was tried)
+    if moments and run.last and run.last.fault and run.last.position == moments[-1].point.position:
+        film.positions[-1]['note'] = fault_note(run.last.fault)
+    return {'source': as_text(run.text.content), 'name': title(run.source),
+            'positions': film.positions, 'objects': film.objects}, lacking
+
+
+def fault_note(fault: Fault) -> str:
+    return f'fault {fault.number} {fault.name}'.rstrip()
+
+
+def as_text(source: bytes) -> str:
+    """The characters of a source; a byte that is no UTF-8 is a question mark, so that places stay."""
+    return ''.join('?' if '\udc80' <= each <= '\udcff' else each for each in source.decode('utf-8', 'surrogateescape'))
+
+
+def film_page(data: Dict[str, Any]) -> str:
+    return page(f'{data["name"]}: the film of its run', WORDS, FILES, script=SCRIPT.format(data=as_script(data)))
+
+
+def parser() -> Parser:
+    made = Parser(prog='rpp film', description='Makes a page of the run of a program.')
+    add_source(made)
+    add_run_options(made)
+    made.add_argument('-o', '--out', metavar='OUT.html', help='the page; F with .html in the place of .rpp where it is not given')
+    made.add_argument('--most', type=int, default=MOST_POINTS, metavar='N', help=f'show the first N positions ({MOST_POINTS})')
+    return made
+
+
+def read_film(given) -> Tuple[Dict[str, Any], str]:
+    """The data of the film, and why it is not the whole run, or ''."""
+    program = Program.found()
+    with program.folder() as folder:
+        inputs = input_file(given, folder)
+        with SourceRun(program, given.source, given.heap, given.depth, inputs) as run:
+            return film_data(run, given.most)
+
+
+def main(words: List[str]) -> int:
+    given = parser().parse_intermixed_args(words)
+    if given.most < 1:
+        raise Unfit('--most is 1 or more')
+    name = 'film' if shown(given.source) != given.source else os.path.splitext(given.source)[0]
+    out = given.out or f'{name}.html'
+    try:
+        data, lacking = read_film(given)
+    except Refused as refused:
+        return tell_refused(refused, given.source)
+    write_page(out, film_page(data), *filter(None, (given.source, given.input)))
+    count = len(data['positions'])
+    print(f'{out}: the first {count} positions; {lacking}' if lacking else f'{out}: all {count} positions')
+    return 0

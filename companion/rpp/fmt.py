@@ -1,0 +1,60 @@
+"""`rpp fmt F ..`: lays sources out in place."""
+import sys
+from typing import List
+
+from .explain import of_refusal
+from .formatter import formatted
+from .messages import read_answer
+from .options import Parser
+from .places import Text
+from .program import Program
+from .reading import STDIN, readable, shown
+from .report import source_refused_line
+from .source import parsed
+
+
+def parser() -> Parser:
+    made = Parser(prog='rpp fmt', description=__doc__.split(':', 1)[1].strip(),
+                  epilog='Tokens and comments stay, and so do the line breaks between statements. A source that leaves the grammar is left '
+                         'as it is, and the status is 1. Standard input is laid out to standard output.')
+    made.add_argument('sources', metavar='F', nargs='+', help='a source; - is standard input')
+    made.add_argument('--check', action='store_true', help='write nothing, name what is not laid out, and end with 1 if there is any')
+    return made
+
+
+def main(words: List[str]) -> int:
+    given = parser().parse_args(words)
+    return max([laid_out(source, given.check) for source in given.sources])
+
+
+def laid_out(source: str, only_looks: bool) -> int:
+    """Lays one source out, or looks whether it is; the status that it asks for."""
+    path = readable(source)
+    with open(path, 'rb') as file:
+        text = file.read()
+    if not parsed(text).is_whole:
+        tell_left(path, text)
+        if source == STDIN and not only_looks:
+            sys.stdout.buffer.write(text)
+        return 1
+    made = formatted(text)
+    if only_looks:
+        if made != text:
+            print(f'{shown(path)}: not laid out')
+        return int(made != text)
+    if path != source:
+        sys.stdout.buffer.write(made)
+    elif made != text:
+        with open(path, 'wb') as out:
+            out.write(made)
+    return 0
+
+
+def tell_left(path: str, text: bytes) -> None:
+    """Says why a source is left as it is."""
+    told = read_answer(Program.found().call('check', path))
+    if told.kind == 'refused' and told.at is not None:
+        message = of_refusal(text, told.number, told.at)
+        print(source_refused_line(shown(path), Text(text), told, message), file=sys.stderr)
+    else:
+        print(f'{shown(path)}: left as it is: it leaves the grammar', file=sys.stderr)

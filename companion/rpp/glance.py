@@ -1,0 +1,60 @@
+"""A look at a text that costs little, for what is asked at each keystroke: all heads, and the statements of one method.
+
+The bodies of the other methods are blank in it, comments excepted, so that every place is that of the whole text."""
+import re
+from typing import List, NamedTuple, Optional
+
+from .editing import Analysis
+from .source import Method
+from .tokens import NAME
+
+HEAD = re.compile(rb"//[^\n]*|(?<![A-Za-z0-9_'])(?:class(?![A-Za-z0-9_'])|method\s+(?:" + NAME.encode() + rb")\s*\([^()/]*\))")
+CODE = re.compile(rb'(//[^\n]*)|[^\n/]+|/')
+COMMENT = re.compile(rb'//[^\n]*')
+
+
+class Body(NamedTuple):
+    """The body of a method: where its head begins, and from byte to byte."""
+    head: int
+    begin: int
+    end: int
+
+
+def bodies(text: bytes) -> List[Body]:
+    """The bodies of the methods, each up to the next head."""
+    heads = [each for each in HEAD.finditer(text) if not each.group().startswith(b'//')]
+    ends = [each.start() for each in heads[1:]] + [len(text)]
+    return [Body(each.start(), each.end(), end) for each, end in zip(heads, ends) if each.group().startswith(b'method')]
+
+
+def blank(code: bytes) -> bytes:
+    """Spaces for all but comments and line feeds."""
+    return CODE.sub(lambda found: found[1] or b' ' * len(found[0]), code)
+
+
+class Glance(Analysis):
+    """A text with the statements of the method at a byte, or of none."""
+
+    def __init__(self, text: bytes, at: Optional[int] = None):
+        self.bodies = bodies(text)
+        self.open = next((each for each in self.bodies if at is not None and each.begin <= at <= each.end), None)
+        parts, end = [], 0
+        for each in self.bodies:
+            if each is not self.open:
+                parts += [text[end:each.begin], blank(text[each.begin:each.end])]
+                end = each.end
+        super().__init__(b''.join([*parts, text[end:]]))
+        self.whole = text
+
+    def is_of(self, at: int) -> bool:
+        """Whether the statements of the method at this byte are there, where there is one."""
+        found = next((each for each in self.bodies if each.begin <= at <= each.end), None)
+        return found is None or found is self.open
+
+    def end_of(self, method: Method) -> int:
+        begin = self.source.tokens[method.first].at
+        body = next((each for each in self.bodies if each.head == begin), None)
+        if body is None:
+            return super().end_of(method)
+        code = COMMENT.sub(lambda found: b' ' * len(found[0]), self.whole[begin:body.end])
+        return begin + len(code.rstrip())

@@ -1,0 +1,234 @@
+"""The prompt of `rpp debug IMG`: both ways along the run of an image, step by step of the machine, through `debug`."""
+import re
+import sys
+from typing import Callable, Dict, List, NamedTuple, Optional, Tuple
+
+from .messages import read_answer, refusal
+from .options import Unfit
+from .places import Text
+from .program import Program
+from .prompt import Prompt, hold, number_of
+from .reading import title
+from .report import failure_lines
+from .state import NOTE
+from .tokens import NAME
+from .trace import FAR, MachineRun, Refused
+
+FIRST_BOUND = 1_000_000
+WINDOW = 2000
+MARK = re.compile(r'^MARK (\d+) (\d+) (\d+)$', re.M)
+REGISTERS = re.compile(r'^\$(\d+) = (-?\d+)$', re.M)
+CELLS = re.compile(r'^cell (\d+) = (-?\d+)$', re.M)
+WATCHED = re.compile(rf'^(?:\$(\d+)|(\d+)|({NAME}))$')
+
+
+class Listing(NamedTuple):
+    """The listing of an image: its instructions, its marks (first cell, cell behind, place of the source), and the cells
+    of its names."""
+    code: List[str]
+    marks: List[Tuple[int, int, int]]
+    names: Dict[str, int]
+
+    @classmethod
+    def of(cls, program: Program, image: str) -> 'Listing':
+        with program.folder() as folder:
+            told = read_answer(program.call('list', image, folder.name('listing')))
+            if told.kind != 'done':
+                raise Refused(told)
+            with open(folder.name('listing'), encoding='utf-8') as file:
+                text = file.read()
+        code = [line for line in text.split('\n') if line and not line.startswith(('STATIC', 'MARK', 'NAME'))]
+        marks = [(int(first), int(behind), int(place)) for first, behind, place in MARK.findall(text)]
+        return cls(code, marks, {name: int(cell) for cell, name in NOTE.findall(text)})
+
+    def place(self, pc: int) -> Optional[int]:
+        """The place of the mark with the fewest cells that has this one; the first of equal ones."""
+        found = [mark for mark in self.marks if mark[0] <= pc < mark[1]]
+        return min(found, key=lambda mark: mark[1] - mark[0])[2] if found else None
+
+
+class MachinePrompt(Prompt):
+    """The prompt along the run of an image, from the loaded memory on; positions are steps of the machine."""
+
+    aliases = {'s': 'step', 'b': 'back', 'p': 'print', 'c': 'continue', 'rc': 'reverse-continue', 'l': 'list', 'u': 'until',
+               'q': 'quit', 'w': 'where', 'r': 'regs'}
+
+    def __init__(self, run: MachineRun, listing: Listing, source: Optional[str], echo: bool):
+        super().__init__(echo)
+        self.run = run
+        self.listing = listing
+        self.source = source
+        self.text = Text.read(source) if source else None
+        self.breaks: List[int] = []
+        self.standing = run.walk(['step 0'])[0][-1]
+
+    def here(self) -> None:
+        """Where the machine stands, its instruction, and its statement."""
+        at = self.standing
+        code = self.listing.code[at.pc] if 0 <= at.pc < len(self.listing.code) else 'no cell of the code'
+        note = f'  {at.note}' if at.note else ''
+        print(f'[{at.position}] pc {at.pc} br {at.br} dir {at.dir}  {code}{note}')
+        place = self.listing.place(at.pc)
+        if place is not None and self.text:
+            print(f'{self.text.spelled(title(self.source), place)}\n{self.text.pointed(place)}')
+        elif place is not None:
+            print(f'at byte {place} of its source; --source F shows the line')
+
+    def moved(self, line: str) -> None:
+        """Makes the moves of a line of the program's scripts from where the session stands."""
+        self.standing = self.run.walk([f'step {self.standing.position}', line])[0][-1]
+        self.here()
+
+    def do_step(self, arg: str) -> None:
+        """step [N]: N steps of the machine on."""
+        self.moved(f'step {number_of(arg, 1)}')
+
+    def do_back(self, arg: str) -> None:
+        """back [N]: N steps of the machine back."""
+        self.moved(f'back {number_of(arg, 1)}')
+
+    def do_go(self, arg: str) -> None:
+        """go POSITION: to this position, on or back."""
+        self.standing = self.run.walk([f'step {number_of(arg)}'])[0][-1]
+        self.here()
+
+    def do_until(self, arg: str) -> None:
+        """until PC: on until the machine stands at this cell."""
+        self.sought([number_of(arg)], back=False)
+
+    def do_break(self, arg: str) -> None:
+        """break [PC]: stop at this cell; without PC, the breakpoints that stand."""
+        if arg:
+            self.breaks = sorted(set(self.breaks) | {number_of(arg)})
+        self.say([f'breakpoints at {", ".join(str(pc) for pc in self.breaks)}' if self.breaks else 'there are no breakpoints'])
+
+    def do_clear(self, arg: str) -> None:
+        """clear [PC]: takes the breakpoint at this cell away, or all."""
+        self.breaks = [pc for pc in self.breaks if arg and pc != number_of(arg)]
+
+    def do_continue(self, _arg: str) -> None:
+        """continue: on to the next breakpoint, or to the end."""
+        self.sought(self.breaks, back=False)
+
+    def do_reverse_continue(self, _arg: str) -> None:
+        """reverse-continue: back to the last breakpoint, or to the start."""
+        self.sought(self.breaks, back=True)
+
+    def sought(self, cells: List[int], back: bool) -> None:
+        """To the nearest standing at one of the cells, or to the end or the start; looks ever further."""
+        word, plain = ('backto', 'back') if back else ('to', 'step')
+        begin, bound = self.standing.position, FIRST_BOUND
+        while True:
+            lines: List[str] = []
+            for line in [f'{word} {pc} {bound}' for pc in cells] or [f'{plain} {bound}']:
+                lines += [f'back {FAR}', f'step {begin}', line]
+            found = self.run.walk(lines)[0][2::3]
+            nearest = (max if back else min)(found, key=lambda at: at.position)
+            if (cells and nearest.pc in cells and nearest.position != begin) or abs(nearest.position - begin) < bound:
+                break
+            bound *= 2
+            self.notify(f'looked up to position {nearest.position}')
+        self.standing = nearest
+        self.here()
+
+    def do_next(self, _arg: str) -> None:
+        """next: only sources have it; an image knows no depth of calls."""
+        raise Unfit('next and finish go by open calls, which an image does not tell: debug the source for them')
+
+    do_finish = do_next
+
+    def do_regs(self, _arg: str) -> None:
+        """regs: the registers that are not 0."""
+        _, output = self.run.walk([f'step {self.standing.position}', 'regs'])
+        self.say(output.rstrip('\n').split('\n')[1:])
+
+    def do_cells(self, arg: str) -> None:
+        """cells A [N]: N cells of the memory from A on."""
+        words = arg.split() + ['1']
+        found = self.run.cells(self.standing.position, number_of(words[0]), number_of(words[1]))
+        self.say([f'cell {number} = {value}' for number, value in found.items()] or ['there are no such cells'])
+
+    def do_print(self, arg: str) -> None:
+        """print [NAME]: the int fields of the main object, or $K, a field, or the cell with this number."""
+        names = [arg] if arg else list(self.listing.names)
+        if not names:
+            self.say(['the image has no names of fields'])
+        for name in names:
+            read = self.reader(name)
+            _, output = self.run.walk([f'step {self.standing.position}', read[0]])
+            self.say([f'{name} = {read[1](output)}'])
+
+    def do_watch(self, arg: str) -> None:
+        """watch [back] $K, NAME or A: on to where the register, the field or the cell has changed, or back to where it had not."""
+        words = arg.split()
+        back = words[:1] == ['back']
+        if len(words) != 1 + back:
+            raise Unfit('watch $6, watch count or watch 41; and watch back ..')
+        line, read = self.reader(words[-1])
+        self.watched(line, read, back)
+        self.here()
+
+    def reader(self, name: str) -> Tuple[str, Callable[[str], int]]:
+        """The line that shows a register, a field or a cell, and what reads its value there."""
+        found = WATCHED.match(name)
+        if not found or (found[3] and found[3] not in self.listing.names):
+            raise Unfit(f'there is no {name}: a register is $0 to $31, a cell a number, a field one of '
+                        f'{", ".join(self.listing.names) or "none"}')
+        if found[1]:
+            return 'regs', lambda text: int(dict(REGISTERS.findall(text)).get(found[1], 0))
+        cell = found[2] or str(self.listing.names[found[3]])
+        return f'cells {cell} 1', lambda text: int(dict(CELLS.findall(text)).get(cell, 0))
+
+    def watched(self, line: str, read: Callable[[str], int], back: bool) -> None:
+        """Moves, window by window, to the first standing where the value is another one."""
+        word = 'back 1' if back else 'step 1'
+        _, output = self.run.walk([f'step {self.standing.position}', line])
+        here = read(output)
+        while True:
+            begin = self.standing.position
+            standings, output = self.run.walk([f'step {begin}'] + [word, line] * WINDOW)
+            parts = re.split(r'^at .*\n', output, flags=re.M)[2:]
+            for at, part in zip(standings[1:], parts):
+                self.standing = at
+                if read(part) != here:
+                    print(f'changed: {read(part)} -> {here}' if back else f'changed: {here} -> {read(part)}')
+                    return
+            if self.standing.note or self.standing.position == begin:
+                return
+            self.notify(f'looked {"back" if back else "up"} to position {self.standing.position}')
+
+    def do_list(self, _arg: str) -> None:
+        """list: the instructions around this one."""
+        pc = self.standing.pc
+        for cell in range(max(0, pc - 5), min(len(self.listing.code), pc + 6)):
+            mark = ('>' if cell == pc else ' ') + ('*' if cell in self.breaks else ' ')
+            print(f'{mark}{cell:6d} | {self.listing.code[cell]}')
+
+    def do_where(self, _arg: str) -> None:
+        """where: where the machine stands."""
+        self.here()
+
+
+def debug_image(program: Program, given, lines: List[str]) -> int:
+    """A session over an image."""
+    if given.assignments or given.input:
+        raise Unfit('`debug` runs an image from its loaded memory and takes no input: debug the source, or use `rpp state`')
+    try:
+        listing = Listing.of(program, given.source)
+        with MachineRun(program, given.source, given.heap, given.depth) as run:
+            echo = bool(lines) or not sys.stdin.isatty()
+            prompt = MachinePrompt(run, listing, given.source_of_image, echo)
+            return hold(prompt, lines, f'{title(given.source)}: `help` names the commands')
+    except Refused as refused:
+        for line in image_refused(given.source, refused):
+            print(line)
+        return refused.told.status
+
+
+def image_refused(image: str, refused: Refused) -> List[str]:
+    told = refused.told
+    if told.kind != 'refused':
+        return failure_lines(told, image)
+    rule = refusal(told.number)
+    at = f' at byte {told.at}' if told.at is not None else ''
+    return [f'{image}: refused {told.number} {told.name}{at}'] + ([rule.sentence, f'See {rule.link}'] if rule else [])

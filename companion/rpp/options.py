@@ -1,0 +1,70 @@
+"""The words that several commands share: bounds of a run, and inputs by file or by NAME=NUMBER.
+
+    parser = Parser(prog='rpp film', description='..')
+    add_source(parser)                      # F, the source
+    add_run_options(parser)                 # --heap, --depth, --input, NAME=NUMBER ..
+    given = parser.parse_intermixed_args(words)
+    with program.folder() as folder:
+        inputs = input_file(given, folder)  # the file of all inputs, or None; raises Unfit on a bad word
+"""
+import argparse
+import re
+from typing import List, Optional
+
+from .program import Folder
+from .reading import readable
+from .tokens import NAME
+
+HEAP = 12
+DEPTH = 64
+STEPS = 100_000_000
+MOST_HEAP = 20
+MOST_DEPTH = 8192
+ASSIGNMENT = re.compile(rf'^({NAME})=(-?[0-9]+)$')
+
+
+class Unfit(Exception):
+    """Words that no command understands; the text says why."""
+
+
+class Parser(argparse.ArgumentParser):
+    """A parser that raises Unfit where words do not fit, so that one place ends the command."""
+
+    def error(self, message):
+        # (inputs are never required, though argparse says so where the source is missing)
+        raise Unfit(f'{message.replace(", NAME=NUMBER", "")}\n{self.format_usage().rstrip()}')
+
+
+def add_source(parser) -> None:
+    parser.add_argument('source', metavar='F', type=readable, help='the source text; - is standard input')
+
+
+def add_run_options(parser) -> None:
+    parser.add_argument('assignments', metavar='NAME=NUMBER', nargs='*',
+                        help='an int field of the main object begins with this number')
+    parser.add_argument('--heap', type=int, default=HEAP, metavar='H',
+                        help=f'the heap has 2^H words, H from 1 to {MOST_HEAP} (default {HEAP})')
+    parser.add_argument('--depth', type=int, default=DEPTH, metavar='D',
+                        help=f'so many calls may be open, from 1 to {MOST_DEPTH} (default {DEPTH})')
+    parser.add_argument('--input', metavar='FILE', type=readable, help='a file of lines NAME = NUMBER; - is standard input')
+
+
+def input_file(given, folder: Folder) -> Optional[str]:
+    """The file with all that is given as input: the lines of --input, and behind them the words NAME=NUMBER, which stand
+    in the place of lines for the same names."""
+    words = {}
+    for word in given.assignments:
+        found = ASSIGNMENT.match(word)
+        if not found:
+            raise Unfit(f'{word}: an input is a word NAME=NUMBER, as n=5')
+        if found[1] in words:
+            raise Unfit(f'{word}: {found[1]} has a number already')
+        words[found[1]] = found[2]
+    if not words:
+        return given.input
+    lines: List[str] = []
+    if given.input:
+        with open(given.input, encoding='utf-8', errors='replace') as file:
+            lines = ['' if line.split('=')[0].strip() in words else line for line in file.read().split('\n')]
+    lines += [f'{name} = {number}' for name, number in words.items()]
+    return folder.write('given-input', '\n'.join(lines) + '\n')

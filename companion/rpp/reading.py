@@ -1,0 +1,66 @@
+"""The files that a command reads. Standard input (`-`) and pipes, as /dev/stdin and <(..), are read once and kept until the command
+ends, so that the program can read them as often as it needs.
+
+    parser.add_argument('source', type=readable)        # the path of a file that can be read again
+    shown(given.source)                                 # the name that messages have: 'a.rpp', '<stdin>' or '/dev/fd/63'
+"""
+import atexit
+import os
+import stat
+import sys
+from typing import Dict
+
+from .program import Folder
+
+STDIN = '-'
+
+_folder = Folder()
+_kept: Dict[str, str] = {}
+_shown: Dict[str, str] = {}
+
+
+def readable(word: str) -> str:
+    """The path of what a word names; of what can be read only once that of a copy."""
+    if not is_once(word):
+        return word
+    if word not in _kept:
+        _kept[word] = keep(word)
+        _shown[_kept[word]] = '<stdin>' if word == STDIN else word
+    return _kept[word]
+
+
+def shown(path: str) -> str:
+    """What messages say for a path."""
+    return _shown.get(path, path)
+
+
+def title(path: str) -> str:
+    """The last part of what messages say for a path."""
+    return os.path.basename(shown(path))
+
+
+def keep(word: str) -> str:
+    """Reads what a word names into a file of its own."""
+    if word == STDIN:
+        content = sys.stdin.buffer.read()
+    else:
+        with open(word, 'rb') as file:
+            content = file.read()
+    if not _folder.path:
+        _folder.__enter__()
+        atexit.register(_folder.__exit__)
+    path = _folder.name(f'stdin{len(_kept)}.rpp')
+    with open(path, 'wb') as out:
+        out.write(content)
+    return path
+
+
+def is_once(word: str) -> bool:
+    """Whether this can be read only once: standard input, a pipe, a terminal or a socket."""
+    if word == STDIN:
+        return True
+    try:
+        mode = os.stat(word).st_mode
+    except OSError:
+        return False
+    return not stat.S_ISREG(mode) and not stat.S_ISDIR(mode)

@@ -1,0 +1,67 @@
+"""Messages about a source: where it is, the line with a caret, what is wrong, what to write, and where the pages say more."""
+from typing import List
+
+from .explain import Message, of_refusal
+from .messages import Told, see
+from .places import Text
+from .rules import Rule
+from .screen import paint, wrapped
+
+
+def rule_lines(rule: Rule) -> List[str]:
+    """A rule in general: its sentence, what to do, and its page."""
+    return message_lines(Message(rule, rule.sentence, rule.fix))
+
+
+def message_lines(message: Message, margin: str = '', with_sentence: bool = True) -> List[str]:
+    """The sentence, what was expected, what to write, and the page."""
+    lines = wrapped(message.sentence, margin) if with_sentence else []
+    lines += wrapped(message.detail, margin)
+    lines += painted(wrapped(f'Fix: {message.fix}', margin), 'fix', 'Fix:') if message.fix else []
+    page = see(message.rule) if message.rule else ''
+    return lines + ([margin + paint('quiet', f'See {page}')] if page else [])
+
+
+def painted(lines: List[str], role: str, word: str) -> List[str]:
+    """The lines with the first such word in a colour."""
+    return [lines[0].replace(word, paint(role, word), 1), *lines[1:]]
+
+
+def pointed_lines(file: str, text: Text, at: int, what: str) -> List[str]:
+    """FILE:LINE:COLUMN: what, and the source line with a caret."""
+    return [f'{paint("where", text.spelled(file, at))}: {paint("wrong", what)}'] + caret_lines(text, at)
+
+
+def caret_lines(text: Text, at: int) -> List[str]:
+    """The source line of a place, and below it carets under the token."""
+    line, marks = text.pointed(at).split('\n')
+    return [line, marks.replace(marks.lstrip(' |\t'), paint('mark', marks.lstrip(' |\t')))]
+
+
+def refused_title(told: Told) -> str:
+    return f'refused {told.number} {told.name}'
+
+
+def source_refused(file: str, text: Text, told: Told) -> List[str]:
+    """What is said of a refused source."""
+    return pointed_lines(file, text, told.at, refused_title(told)) + message_lines(of_refusal(text.content, told.number, told.at))
+
+
+def source_refused_line(file: str, text: Text, told: Told, message: Message) -> str:
+    """The place and the sentence in one line, for editors."""
+    return f'{paint("where", text.spelled(file, told.at))}: {paint("wrong", refused_title(told))}: {message.sentence}'
+
+
+def fault_title(told: Told) -> str:
+    return f'fault {told.number} {told.name}'.rstrip()
+
+
+def failure_lines(told: Told, file: str) -> List[str]:
+    """What is said where the program could not do its work: files, memory, words, or an answer of no known form."""
+    if told.kind in ('read', 'write'):
+        return [f'{file}: cannot {told.kind} it: {told.why or "failed"}']
+    if told.kind == 'memory':
+        return [f'{file}: the program answered with status 7: there was not enough memory']
+    if told.kind == 'words':
+        return [f'{file}: the program refuses the words of this call, so this companion does not fit it']
+    return [f'{file}: the program answered with status {told.status}: {told.first_line or "nothing"}']

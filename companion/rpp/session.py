@@ -1,0 +1,401 @@
+"""A session that goes both ways along a run of a source, with no terminal: the prompt of `rpp debug` and the debug adapter
+stand on it. It adds nothing to what `trace` says; positions are the program's.
+
+    session = Session.begun(program, 'list.rpp', heap=12, depth=64, inputs=None)
+    session.break_at(15)           # Breakpoint(number=1, line=15, places=(375,))
+    stop = session.run_on()        # Stop(point, reason, detail); session.point is where it stands
+    session.stack()                # the open calls, innermost first: Frame(depth, method, place, uncalled, number)
+    session.moment.variables       # what `regs` shows there
+    session.value('list.head')     # '#3'; the objects are session.moment.objects
+    session.close()
+
+The moves (step, back, next, previous, finish, leave_back, until, run_on, run_back, watch, watch_back, go) each give a Stop.
+Its reason is `step`, `break`, `change` (its detail is a sentence on it), `end`, `fault`, `start`, `memory` (the program answered
+with status 7 to a move beyond) or `interrupted`.
+"""
+from typing import Callable, List, NamedTuple, Optional
+
+from .changes import value_of
+from .outline import Call, Outline
+from .program import Closing, Interrupted, Program
+from .trace import FAR, Moment, Point, Refused, SourceRun
+
+FIRST_BOUND = 100_000
+WINDOW_SECONDS = 1.0
+MOST_ROUNDS = 200
+
+
+class Breakpoint(NamedTuple):
+    number: int
+    line: int
+    places: tuple
+
+
+class Stop(NamedTuple):
+    point: Point
+    reason: str
+    detail: str = ''
+
+
+class Frame(NamedTuple):
+    """An open call: `method` is `Class.name`, `place` the statement at which it stands, `position` where that was begun,
+    `uncalled` whether its body runs backward, `number` that of its object (None where the printed texts do not tell it)."""
+    depth: int
+    method: str
+    place: int
+    position: int
+    uncalled: bool
+    number: Optional[int]
+
+
+class Session(Closing):
+    """A run, a position on it, and breakpoints. `notify` is called with a text while a long search goes on."""
+
+    def __init__(self, run: SourceRun, outline: Outline, notify: Optional[Callable[[str], None]] = None):
+        self.run = run
+        self.outline = outline
+        self.notify = notify or (lambda text: None)
+        self.position = 0
+        self.breakpoints: List[Breakpoint] = []
+        self._numbers = 0
+        # (the place of the statement that fails, once it was asked for)
+        self.failing: Optional[List[Optional[int]]] = None
+
+    @classmethod
+    def begun(cls, program: Program, source: str, heap: int = 12, depth: int = 64,
+              inputs: Optional[str] = None) -> 'Session':
+        """A session at the start of the run; raises Refused where the program refuses the text or the bounds."""
+        run = SourceRun(program, source, heap, depth, inputs)
+        try:
+            run.point(0)
+            return cls(run, Outline.made(program, run.text))
+        except BaseException:
+            run.close()
+            raise
+
+    def close(self) -> None:
+        self.run.close()
+
+    @property
+    def point(self) -> Point:
+        return self.run.point(self.position)
+
+    @property
+    def moment(self) -> Moment:
+        return self.run.moment(self.position)
+
+    # Breakpoints
+
+    def break_at(self, line: int) -> Optional[Breakpoint]:
+        """Sets a breakpoint at the first line from this one on where a statement begins."""
+        found, places = self.outline.breakable(line)
+        if not places:
+            return None
+        self._numbers += 1
+        self.breakpoints.append(Breakpoint(self._numbers, found, tuple(places)))
+        return self.breakpoints[-1]
+
+    def clear(self, number: int) -> bool:
+        kept = [each for each in self.breakpoints if each.number != number]
+        cleared = len(kept) != len(self.breakpoints)
+        self.breakpoints = kept
+        return cleared
+
+    def clear_all(self) -> None:
+        self.breakpoints = []
+
+    @property
+    def break_places(self) -> List[int]:
+        return sorted({place for each in self.breakpoints for place in each.places})
+
+    # Moves
+
+    def go(self, position: int) -> Stop:
+        """Stands at this position, or at the last one."""
+        return self._guarded(lambda: self._stand(self.run.point(max(0, position)), 'step'), position)
+
+    def step(self, count: int = 1) -> Stop:
+        wanted = self.position + count
+        return self._guarded(lambda: self._stand(self._reached(wanted), 'step', wanted), wanted)
+
+    def back(self, count: int = 1) -> Stop:
+        wanted = self.position - count
+        return self._stand(self.run.point(max(0, wanted)), 'start' if wanted < 0 else 'step')
+
+    def next(self) -> Stop:
+        """On to the next statement that is no deeper: over a call."""
+        depth = self.point.depth
+        return self._by_depth(depth) if depth else self.step()
+
+    def finish(self) -> Stop:
+        """On to the first statement behind the present call."""
+        depth = self.point.depth
+        return self._by_depth(depth - 1) if depth else self.step()
+
+    def previous(self) -> Stop:
+        """Back to the last statement that is no deeper: over a call."""
+        depth = self.point.depth or 1
+        return self._guarded(lambda: self._scan(lambda at: at.depth <= depth, depth, back=True), None)
+
+    def leave_back(self) -> Stop:
+        """Back to the statement that called the present body."""
+        opener = self.opener(self.position)
+        return self._stand(opener, 'step') if opener else self.back(self.position + 1)
+
+    def until(self, line: int) -> Stop:
+        """On to the next statement of this line."""
+        _, places = self.outline.breakable(line)
+        return self._guarded(lambda: self._seek(places, back=False), None)
+
+    def run_on(self) -> Stop:
+        """On to the next breakpoint, or to the end."""
+        return self._guarded(lambda: self._seek(self.break_places, back=False), None)
+
+    def run_back(self) -> Stop:
+        """Back to the last breakpoint, or to the start."""
+        return self._guarded(lambda: self._seek(self.break_places, back=True), None)
+
+    def watch(self, path: str) -> Stop:
+        """On to the first position where the value has changed."""
+        return self._guarded(lambda: self._watch(path, back=False), None)
+
+    def watch_back(self, path: str) -> Stop:
+        """Back to the last position before the value changed to what it is: the statement there changes it."""
+        return self._guarded(lambda: self._watch(path, back=True), None)
+
+    # Looking
+
+    def value(self, path: str) -> Optional[str]:
+        """The value of NAME, #K, NAME.FIELD or NAME[2], as printed; None where there is no such thing here."""
+        return value_of(self.moment, path)
+
+    def opener(self, position: int) -> Optional[Point]:
+        """The call statement that opened the call in which this position is; None for `main`."""
+        depth = self.run.point(position).depth
+        if depth is None or depth == 1:
+            return None
+        found = self._near_before(position, lambda at: at.depth == depth - 1)
+        return found or self._opener_by_sites(position, depth)
+
+    def stack(self) -> List[Frame]:
+        """The open calls, the innermost first; at the end of the run none."""
+        point = self.point
+        if point.at_end:
+            return []
+        points = [point]
+        while points[-1].depth > 1:
+            opener = self.opener(points[-1].position)
+            if opener is None:
+                break
+            points.append(opener)
+        return self._frames(points)
+
+    def _frames(self, points: List[Point]) -> List[Frame]:
+        """The frames of points that open each other, the innermost first."""
+        frames: List[Frame] = []
+        uncalled, number = False, 1 if points[-1].depth == 1 else None
+        for index in range(len(points) - 1, -1, -1):
+            point = points[index]
+            method = self.outline.method_at(point.place)
+            label = method.label if method else '?'
+            frames.insert(0, Frame(point.depth, label, point.place, point.position, uncalled, number))
+            call = self.outline.call_at(point.place) if index else None
+            if call:
+                uncalled ^= call.is_uncall
+                number = self._receiver(point, call, number)
+        return frames
+
+    def _receiver(self, point: Point, call: Call, number: Optional[int]) -> Optional[int]:
+        """The number of the object on which the call at this point is made."""
+        if not call.receiver:
+            return number
+        value = self.run.moment(point.position).value(call.receiver)
+        if value is None or not value.startswith('#'):
+            return None
+        return self._element_called(point, int(value[1:])) if call.is_element else int(value[1:])
+
+    def _element_called(self, point: Point, array: int) -> Optional[int]:
+        """The object that left this array as the call on an element began."""
+        first = point.position
+        while first > 0 and first > point.position - 3 and self.run.point(first - 1)[1:3] == point[1:3]:
+            first -= 1
+        before = self.run.moment(first).objects.get(array)
+        after = self.run.moment(point.position + 1).objects.get(array)
+        if not before or not after:
+            return None
+        left = [old for (_, old), (_, new) in zip(before.cells, after.cells) if old != new and new == 'nil']
+        return int(left[0][1:]) if len(left) == 1 else None
+
+    # How the moves search
+
+    def _stand(self, point: Point, reason: str, wanted: Optional[int] = None) -> Stop:
+        """Stands at the point; where the run ended before what was wanted, the reason is its end."""
+        self.position = point.position
+        if wanted is not None and point.position < wanted:
+            reason = 'end' if point.at_end else 'fault' if point.fault else reason
+        elif point.at_end:
+            reason = 'end'
+        return Stop(point, reason)
+
+    def _reached(self, position: int) -> Point:
+        """The point there, read with a move beyond where the run may have ended before."""
+        point = self.run.point(position)
+        return self.run.last if self.run.last and point.position == self.run.last.position else point
+
+    def _guarded(self, move: Callable[[], Stop], wanted: Optional[int]) -> Stop:
+        """Makes the move; where the program finds no memory for it, or ^C ends it, says so and stands where it can."""
+        try:
+            return move()
+        except (Interrupted, KeyboardInterrupt):
+            return Stop(self.point, 'interrupted')
+        except Refused as refused:
+            if refused.told.kind != 'memory':
+                raise
+        return self._stand(self.run.point(self._furthest(wanted)), 'memory')._replace(reason='memory')
+
+    def _furthest(self, wanted: Optional[int]) -> int:
+        """The last position that the program reaches with the memory that it finds."""
+        reached, beyond = self.position, self.position + 1
+        while (wanted is None or beyond < wanted) and self._reaches(beyond):
+            reached, beyond = beyond, self.position + 2 * (beyond - self.position)
+        if wanted is not None:
+            beyond = min(beyond, wanted)
+        while beyond - reached > 1:
+            middle = (reached + beyond) // 2
+            reached, beyond = (middle, beyond) if self._reaches(middle) else (reached, middle)
+        return reached
+
+    def _reaches(self, position: int) -> bool:
+        try:
+            return self.run.point(position).position == position
+        except Refused:
+            return False
+
+    def _seek(self, places: List[int], back: bool) -> Stop:
+        """To the nearest point at one of the places, or to the end or the start; looks ever further."""
+        if not places:
+            return self._stand(self.run.point(0), 'start') if back else self._stand(self.run.end(), 'end', FAR)
+        bound = FIRST_BOUND
+        while True:
+            found = self.run.seek_all(self.position, places, bound, back)
+            hits = [at for at in found if at.place in places and at.position != self.position]
+            if hits:
+                nearest = (max if back else min)(hits, key=position_of)
+                return self._stand(nearest, 'break')
+            furthest = (min if back else max)(found, key=position_of)
+            if abs(furthest.position - self.position) < bound:
+                return self._stand(furthest, 'start') if back else self._stand(self._reached(furthest.position), 'end', FAR)
+            bound *= 2
+            self.notify(f'looked up to position {furthest.position}')
+
+    def _by_depth(self, depth: int) -> Stop:
+        """On to the first point that is no deeper, or to a breakpoint."""
+        if depth == 0:
+            return self.run_on()
+        breaks = set(self.break_places)
+        stop = self._guarded(lambda: self._scan(lambda at: at.depth <= depth or at.place in breaks, depth), None)
+        hit = stop.reason == 'step' and stop.point.depth > depth
+        return stop._replace(reason='break') if hit else stop
+
+    def _scan(self, fits: Callable[[Point], bool], depth: int, back: bool = False) -> Stop:
+        """On or back to the first point that fits: point by point in a window, and then by the places of the statements of
+        all bodies that are open and no deeper, and of breakpoints, at one of which it is."""
+        places = self._places_above(depth) if self.point.depth else self.outline.places
+        count = self._window(self.position)
+        first = max(0, self.position - count) if back else self.position + 1
+        window = self.run.points(first, min(count, self.position) if back else count)
+        for point in reversed(window) if back else window:
+            if point.at_end or fits(point):
+                return self._stand(point, 'step')
+        position = first if back else self.position + len(window)
+        while True:
+            found = [at for at in self.run.seek_all(position, places, FAR, back) if at.place in places]
+            found = [at for at in found if at.position != position]
+            if not found:
+                return self._stand(self.run.point(0), 'start') if back else self._stand(self.run.end(), 'end', FAR)
+            nearest = (max if back else min)(found, key=position_of)
+            if fits(nearest):
+                return self._stand(nearest, 'step')
+            position = nearest.position
+            self.notify(f'looked {"back" if back else "up"} to position {position}')
+
+    def _places_above(self, depth: int) -> List[int]:
+        """The places of the statements of the open bodies up to this depth, and of breakpoints."""
+        methods = [self.outline.method_at(frame.place) for frame in self.stack() if frame.depth <= depth]
+        places = [place for method in methods if method for place in self.outline.places_in(method)]
+        return sorted(set(places) | set(self.break_places))
+
+    def _near_before(self, position: int, fits: Callable[[Point], bool]) -> Optional[Point]:
+        """The last point before the position that fits, if one window has it."""
+        count = min(position, self._window(position))
+        near = [point for point in self.run.points(position - count, count) if fits(point)]
+        return near[-1] if near else None
+
+    def _window(self, position: int) -> int:
+        """How many points to read at once."""
+        return 64 if position < 64 else self.run.affordable(WINDOW_SECONDS, position)
+
+    def _opener_by_sites(self, position: int, depth: int) -> Optional[Point]:
+        """The opener, found among the calls that name the method: for calls that were opened long before."""
+        method = self.outline.method_at(self.run.point(position).place)
+        sites = self.outline.call_sites(method.name) if method else []
+        for _ in range(MOST_ROUNDS):
+            hits = [at for at in self.run.seek_all(position, sites, FAR, back=True) if at.place in sites]
+            if not hits:
+                return None
+            nearest = max(hits, key=position_of)
+            if nearest.depth == depth - 1:
+                return nearest
+            position = nearest.position
+        return None
+
+    def _watch(self, path: str, back: bool) -> Stop:
+        """On or back to where the value changes; a variable is watched as long as its call is open."""
+        watched = self._watched(path, back)
+        last = self.position
+        while True:
+            count = min(256, self.run.affordable(WINDOW_SECONDS, last) // 3 + 1)
+            first = max(0, last - count) if back else last + 1
+            window = self.run.states(first, min(count, last) if back else count)
+            for moment in reversed(window) if back else window:
+                changed = watched(moment)
+                if changed:
+                    return self._stand(moment.point, 'change')._replace(reason='change', detail=changed)
+            if not window or (back and first == 0):
+                return self._stand(self.run.point(0), 'start') if back else self._stand(self.run.end(), 'end', FAR)
+            last = first if back else window[-1].point.position
+            self.notify(f'looked {"back" if back else "up"} to position {last}')
+
+    def _watched(self, path: str, back: bool) -> Callable[[Moment], str]:
+        """What says of a moment, in a sentence, how the value differs from what it is here, or ''."""
+        here, depth = self.value(path), self.point.depth
+        number, named = self._owner(path), path
+        if number is not None:
+            path = f'#{number}.{path}'
+
+        def changed(moment: Moment) -> str:
+            if number is None and not path.startswith('#'):
+                if moment.point.depth is None or moment.point.depth < depth:
+                    return f'the call in which {path} stands {"begins here" if back else "has ended"}'
+                if moment.point.depth > depth:
+                    return ''
+            value = value_of(moment, path)
+            if value == here:
+                return ''
+            old, new = (value, here) if back else (here, value)
+            return f'{"this statement changes" if back else "changed:"} {named}: {old or "none"} -> {new or "none"}'
+        return changed
+
+    def _owner(self, path: str) -> Optional[int]:
+        """The number of the present object where the path begins with one of its fields."""
+        name = path.split('.')[0].split('[')[0]
+        frames = self.stack()
+        number = frames[0].number if frames else 1
+        thing = self.moment.objects.get(number) if number else None
+        fields = [label for label, _ in thing.cells] if thing else []
+        names = [each for each, _ in self.moment.variables]
+        return number if name in fields and names.count(name) == 1 else None
+
+
+def position_of(point: Point) -> int:
+    return point.position

@@ -1,0 +1,147 @@
+"""What the prompt shows: a stop with its source line, the stack, objects, listings. Texts alone, with no terminal."""
+from typing import List, Optional
+
+from .changes import changes, thing_of, value_of
+from .explain import of_fault
+from .fault_slots import Where
+from .reading import title
+from .faults import runs_back
+from .report import caret_lines, message_lines
+from .screen import paint
+from .session import Frame, Session, Stop
+from .trace import Moment, Thing
+
+ENDINGS = {
+    'start': 'this is the start',
+    'end': 'this is the end of the run',
+    'interrupted': 'stopped by ^C, and nothing has moved',
+    'memory': 'the program ended with status 7, out of memory, at a move beyond this position',
+}
+MOST_FRAMES = 20
+MOST_CHANGES = 30
+
+
+def place_line(session: Session, frame: Optional[Frame]) -> str:
+    """`[7] list.rpp:14:13 in Node.append of #3, uncalled`."""
+    point = session.point
+    if point.at_end or frame is None:
+        return f'[{point.position}] the end'
+    file = title(session.run.source)
+    return f'[{point.position}] {paint("where", session.run.text.spelled(file, point.place))} {framed(frame)}'
+
+
+def framed(frame: Frame) -> str:
+    """The body of a frame: its method, its object, its depth where it is not `main`, and its direction."""
+    of = f' of #{frame.number}' if frame.number not in (None, 1) else ''
+    deep = f', depth {frame.depth}' if frame.depth > 1 else ''
+    return f'in {frame.method}{of}{deep}{", uncalled" if frame.uncalled else ""}'
+
+
+def stop_lines(session: Session, stop: Stop, before: Optional[Moment], failing: Optional[int] = None) -> List[str]:
+    """Where the session stands, its source line, why it stopped, and what changed on the way. `failing` is the place of the
+    statement in whose code the machine stops with a fault, where that is known."""
+    frames = session.stack()
+    frame = frames[0] if frames else None
+    lines = [place_line(session, frame)]
+    if frame:
+        lines += caret_lines(session.run.text, stop.point.place)
+    lines += fault_lines(session, stop, failing) if stop.reason == 'fault' else reason_lines(session, stop)
+    if before is not None and before.point.position != stop.point.position:
+        told = changes(before, session.moment, frame.number if frame else 1)
+        lines += [f'  {paint("changed", each)}' for each in told[:MOST_CHANGES]]
+        if len(told) > MOST_CHANGES:
+            lines.append(f'  and {len(told) - MOST_CHANGES} more changes')
+    return lines
+
+
+def fault_lines(session: Session, stop: Stop, failing: Optional[int]) -> List[str]:
+    """The fault behind this statement, and where it came if that is at the end of another one."""
+    number, name = stop.point.fault
+    lines = [f'{paint("wrong", f"fault {number} {name}")}: the run goes no further']
+    if failing is not None and failing != stop.point.place:
+        file = title(session.run.source)
+        lines[0] += ', and stops within this statement:'
+        lines += [paint('where', session.run.text.spelled(file, failing))] + caret_lines(session.run.text, failing)
+    message = of_fault(number, fault_where(session, stop, failing))
+    return lines + message_lines(message)
+
+
+def fault_where(session: Session, stop: Stop, failing: Optional[int]) -> Where:
+    """The statement that fails, with what was there before it, and the direction in which its body runs."""
+    run, place = session.run, stop.point.place if failing is None else failing
+    return Where(run.text.content, place, session.moment, runs_back(session, session.stack(), place), *run.bounds)
+
+
+def reason_lines(session: Session, stop: Stop) -> List[str]:
+    if stop.reason == 'break':
+        hit = [each for each in session.breakpoints if stop.point.place in each.places]
+        return [f'breakpoint {hit[0].number}'] if hit else []
+    if stop.reason == 'change':
+        return [stop.detail]
+    return [ENDINGS[stop.reason]] if stop.reason in ENDINGS else []
+
+
+def stack_lines(session: Session) -> List[str]:
+    """The open calls, the innermost first."""
+    frames = session.stack()
+    if not frames:
+        return ['no call is open']
+    file = title(session.run.source)
+    lines = [f'{frame.depth:4d}  {framed_short(frame)} at {session.run.text.spelled(file, frame.place)}' for frame in frames]
+    if frames[-1].depth > 1:
+        lines.append('      the calls around it were opened too long before to be read')
+    if len(lines) > MOST_FRAMES:
+        lines[MOST_FRAMES - 3:-2] = [f'      .. {len(lines) - MOST_FRAMES + 1} calls more']
+    return lines
+
+
+def framed_short(frame: Frame) -> str:
+    of = f' of #{frame.number}' if frame.number is not None else ''
+    return f'{frame.method}{of}{", uncalled" if frame.uncalled else ""}'
+
+
+def variable_lines(moment: Moment) -> List[str]:
+    return [f'{name} = {value}' for name, value in moment.variables] or ['there are no variables here']
+
+
+def value_lines(moment: Moment, path: str) -> List[str]:
+    """A value by its path, and the object that it refers to."""
+    value = value_of(moment, path)
+    if value is None:
+        return [f'there is no {path} here']
+    lines = [] if path.startswith('#') and path == value else [f'{path} = {value}']
+    thing = thing_of(moment, value)
+    return lines + (thing_lines(thing) if thing else [] if lines else [f'there is no object {path} here'])
+
+
+def thing_lines(thing: Thing) -> List[str]:
+    """An object as `cells` prints it."""
+    return [f'#{thing.number} {thing.head} count {thing.count}'] + [f'  {label} = {value}' for label, value in thing.cells]
+
+
+def object_lines(moment: Moment) -> List[str]:
+    return [line for number in sorted(moment.objects) for line in thing_lines(moment.objects[number])]
+
+
+def listing_lines(session: Session, line: int, around: int = 5) -> List[str]:
+    """Lines of the source, the one where the session stands with `>`, those with breakpoints with `*`."""
+    text, point = session.run.text, session.point
+    here = text.place(point.place).line if not point.at_end else 0
+    breaks = {each.line for each in session.breakpoints}
+    lines = []
+    for number in range(max(1, line - around), min(text.line_count, line + around) + 1):
+        mark = ('>' if number == here else ' ') + ('*' if number in breaks else ' ')
+        lines.append(f'{mark}{number:5d} | {text.line(number)}'.rstrip())
+    return lines
+
+
+def history_lines(session: Session, count: int) -> List[str]:
+    """The statements that led here, the last one below; deeper calls stand further in."""
+    first = max(0, session.position - count)
+    file = title(session.run.source)
+    lines = []
+    for point in session.run.points(first, session.position - first):
+        place = session.run.text.place(point.place)
+        source = '  ' * min(20, point.depth - 1) + session.run.text.line(place.line).strip()
+        lines.append(f'[{point.position}] {file}:{place.line}:{place.column} {source}')
+    return lines or ['nothing was done before']

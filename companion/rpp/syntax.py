@@ -1,0 +1,729 @@
+"""What can be said of a text that leaves the grammar, or that has a byte with which no token begins: a sentence for each of the usual
+mistakes, what to write in its place, and, where that is a text, the edits that write it.
+
+    hint = syntax_hint(text, at)        # where the grammar is left: Hint, with what was expected there
+    hint = byte_hint(text, at)          # of the byte at which no token begins, or None"""
+import difflib
+from typing import Callable, List, NamedTuple, Optional, Tuple
+
+from .grammar import END, NAME, STATEMENTS, VALUES, Open, Spot, first_wrong, spelled
+from .tokens import KEYWORDS, OPERATORS, UPDATES, Token, cut
+
+CLOSERS = {'if': ('then', 'else', 'fi'), 'from': ('do', 'loop', 'until'), 'local': ('delocal',), 'construct': ('destruct',)}
+DECLARING = ('class', 'field', 'method', 'parameter', 'local', 'construct')
+DECLARED = {'construct': 'local'}
+ELSE_IF = ('elsif', 'elseif', 'elif', 'elsf')
+LOOPS = ('while', 'for', 'foreach', 'repeat', 'iterate', 'loop')
+ENDS = ('end', 'endif', 'endwhile', 'endfor', 'endmethod', 'endclass', 'done', 'od', 'esac')
+PRINTS = ('print', 'println', 'printf', 'write', 'puts', 'echo', 'show', 'cout', 'System')
+RETURNS = ('return', 'yield', 'result')
+CHOICES = ('switch', 'case', 'match', 'when')
+TYPES_OF_OTHERS = ('var', 'let', 'const', 'auto', 'def', 'val', 'my', 'dim')
+HEADS_OF_OTHERS = ('public', 'private', 'protected', 'static', 'function', 'func', 'fn', 'def', 'void', 'proc', 'procedure', 'sub')
+PRODUCTS = {'*': 'A product', '/': 'A quotient', '%': 'A remainder'}
+
+
+class Edit(NamedTuple):
+    """A text that takes the place of the bytes from `begin` to `end`."""
+    begin: int
+    end: int
+    text: str
+
+
+class Hint(NamedTuple):
+    """A sentence of its own for a mistake, what to write, and the edits that write it."""
+    sentence: str
+    fix: str = ''
+    edits: Tuple[Edit, ...] = ()
+    title: str = ''
+    expected: str = ''
+    found: str = ''
+
+
+class Place:
+    """Where the grammar is left: the tokens around, what was expected, and what is open."""
+
+    def __init__(self, text: bytes, tokens: List[Token], spot: Spot):
+        self.text, self.tokens, self.spot = text, tokens, spot
+        self.at = spot.at
+        self.expected = spot.expected
+        self.inside = spot.open[-1].what if spot.open else ''
+
+    def word(self, ahead: int = 0) -> str:
+        at = self.at + ahead
+        return self.tokens[at].text if 0 <= at < len(self.tokens) else ''
+
+    def kind(self, ahead: int = 0) -> str:
+        at = self.at + ahead
+        return self.tokens[at].kind if 0 <= at < len(self.tokens) else END
+
+    def begin(self, ahead: int = 0) -> int:
+        at = self.at + ahead
+        return self.tokens[at].at if at < len(self.tokens) else len(self.text)
+
+    def end(self, ahead: int = 0) -> int:
+        at = self.at + ahead
+        return self.tokens[at].end if at < len(self.tokens) else len(self.text)
+
+    def expects(self, *kinds: str) -> bool:
+        return set(kinds) <= self.expected
+
+    def is_statement(self) -> bool:
+        return STATEMENTS <= self.expected
+
+    def is_value(self) -> bool:
+        return VALUES <= self.expected
+
+    def is_behind_place(self) -> bool:
+        """Whether a variable was read that begins a statement."""
+        return self.expects('+=', '<=>')
+
+    def opened(self, *kinds: str) -> Optional[Open]:
+        """The innermost open part of these kinds."""
+        return next((each for each in reversed(self.spot.open) if each.what in kinds), None)
+
+    def line_of(self, token: int) -> int:
+        return self.text.count(b'\n', 0, self.tokens[token].at) + 1
+
+    def is_new_line(self) -> bool:
+        """Whether a line ends in front of the token."""
+        return self.at > 0 and b'\n' in self.text[self.end(-1):self.begin()]
+
+    def written(self, first: int, last: int) -> str:
+        """The text from a token to another, counted from here."""
+        return ' '.join(self.text[self.begin(first):self.end(last)].decode('utf-8', 'replace').split())
+
+    def changes(self, first: int, last: int, text: str) -> Tuple[Edit, ...]:
+        """The edit that writes a text for the tokens from one to another, counted from here."""
+        return (Edit(self.begin(first), self.end(last), text),)
+
+    def puts(self, text: str) -> Tuple[Edit, ...]:
+        """The edit that writes a text in front of this token."""
+        return (Edit(self.begin(), self.begin(), text),)
+
+
+# ---- declarations
+
+def of_first_word(it: Place) -> Optional[Hint]:
+    if it.at or it.inside:
+        return None
+    if it.word() in HEADS_OF_OTHERS:
+        return Hint(f'A source must begin with a class, and there is no `{it.word()}` outside of one.',
+                    'Write `class Program`, its fields, and then `method main()`.')
+    return Hint(f'A source must begin with a class, not with `{it.word()}`: fields and methods are always those of a class.',
+                'Write `class Program` in front.', it.puts('class Program\n'), 'Put a class in front')
+
+
+def of_keyword_as_name(it: Place) -> Optional[Hint]:
+    if it.word() not in KEYWORDS or not it.expects(NAME) or it.is_value():
+        return None
+    if it.word(-1) == 'method' and it.word() == 'int':
+        return Hint('A method must have no type: it has no result.', 'Let it add what it computes to a parameter.',
+                    (Edit(it.begin(), it.begin(1), ''),), 'Remove the type')
+    is_broken = it.is_new_line() or it.word() in ('class', 'method')
+    if it.inside in DECLARING and not it.is_statement() and it.kind(-1) != 'name' and is_broken:
+        return Hint(f'A {DECLARED.get(it.inside, it.inside)} must have a name: there is none before this `{it.word()}`.')
+    is_declared = it.inside in DECLARING or it.inside in ('call', 'uncall', 'arguments')
+    if it.inside == 'arguments' and it.word() in ('nil', 'int') or it.is_statement():
+        return None
+    return Hint(f'`{it.word()}` is a word of the language, so it must not be a name.', 'Take another name.') if is_declared else None
+
+
+def of_keyword_as_variable(it: Place) -> Optional[Hint]:
+    if it.word() in KEYWORDS and it.word(1) in UPDATES | {'<=>', '='} and it.is_statement():
+        return Hint(f'`{it.word()}` is a word of the language, so it must not be the name of a variable.', 'Take another name.')
+    return None
+
+
+def of_field(it: Place) -> Optional[Hint]:
+    """Fields with lengths, lists or values, and what is after the methods."""
+    is_behind_field = it.expects('class', 'method', 'int') and it.kind(-1) == 'name'
+    name = it.word(-1)
+    if is_behind_field and it.word() == '(' and near_keyword(it.word(-2)) == 'method':
+        return Hint(f'There is no `{it.word(-2)}`. Did you mean `method`?', '', it.changes(-2, -2, 'method'), 'Write `method`')
+    if is_behind_field and it.word() == '[':
+        return Hint(f'`{name}` must have its brackets after the type, and no length: `{it.word(-2)}[] {name}`.',
+                    f'The array is made by `new {it.word(-2)}[5] {name}`.')
+    if is_behind_field and it.word() == ',':
+        return Hint('Each field must have its own type; there are no lists of names.', f'Write `{it.word(-2)}` in front of each name.',
+                    it.changes(0, 0, f' {it.word(-2)}'), 'Write the type again')
+    if is_behind_field and it.word() == '=':
+        return Hint(f'The field `{name}` must not have a value here: fields begin as 0 or nil, or by the input.',
+                    f'Write `{name} += ..` in a method.')
+    if it.expects('inherits') and it.word() in ('<', '('):
+        return Hint('A class names its parent by `inherits`.', f'Write `inherits {it.word(1)}`.')
+    return None
+
+
+def of_extends(it: Place) -> Optional[Hint]:
+    if it.inside == 'field' and it.word(-1) in ('extends', 'implements', 'is', 'of') and it.word(-3) == 'class':
+        return Hint(f'A class names its parent by `inherits`, not by `{it.word(-1)}`.', '', it.changes(-1, -1, 'inherits'),
+                    'Write `inherits`')
+    return None
+
+
+def of_modifier(it: Place) -> Optional[Hint]:
+    """`public int x`, `void f()`, `def f()`."""
+    words = [it.word(-2), it.word(-1), it.word()]
+    found = next((word for word in words if word in HEADS_OF_OTHERS), '')
+    if it.inside != 'field' and not it.expects('class', 'method', 'int') or not found:
+        return None
+    if it.word() == '(' or it.word(1) == '(' or it.word(-1) in HEADS_OF_OTHERS and it.word() != 'int':
+        return Hint(f'A method must begin with `method`, not with `{found}`.', 'Write `method NAME(..)`; a method has no result.')
+    return Hint(f'There is no `{found}`: fields are seen by the methods of their class, and methods can be called by all.',
+                'Leave it out.')
+
+
+def of_type(it: Place) -> Optional[Hint]:
+    name = it.word(1) if it.kind(1) == 'name' else it.word(2) if it.kind(2) == 'name' else ''
+    if it.kind() == 'number' and it.word(-1) == '[' and it.expected == {']'}:
+        kind = it.word(-2)
+        return Hint('A type must not have a length: it is given when the array is made.',
+                    f'Write `{kind}[]`, and `new {kind}[{it.word()}] {name or "a"}` in a method.', it.changes(0, 0, ''), 'Remove the length')
+    if it.word() == '[' and it.word(-1) == ']' and it.expects(NAME):
+        return Hint('There must not be arrays of arrays.', 'Keep the rows one after the other in one array.')
+    if it.inside == 'parameter' and it.expects(NAME) and it.word() in (',', ')'):
+        return Hint(f'A parameter must have a type: `int {it.word(-1)}`.', '', it.changes(-1, -1, f'int {it.word(-1)}'), 'Write the type')
+    if it.inside == 'parameters' and it.kind(-1) == 'name' and it.word() == '[':
+        return Hint(f'`{it.word(-1)}` must have its brackets after the type: `{it.word(-2)}[] {it.word(-1)}`.')
+    if it.inside == 'parameters' and it.word() == '=':
+        return Hint('A parameter must not have a value of its own: each call passes one.')
+    return None
+
+
+def of_method_head(it: Place) -> Optional[Hint]:
+    if it.inside == 'method' and it.kind(-1) == 'name' and it.word(-2) != 'method' and it.word() == '(' and it.word(-3) == 'method':
+        return Hint('A method must have no type: it has no result.', 'Let it add what it computes to a parameter.')
+    if it.inside == 'parameters' and it.expected == {'('}:
+        return Hint(f'The method `{it.word(-1)}` must have parentheses, also where it has no parameters.', '',
+                    (Edit(it.end(-1), it.end(-1), '()'),), 'Write `()`')
+    if it.inside == 'method' and it.word(-1) == ')' and it.is_statement() and it.word() in ('', 'method', 'class'):
+        return Hint('A method must have at least one statement.', 'Write `skip`.', (Edit(it.end(-1), it.end(-1), '\n  skip'),),
+                    'Write `skip`')
+    return None
+
+
+# ---- changes
+
+def of_update(it: Place) -> Optional[Hint]:
+    """What is after a variable that begins a statement."""
+    if not it.is_behind_place():
+        return None
+    name = it.written(-1, -1) if it.word(-1) != ']' else 'the element'
+    if it.word() == '=' and it.word(1) == 'nil':
+        return Hint(f'`{name}` must not be set to nil, which would lose its reference.',
+                    f'End the object by `delete C {name}`, or the reference by `uncopy C y {name}`, or move it by `<=>`.')
+    if it.word() == '=' and it.word(1) == '=':
+        return Hint('A statement must change something: `=` only compares.', f'Write `{name} += ..`, or `if {name} = .. then`.')
+    if it.word() == '=' and it.word(1) in ('+', '-') and it.begin(1) == it.end():
+        return Hint(f'The signs are in the other order: `{it.word(1)}=`.', '', it.changes(0, 1, f'{it.word(1)}='),
+                    f'Write `{it.word(1)}=`')
+    if it.word() == '=' and it.word(1) == 'new':
+        return Hint(f'`new` is a statement and has no value: `new C {name}` fills `{name}`, which must be nil before.',
+                    f'Write `new {it.word(2)} {name}`.')
+    if it.word() == '=':
+        return Hint(f'`{name}` must be changed by `+=`, `-=` or `^=`: an assignment by `=` would lose its old value.',
+                    f'`{name} += ..` sets it where it is 0; `{name} <=> y` exchanges two variables.', it.changes(0, 0, '+='), 'Write `+=`')
+    if it.word() in ('+', '-') and it.word(1) == it.word():
+        return Hint(f'There is no `{it.word()}{it.word()}`: write `{name} {it.word()}= 1`.', '', it.changes(0, 1, f' {it.word()}= 1'),
+                    f'Write `{it.word()}= 1`')
+    return of_other_update(it, name)
+
+
+def of_other_update(it: Place, name: str) -> Optional[Hint]:
+    if it.word() in PRODUCTS and it.word(1) == '=':
+        return Hint(f'There is no `{it.word()}=`: a factor cannot be undone by itself, since 0 would lose the number.',
+                    f'{PRODUCTS[it.word()]} is computed into another variable: docs/learn/from-janus.md has a method for it.')
+    if it.word() in ('&', '|', '&&', '||') and it.word(1) == '=':
+        return Hint(f'There is no `{it.word()}=`, which would lose bits.', 'The changes are `+=`, `-=`, `^=` and `<=>`.')
+    if it.word() in ('<', '>') and it.word(1) in ('<', '>', '<=', '>='):
+        pair = it.word() + it.word(1)
+        if pair == '<>':
+            return Hint('The exchange is written `<=>`.', '', it.changes(0, 1, '<=>'), 'Write `<=>`')
+        return Hint('There are no shifts.', f'A doubling is `y += {name} + {name}` of another variable; halving needs a loop.')
+    if it.word() == '::' and it.word(-1) in ('this', 'self'):
+        return Hint(f'There is no `{it.word(-1)}`: a field of the same object is named by itself, and `call m(..)` calls a method of it.',
+                    '', it.changes(-1, 0, '' if it.word(2) != '(' else 'call '), f'Remove `{it.word(-1)}::`')
+    if it.word() == '::' and it.word(2) != '(':
+        return Hint(f'A field of another object must not be named, and `{it.word(1)}` is one of `{it.word(-1)}`.',
+                    'Let a method of its class change it, or add it to a parameter.')
+    if it.word() == '::' and it.kind(-1) == 'name':
+        return Hint(f'A call must begin with `call` or `uncall`: `call {it.word(-1)}::{it.word(1)}(..)`.',
+                    '', (Edit(it.begin(-1), it.begin(-1), 'call '),), 'Write `call`')
+    return None
+
+
+def of_call_without_word(it: Place) -> Optional[Hint]:
+    """`m(x)`, and words of other languages with parentheses."""
+    if not it.is_behind_place() or it.word() != '(' or it.kind(-1) != 'name':
+        return None
+    foreign = of_foreign_word(it.word(-1), it)
+    near = near_keyword(it.word(-2)) if it.kind(-2) == 'name' else near_keyword(it.word(-1))
+    if foreign or near:
+        at = -2 if it.kind(-2) == 'name' else -1
+        return foreign or Hint(f'There is no `{it.word(at)}`. Did you mean `{near}`?', '', it.changes(at, at, near), f'Write `{near}`')
+    return Hint(f'A call must begin with `call` or `uncall`: `call {it.word(-1)}(..)`.', 'It has no value: what a method computes, it '
+                'adds to an argument or a field.', (Edit(it.begin(-1), it.begin(-1), 'call '),), 'Write `call`')
+
+
+def of_word_at_begin(it: Place) -> Optional[Hint]:
+    """A name that begins a statement and is no variable: a word of another language, or one that is written otherwise here."""
+    if not it.is_behind_place() or it.kind(-1) != 'name':
+        return None
+    word = it.word(-1)
+    if it.kind(-2) == 'number' and it.begin(-1) == it.end(-2):
+        return Hint(f'A number must be decimal: `{it.word(-2)}{word}` is none.', 'Write its decimal digits.')
+    foreign = of_foreign_word(word, it) or (of_foreign_word(it.word(-2), it) if it.kind(-2) == 'name' else None)
+    if foreign:
+        return foreign
+    near = near_keyword(word)
+    if near:
+        return Hint(f'There is no `{word}`. Did you mean `{near}`?', '', it.changes(-1, -1, near), f'Write `{near}`')
+    if it.kind(-2) == 'name' and near_keyword(it.word(-2)):
+        near = near_keyword(it.word(-2))
+        return Hint(f'There is no `{it.word(-2)}`. Did you mean `{near}`?', '', it.changes(-2, -2, near), f'Write `{near}`')
+    if it.kind() == 'name' and word[0].isupper():
+        return Hint(f'A variable must be declared by `local {word} {it.word()} = nil` .. `delocal {word} {it.word()} = nil`, or as a '
+                    'field.')
+    if it.word() == ',':
+        return Hint('A statement must change one variable: there are no lists.', 'Write a statement for each.')
+    return None
+
+
+def near_keyword(word: str) -> str:
+    """The keyword that a name is most like."""
+    if word in KEYWORDS or len(word) < 2:
+        return ''
+    if word.lower() in KEYWORDS:
+        return word.lower()
+    return next(iter(difflib.get_close_matches(word, sorted(KEYWORDS), 1, 0.75)), '')
+
+
+def of_foreign_word(word: str, it: Place) -> Optional[Hint]:
+    """A word of other languages, and what serves in its place."""
+    if word in ELSE_IF:
+        return Hint(f'There is no `{word}`: write `else if .. then .. else .. fi ..`, each `if` with its own `fi`.')
+    if word in LOOPS:
+        return Hint(f'There is no `{word}`: a loop is `from a do s loop t until b`, where a holds only when it begins.',
+                    'A counting loop is `local int i = 0 from i = 0 do .. loop i += 1 until i = 9 delocal int i = 9`.')
+    if word in ENDS:
+        return Hint(f'There is no `{word}`: an `if` ends with `fi` and a condition, a `from` with `until` and one, and a method where '
+                    'the next begins.')
+    if word in PRINTS:
+        return Hint(f'There is no `{word}`: nothing is printed. The fields of the main object are reported when the run ends.')
+    if word in RETURNS:
+        return Hint(f'There is no `{word}`: a method has no result. Let it add what it computes to a parameter or a field.')
+    if word in CHOICES:
+        return Hint(f'There is no `{word}`: write `if`s one in another.')
+    if word in TYPES_OF_OTHERS:
+        return Hint(f'There is no `{word}`: a variable is a field, or `local int {it.word() or "x"} = 0` .. `delocal int '
+                    f'{it.word() or "x"} = 0`.')
+    if word in ('break', 'continue', 'goto', 'exit', 'pass', 'nop'):
+        return Hint(f'There is no `{word}`: ' + ('the empty statement is `skip`.' if word in ('pass', 'nop') else
+                                                 'a loop ends only at its `until`.'))
+    if word in ('swap', 'exchange'):
+        return Hint(f'There is no `{word}`: two places are exchanged by `x <=> y`.')
+    if word in ('free', 'dispose', 'destroy'):
+        return Hint(f'There is no `{word}`: an object ends by `delete C x`.')
+    return of_operator_word(word) if word in OPERATOR_WORDS else None
+
+
+OPERATOR_WORDS = {'and': '&&', 'or': '||', 'xor': '^', 'is': '=', 'eq': '=', 'not': '', 'mod': '', 'div': ''}
+
+
+def of_operator_name(it: Place) -> Optional[Hint]:
+    """A word in the place of an operator."""
+    is_behind_value = OPERATORS <= it.expected
+    at = next((at for at in (0, -1) if it.kind(at) == 'name' and it.word(at) in OPERATOR_WORDS), None)
+    if at is None or not (is_behind_value or at and it.expects('[')):
+        return None
+    sign = OPERATOR_WORDS[it.word(at)]
+    edits = it.changes(at, at, sign) if sign else ()
+    return of_operator_word(it.word(at))._replace(edits=edits, title=f'Write `{sign}`' if sign else '')
+
+
+def of_operator_word(word: str) -> Hint:
+    if OPERATOR_WORDS[word]:
+        return Hint(f'There is no `{word}`: write `{OPERATOR_WORDS[word]}`.')
+    if word == 'not':
+        return Hint('There is no `not`: write the opposite comparison, as `x = 0` or `x >= y`.')
+    return Hint(f'There is no `{word}`: a quotient or remainder is computed by a method, and `x & 7` is the remainder of x by 8.')
+
+
+# ---- values
+
+def of_value(it: Place) -> Optional[Hint]:
+    """What is no value where one is expected."""
+    if it.word() == 'new' and it.word(-1) == '<=>':
+        return of_word_for_value(it, '<=>')
+    if not it.is_value():
+        return None
+    before = it.word(-1)
+    if it.word() == '=' and before == '=':
+        return Hint('The comparison is one `=`.', '', it.changes(0, 0, ''), 'Remove one `=`')
+    if it.word() == '=' and before in ('!', '<', '>', '=='):
+        return Hint(f'The comparison is written `{before}=`, without a space.')
+    if it.word() == '-':
+        change = {'+=': '-=', '-=': '+='}.get(before, '')
+        if change:
+            return Hint(f'There are no negative numbers: `{change} {it.word(1)}` for `{before} -{it.word(1)}`.', '',
+                        (Edit(it.begin(-1), it.begin(1), f'{change} '),), f'Write `{change}`')
+        return Hint('There are no negative numbers and no sign before a value: write `0 - x`.', '', it.changes(0, 0, '0 - '), 'Write `0 -`')
+    if it.word() == '+':
+        return Hint('There must be no sign before a value.', 'Leave the `+` out.', it.changes(0, 0, ''), 'Remove the `+`')
+    if it.word() in ('<', '>') and before == it.word():
+        return Hint('There are no shifts.', 'A doubling is `y + y`; the remainder by a power of two is an `&`, as `x & 7`.')
+    if it.word() == '>' and before == '<':
+        return Hint('"Not equal" is `!=`.', '', it.changes(-1, 0, '!='), 'Write `!=`')
+    if it.word() in ('*', '/') and before in ('*', '/'):
+        return of_comment(it, -1)
+    if it.word() in ('&', '|') or it.word() in OPERATORS:
+        return Hint(f'`{it.word()}` must have a value on both sides.')
+    return of_word_for_value(it, before)
+
+
+def of_word_for_value(it: Place, before: str) -> Optional[Hint]:
+    if it.word() in ('call', 'uncall', 'new') and it.is_new_line() and before not in ('fi', 'until'):
+        return Hint(f'A value must follow `{before}`: there is none before this `{it.word()}`.')
+    if it.word() == 'new':
+        return Hint('`new` is a statement and has no value: a local of a class begins as `nil`.', 'Write `new C x` after it.')
+    if it.word() in ('call', 'uncall'):
+        return Hint(f'`{it.word()}` is a statement and has no value: let the method add its result to an argument.')
+    if before in ('fi', 'until'):
+        word = {'fi': 'An `if` must end with an assertion after `fi`: a condition that holds after `then` and not after `else`.',
+                'until': 'A `from` must end with a condition after `until`.'}[before]
+        return Hint(word, 'Often it is the condition of the `if` itself.' if before == 'fi' else '')
+    if before in ('if', 'from'):
+        return Hint(f'`{before}` must have a condition.')
+    if it.word() in KEYWORDS and (it.is_new_line() or it.word() in ('class', 'method', 'then', 'do', 'else', 'fi', 'loop', 'until')):
+        return Hint(f'A value must follow `{before}`: there is none before this `{it.word()}`.')
+    if it.word() in KEYWORDS:
+        return Hint(f'`{it.word()}` is a word of the language, so it must not be a value.')
+    if it.word() == ')' and before == '(':
+        return Hint('Parentheses must hold a value.')
+    if it.word() == ']' and before == '[' and it.spot.open[-2].what == 'length':
+        word, made = it.word(-3), it.word(-2)
+        return Hint(f'`{word}` must name the length of the array: `{word} {made}[5] a`.')
+    if it.word() == ']' and before == '[':
+        return Hint('An element must have an index: `a[0]`.')
+    return None
+
+
+def of_value_end(it: Place) -> Optional[Hint]:
+    """What is after a value and goes on as none."""
+    if not OPERATORS <= it.expected:
+        return None
+    if it.kind(-1) == 'number' and it.kind() == 'name' and it.begin() == it.end(-1):
+        return Hint(f'A number must be decimal: `{it.word(-1)}{it.word()}` is none.', 'Write its decimal digits.')
+    if it.kind(-1) == 'number' and it.kind() == 'number':
+        return Hint('There must be an operator between two numbers.')
+    if it.word() == '(' and it.kind(-1) == 'name':
+        return Hint('A call is a statement and has no value: let the method add its result to an argument.',
+                    f'Write `call {it.word(-1)}(..)` with one argument more.')
+    if it.word() in UPDATES | {'<=>'}:
+        return Hint(f'A statement must change one place: there must be no second `{it.word()}` in it.', 'Write two statements.')
+    if it.word() == '::':
+        return Hint('A value must not be a call, and fields of other objects are not seen.',
+                    'Let a method of the object add the value to a parameter: `call x::get(v)`.')
+    if it.word() == '[' and it.word(-1) in (')', ']'):
+        return Hint('Only a variable can be indexed: there are no arrays of arrays.')
+    if it.word() == ',' and it.inside == 'expression':
+        return Hint('There must be one value: there are no lists.')
+    return None
+
+
+def of_comment(it: Place, first: int = 0) -> Optional[Hint]:
+    pair = it.word(first) + it.word(first + 1)
+    if pair in ('/*', '*/', '--', '(*', '**') and it.begin(first + 1) == it.end(first):
+        return Hint('A comment must begin with `//`, and it ends with its line.', 'Write `//` in front of each line.')
+    return None
+
+
+# ---- calls, objects and arrays
+
+def of_argument(it: Place) -> Optional[Hint]:
+    if it.inside != 'arguments':
+        return None
+    local = 'Put it into a local around the call: `local int v = ..` .. `delocal int v = ..`.'
+    if it.expected == {'('}:
+        if it.expects('('):
+            return Hint(f'A call must have parentheses: `call {it.word(-1)}()`.', '', (Edit(it.end(-1), it.end(-1), '()'),), 'Write `()`')
+    if it.word() == 'int' or it.kind() == 'name' and it.kind(-1) == 'name':
+        return Hint('An argument must be a variable without its type.', 'Leave the type out.')
+    if it.word() == '[':
+        name = it.word(-1)
+        return Hint(f'An argument must be a variable, not an element: `{name}[..]` cannot move into the call.',
+                    f'Swap it into a local around the call: `local int v = 0`, `v <=> {name}[..]`, the call, and back by the same.')
+    if it.word() == 'nil':
+        return Hint('An argument must be a variable, not `nil`.', 'Pass a local that begins as `nil`.')
+    if it.word() in ('call', 'new'):
+        return Hint(f'An argument must be a variable: `{it.word()}` has no value.', local)
+    if it.kind() == 'number' or it.word() in ('-', '('):
+        return Hint(f'An argument must be a variable, not `{it.word()}`.', local)
+    if it.word() in OPERATORS:
+        return Hint(f'An argument must be a variable, not an expression with `{it.word()}`.', local)
+    if it.word() == '::':
+        return Hint('An argument must be a variable: fields of other objects are not seen.')
+    if it.word() == ')' and it.word(-1) == ',':
+        return Hint('There must be a variable after the `,`.', 'Leave it out.', it.changes(-1, -1, ''), 'Remove the `,`')
+    return None
+
+
+def of_call_parentheses(it: Place) -> Optional[Hint]:
+    """A call without parentheses, or on what is no variable."""
+    if it.inside in ('call', 'uncall', 'arguments') and it.expects('(', '::') and it.kind(-1) == 'name':
+        return Hint(f'A call must have parentheses: `{it.inside if it.inside != "arguments" else "call"} {it.word(-1)}()`.', '',
+                    (Edit(it.end(-1), it.end(-1), '()'),), 'Write `()`')
+    if it.inside in ('call', 'uncall') and it.expected == {NAME}:
+        return Hint('A call must name a method: `call m(..)`, or `call x::m(..)` of another object.')
+    return None
+
+
+def of_new(it: Place) -> Optional[Hint]:
+    opened = it.opened('new', 'delete')
+    if opened is None or it.opened('local', 'if', 'from') and it.opened('local', 'if', 'from').first > opened.first:
+        return None
+    word, made = it.tokens[opened.first].text, it.tokens[opened.first + 1].text if opened.first + 1 < len(it.tokens) else 'C'
+    if it.word() == '(' and it.expects(NAME):
+        return Hint(f'`{word}` must have no arguments: `{word} {made} x`, and then a call sets what the object begins with.')
+    if it.inside == 'length' and it.expected == {'['}:
+        return Hint(f'An `int` is not made by `{word}`: fields and locals are there by themselves.',
+                    f'An array is `{word} int[5] a`.')
+    if it.expects(NAME) and it.inside in ('new', 'delete') and it.at > opened.first + 1:
+        if word == 'delete':
+            return Hint(f'`delete` must name the class and then the variable: `delete C {made}`.')
+        return Hint(f'`{word}` must name the variable that it fills: `{word} {made} x`.')
+    return None
+
+
+def of_new_with_arguments(it: Place) -> Optional[Hint]:
+    if it.word() == '(' and 'new' in (it.word(-2), it.word(-3)):
+        made = it.word(-2) if it.word(-3) == 'new' else it.word(-1)
+        return Hint(f'`new` must have no arguments: `new {made} x`, and then a call sets what the object begins with.')
+    return None
+
+
+def of_copy(it: Place) -> Optional[Hint]:
+    opened = it.opened('copy', 'uncopy')
+    if opened is None or it.inside not in ('copy', 'uncopy') or not it.expects(NAME):
+        return None
+    word, first, second = it.tokens[opened.first].text, it.word(-2), it.word(-1)
+    if it.at == opened.first + 3:
+        return Hint(f'`{word}` must name the class and then two variables: `{word} C {first} {second}`.')
+    return Hint(f'`{word}` must name the class and then two variables: `{word} C x y`.')
+
+
+def of_local(it: Place) -> Optional[Hint]:
+    opened = it.opened('local')
+    if it.inside != 'local' or opened is None:
+        return None
+    word = 'local' if it.at <= opened.first + 5 and not it.is_statement() else 'delocal'
+    if it.expects(NAME) and it.word() == '=' and it.kind(-1) == 'name':
+        name = it.word(-1)
+        return Hint(f'`{word}` must name the type: `{word} int {name} = ..`.', '', it.changes(-1, -1, f'int {name}'), 'Write the type')
+    if it.expected <= {'=', '['} and it.kind(-1) == 'name':
+        name, kind = it.word(-1), it.word(-2)
+        value = '0' if kind == 'int' else 'nil'
+        if it.word() == '[':
+            return Hint(f'`{name}` must have its brackets after the type: `{word} {kind}[] {name} = nil`.')
+        if it.word() in ('+=', '<=>'):
+            return Hint(f'A local begins and ends with `=`: `{word} {kind} {name} = ..`.', '', it.changes(0, 0, '='), 'Write `=`')
+        return Hint(f'`{word}` must have a value: `{word} {kind} {name} = {value}`.', '', (Edit(it.end(-1), it.end(-1), f' = {value}'),),
+                    f'Write `= {value}`')
+    if it.expects('int') and it.word() and it.word(-1) in ('delocal', 'local'):
+        return Hint(f'`{it.word(-1)}` must have a type, a name and a value: `{it.word(-1)} int x = 0`.')
+    if it.expects('int') and not it.word():
+        return Hint('`delocal` must have a type, a name and a value: `delocal int x = 0`.')
+    return None
+
+
+def of_construct(it: Place) -> Optional[Hint]:
+    if it.inside == 'construct' and it.expects(NAME) and it.word(-1) not in ('destruct',):
+        return Hint('`construct` must name a class and then a variable: `construct C x` .. `destruct x`.')
+    before = it.tokens[it.at - 3].text if it.at > 2 else ''
+    if it.is_behind_place() and before == 'destruct':
+        return Hint(f'`destruct` must have the variable only: `destruct {it.word(-1)}`.', '', (Edit(it.begin(-2), it.begin(-1), ''),),
+                    'Remove the class')
+    return None
+
+
+# ---- blocks
+
+def of_missing_word(it: Place) -> Optional[Hint]:
+    """The next word of an `if` or a `from` is missing, and a later one, or the end of what is around, is there."""
+    opened = it.opened('if', 'from', 'local', 'construct')
+    if opened is None or it.inside in ('arguments', 'parentheses', 'index', 'length'):
+        return None
+    closers = CLOSERS[opened.what]
+    missing = next((word for word in closers if it.expects(word)), '')
+    line = it.line_of(opened.first)
+    if it.word() in closers and missing and closers.index(missing) < closers.index(it.word()):
+        text = {'else': 'else skip ', 'loop': 'loop skip ', 'then': 'then ', 'do': 'do skip '}.get(missing, '')
+        if missing == 'do' and it.word() != 'loop':
+            text = 'do '
+        return Hint(f'The `{opened.what}` of line {line} must have `{missing}` before this `{it.word()}`.',
+                    f'An empty block is `{missing} skip`.' if 'skip' in text else '', it.puts(text), f'Write `{text.strip()}`')
+    if missing in ('then', 'do') and it.inside == 'expression' or missing in ('then', 'do'):
+        return Hint(f'The `{opened.what}` of line {line} must have `{missing}` after its condition.', '',
+                    (Edit(it.end(-1), it.end(-1), f' {missing}'),), f'Write `{missing}`')
+    if missing and it.word() in ('', 'method', 'class'):
+        rest = {'else': '`else` .. `fi`', 'fi': '`fi` with its assertion', 'loop': '`loop` .. `until`', 'until': '`until` with its condition',
+                'delocal': '`delocal`', 'destruct': '`destruct`'}[missing]
+        where = f'before the next `{it.word()}`' if it.word() else 'before the source ends'
+        return Hint(f'The `{opened.what}` of line {line} must end {where}: {rest} is missing.')
+    return None
+
+
+def of_stray_word(it: Place) -> Optional[Hint]:
+    """A word that ends what is not open, or not the innermost."""
+    owner = next((what for what, words in CLOSERS.items() if it.word() in words), '')
+    if not owner or not (it.is_statement() or it.expects('method')):
+        return None
+    opened = it.opened('if', 'from', 'local', 'construct')
+    if it.opened(owner) is None:
+        return Hint(f'There must be an open `{owner}` before this `{it.word()}`.')
+    if opened is not None and opened.what != owner:
+        return Hint(f'The `{opened.what}` of line {it.line_of(opened.first)} must end before this `{it.word()}`: what begins last ends first.')
+    if it.word(-1) in CLOSERS.get(opened.what, ()) or it.at == opened.first + 1:
+        return Hint('A block must have at least one statement.', 'Write `skip`.', it.puts('skip '), 'Write `skip`')
+    return Hint(f'The `{owner}` of line {it.line_of(opened.first)} already has its `{it.word()}`.')
+
+
+def of_parentheses(it: Place) -> Optional[Hint]:
+    closer = {'parentheses': ')', 'index': ']', 'length': ']', 'arguments': ')', 'parameters': ')'}.get(it.inside, '')
+    inner = it.inside
+    if it.inside == 'expression' and len(it.spot.open) > 1:
+        inner = it.spot.open[-2].what
+        closer = {'parentheses': ')', 'index': ']', 'length': ']'}.get(inner, '')
+    opened = it.opened(inner) if closer and it.expects(closer) else None
+    if opened is not None:
+        first = it.tokens[opened.first].text
+        return Hint(f'The `{first}` of line {it.line_of(opened.first)} must be closed by `{closer}` before `{it.word() or "the end"}`.', '',
+                    (Edit(it.end(-1), it.end(-1), closer),), f'Write `{closer}`')
+    if it.word() in (')', ']'):
+        return Hint(f'There must be an open `{ {")": "(", "]": "["}[it.word()] }` before this `{it.word()}`.', 'Leave it out.',
+                    it.changes(0, 0, ''), f'Remove `{it.word()}`')
+    return None
+
+
+def of_statement_begin(it: Place) -> Optional[Hint]:
+    """What begins no statement."""
+    if not it.is_statement():
+        return None
+    comment = of_comment(it)
+    if comment:
+        return comment
+    if it.kind() == 'number':
+        return Hint('A statement must not begin with a number.')
+    if it.word() == 'int' or it.word() in TYPES_OF_OTHERS:
+        name = it.word(1) if it.kind(1) == 'name' else 'x'
+        return Hint(f'A variable of a method must be declared by `local int {name} = ..` .. `delocal int {name} = ..`.',
+                    'Or declare it as a field, before the methods.')
+    if it.word() in ('+', '-') and it.word(1) == it.word():
+        return Hint(f'There is no `{it.word()}{it.word()}`: write `{it.word(2) or "x"} {it.word()}= 1`.')
+    if it.word() in ('inherits', 'nil'):
+        return Hint(f'`{it.word()}` must not begin a statement.')
+    if it.word() in OPERATORS or it.word() in UPDATES or it.word() in ('<=>', '::', ',', '(', '['):
+        return Hint(f'A statement must not begin with `{it.word()}`: the variable that it changes comes first.')
+    return None
+
+
+def of_end(it: Place) -> Optional[Hint]:
+    if it.word() or not it.at:
+        return None
+    if it.is_value():
+        return Hint(f'The source must not end here: a value must follow `{it.word(-1)}`.')
+    return Hint(f'The source must not end here: {spelled(it.expected)} must follow `{it.word(-1)}`.')
+
+
+def of_word_behind_statement(it: Place) -> Optional[Hint]:
+    """After the last statement of a class comes a method or a class."""
+    if it.inside in ('', 'class') and it.expects('class') and it.word():
+        return Hint(f'`{it.word()}` must be in a method, or declare one: a class has its fields first and then its methods.')
+    return None
+
+
+HINTS: List[Callable[[Place], Optional[Hint]]] = [
+    of_first_word, of_extends, of_modifier, of_operator_name, of_keyword_as_variable, of_missing_word,
+    of_stray_word, of_keyword_as_name, of_method_head, of_field, of_type, of_argument, of_call_parentheses,
+    of_local, of_construct, of_new_with_arguments, of_new, of_copy, of_update, of_call_without_word,
+    of_word_at_begin, of_value, of_value_end, of_parentheses, of_statement_begin, of_end, of_word_behind_statement]
+
+
+def syntax_hint(text: bytes, at: int) -> Hint:
+    """What is said of the place where the grammar is left; without a sentence where no usual mistake is seen, and with nothing where
+    this module finds another place than the program."""
+    tokens = cut(text)[0]
+    spot = first_wrong(tokens)
+    it = Place(text, tokens, spot) if spot else None
+    if it is None or it.begin() != at:
+        return Hint('')
+    found = f'`{it.word()}`' if it.word() else 'the end of the source'
+    hint = next(filter(None, (rule(it) for rule in HINTS)), Hint(''))
+    return hint._replace(expected=spelled(spot.expected), found=found)
+
+
+# ---- bytes
+
+BYTES = {
+    ';': Hint('No statement ends with `;`.', 'Leave it out.'),
+    '{': Hint('There are no braces: a method goes on to the next `method` or `class`, and `then`, `do`, `fi` and so on mark blocks.',
+              'Leave it out.'),
+    '}': Hint('There are no braces: a method goes on to the next `method` or `class`.', 'Leave it out.'),
+    '.': Hint('There is no `.`: a call on an object is `call x::m(..)`, fields of other objects are not seen, and numbers are whole.',
+              'Let a method of the object add the value to a parameter. The length of an array is kept in a variable.'),
+    '!': Hint('There is no `!`: write the opposite comparison, as `x = 0` for `!x`, and `!=` without a space.'),
+    "'": Hint('There are no characters: a character is its number, 104 for `h`.'),
+    '"': Hint('There are no strings: keep the numbers of the characters in an `int[]`.', 'Nothing is printed; a comment begins with `//`.'),
+    ':': Hint('There is no single `:`: a call on an object is `x::m(..)`, and a variable is changed by `+=`.'),
+    '#': Hint('A comment must begin with `//`.', '', (), 'Write `//`'),
+    '~': Hint('There is no `~`: `0 - x - 1` turns all bits.'),
+    '@': Hint('There is no `@`.', 'Leave it out.'),
+    '?': Hint('There is no `?`: write an `if`.'),
+    '$': Hint('There is no `$`: a variable is its name.', 'Leave it out.'),
+    '`': Hint('There is no such quote.', 'Leave it out.'),
+    '\\': Hint('There is no `\\`: a statement may go over lines by itself.', 'Leave it out.'),
+    '_': Hint('A name must begin with a letter, not with `_`.'),
+    '\ufeff': Hint('The source must not begin with a byte order mark.', 'Save it as UTF-8 without one.', (), 'Remove the mark'),
+    '\xa0': Hint('This is a no-break space, which must not be in a source though it looks like a space.', 'Write a space.', (),
+                 'Write a space'),
+    '\u200b': Hint('This is a space without width, which must not be in a source.', 'Remove it.', (), 'Remove it'),
+    '\u2212': Hint('This is a minus sign that only looks like `-`.', 'Write `-`.', (), 'Write `-`'),
+    '\u2013': Hint('This is a dash that only looks like `-`.', 'Write `-`.', (), 'Write `-`'),
+    '\u2018': Hint('This is a quotation mark of a word processor.', 'Leave it out.'),
+    '\u2019': Hint("This is a quotation mark of a word processor, which only looks like `'`.", "Write `'` in names."),
+    '\u201c': Hint('This is a quotation mark of a word processor, and there are no strings.', 'Leave it out.'),
+    '\u201d': Hint('This is a quotation mark of a word processor, and there are no strings.', 'Leave it out.'),
+    '\u2264': Hint('This sign must be written `<=`.', '', (), 'Write `<=`'),
+    '\u2265': Hint('This sign must be written `>=`.', '', (), 'Write `>=`'),
+    '\u2260': Hint('This sign must be written `!=`.', '', (), 'Write `!=`'),
+    '\u21d4': Hint('This sign must be written `<=>`.', '', (), 'Write `<=>`'),
+    '\x00': Hint('The source must not have a byte 0: it is no text, or UTF-16.', 'Save it as UTF-8.'),
+    '\x0c': Hint('This is a form feed, which must not be in a source outside of comments.', 'Write a line feed.', (), 'Write a line feed'),
+    '\x0b': Hint('This is a vertical tab, which must not be in a source outside of comments.', 'Write a space.', (), 'Write a space'),
+}
+WRITES = {'#': '//', '\ufeff': '', '\xa0': ' ', '\u200b': '', '\u2212': '-', '\u2013': '-', '\u2264': '<=', '\u2265': '>=',
+          '\u2260': '!=', '\u21d4': '<=>', '\x0c': '\n', '\x0b': ' ', ';': ''}
+
+
+def byte_hint(text: bytes, at: int) -> Optional[Hint]:
+    """What is said of the byte at which no token begins."""
+    if text[at:at + 1] in (b'!', b':') and text[at + 1:at + 2] == b'=':
+        return Hint('There is no `:=`, which would lose the old value: `+=` sets a variable that is 0.', 'Write `+=`.',
+                    (Edit(at, at + 2, '+='),), 'Write `+=`')
+    if text[at:at + 2] in (b'\xff\xfe', b'\xfe\xff'):
+        return Hint('The source must not be UTF-16.', 'Save it as UTF-8.')
+    character = text[at:at + 4].decode('utf-8', 'ignore')[:1]
+    if text[at:at + len(character.encode())] != character.encode():
+        character = ''
+    if character.isalpha():
+        return Hint(f'`{character}` must not be in a name: letters are those of ASCII.', 'Write the name with a to z.')
+    hint = BYTES.get(character)
+    if hint is None:
+        return None
+    if character not in WRITES:
+        return hint
+    end = at + len(character.encode())
+    if character == ';':
+        return hint._replace(edits=(Edit(at, end, ''),), title='Remove the `;`')
+    return hint._replace(edits=(Edit(at, end, WRITES[character]),))

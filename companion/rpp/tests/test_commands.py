@@ -1,0 +1,188 @@
+"""`rpp fmt`, `rpp inverse`, `rpp list`, standard input, colours, and completion, as a person sees them."""
+import os
+import pty
+import shutil
+import subprocess
+import sys
+
+from rpp.__main__ import COMMANDS
+from rpp.program import TOP
+
+from .base import COMMAND, EXAMPLES, LIST, SUMS, Case
+
+LOOSE = 'class P int x   method main()\nif x = 0 then x += 1 else skip fi x = 1 // said\n'
+LAID_OUT = 'class P\n  int x\n\nmethod main()\n  if x = 0 then x += 1 else skip fi x = 1  // said\n'
+SHELLS = {
+    'bash': ['-c', 'source "$0/editors/bash/rpp.bash"; COMP_WORDS=("$1" "${@:2}"); COMP_CWORD=$(($# - 1)); _rpp; '
+             'printf "%s\\n" "${COMPREPLY[@]}"', TOP, COMMAND],
+    'zsh': ['-c', 'compadd() { local each; for each in "$@"; do [[ $each == -* ]] || print -r -- $each; done }; '
+            'words=("$1" "${@:2}"); CURRENT=$#; source "$0/editors/zsh/_rpp"', TOP, COMMAND],
+    'fish': ['-c', 'function commandline; if test $argv[1] = -ct; echo $argv_last; else; printf "%s\\n" $argv_before; end; end; '
+             'set -g argv_before $argv[2..-2]; set -g argv_last $argv[-1]; source $argv[1]/editors/fish/rpp.fish; __rpp_complete', TOP,
+             COMMAND],
+}
+
+
+class Layout(Case):
+    def test_in_place(self):
+        source = self.write('a.rpp', LOOSE)
+        os.chmod(source, 0o600)
+        done = self.rpp('fmt', 'a.rpp')
+        self.assertEqual((done.returncode, done.stdout, done.stderr), (0, '', ''))
+        with open(source, encoding='utf-8') as file:
+            self.assertEqual(file.read(), LAID_OUT)
+        self.assertEqual(os.stat(source).st_mode & 0o777, 0o600)
+        before = os.stat(source).st_mtime_ns
+        self.rpp('fmt', 'a.rpp')
+        self.assertEqual(os.stat(source).st_mtime_ns, before)
+
+    def test_check(self):
+        self.write('a.rpp', LOOSE)
+        self.write('b.rpp', LAID_OUT)
+        done = self.rpp('fmt', '--check', 'a.rpp', 'b.rpp')
+        self.assertEqual((done.returncode, done.stdout), (1, 'a.rpp: not laid out\n'))
+        self.assertEqual(self.rpp('fmt', '--check', 'b.rpp').returncode, 0)
+        with open(os.path.join(self.folder, 'a.rpp'), encoding='utf-8') as file:
+            self.assertEqual(file.read(), LOOSE)
+
+    def test_what_leaves_the_grammar_stays(self):
+        source = self.write('a.rpp', 'class P int x method main()\nx = 1\n')
+        done = self.rpp('fmt', 'a.rpp')
+        self.assertEqual((done.returncode, done.stdout), (1, ''))
+        self.assertIn('a.rpp:2:3: refused 3 Syntax: `x` must be changed by', done.stderr)
+        with open(source, encoding='utf-8') as file:
+            self.assertEqual(file.read(), 'class P int x method main()\nx = 1\n')
+        self.assertEqual(self.rpp('fmt', 'absent.rpp').returncode, 2)
+
+
+class Inverse(Case):
+    def test_it_undoes(self):
+        source = self.write('a.rpp', 'class P int x method main() x += 5\n')
+        done = self.rpp('inverse', source)
+        self.assertEqual(done.stdout, 'class P\n  int x\n\nmethod main()\n  x -= 5\n')
+        self.rpp('inverse', source, '-o', 'b.rpp')
+        self.assertEqual(self.rpp('run', 'b.rpp', 'x=5').stdout.split('\n')[0], 'x = 0')
+        self.assertEqual(self.rpp('inverse', source, '-o', source).returncode, 1)
+        self.assertEqual(self.rpp('inverse', '-', stdin='class P').returncode, 3)
+
+
+class Listed(Case):
+    def test_statements_beside_their_cells(self):
+        source = self.write('a.rpp', 'class P\n  int x\nmethod main()\n  x += 5\n  x ^= 3\n')
+        lines = self.rpp('list', source).stdout.split('\n')
+        self.program.call('compile', source, os.path.join(self.folder, 'image'))
+        self.program.call('list', os.path.join(self.folder, 'image'), os.path.join(self.folder, 'listing'))
+        with open(os.path.join(self.folder, 'listing'), encoding='utf-8') as file:
+            listing = [line for line in file.read().splitlines() if not line.startswith(('MARK', 'NAME'))]
+        self.assertEqual([line[8:].split('  ')[0].strip() for line in lines[:-1]], listing)
+        beside = [line.split('  ')[-1] for line in lines if line.endswith(('+= 5', '^= 3'))]
+        self.assertEqual(beside, ['4:3 x += 5', '5:3 x ^= 3'])
+        only = self.rpp('list', source, '--line', 5).stdout
+        self.assertIn('5:3 x ^= 3', only)
+        self.assertNotIn('x += 5', only)
+        self.assertEqual(self.rpp('list', source, '--line', 1).returncode, 1)
+        image = self.rpp('list', 'image', '--source', source).stdout
+        self.assertEqual(image, '\n'.join(lines))
+
+
+class Standing(Case):
+    """A source that is standard input or a pipe is read once."""
+
+    def test_every_command(self):
+        with open(LIST, encoding='utf-8') as file:
+            text = file.read()
+        for words in (['run', '-'], ['check', '-'], ['debug', '-', '-c', 'step'], ['film', '-'], ['side', '-'], ['heap', '-', '--heap', 5],
+                      ['inverse', '-'], ['list', '-'], ['fmt', '-'], ['fmt', '--check', '-'], ['run', '/dev/stdin'], ['check', '/dev/stdin']):
+            with self.subTest(words=words):
+                piped = self.rpp(*words, stdin=text)
+                self.assertEqual((piped.returncode, piped.stderr), (0, ''))
+                self.assertTrue(piped.stdout or '--check' in words)
+        self.assertTrue(os.path.isfile(os.path.join(self.folder, 'film.html')))
+
+    def test_the_name_that_is_shown(self):
+        done = self.rpp('check', '-', stdin='class P int x method main() x += x\n')
+        self.assertTrue(done.stdout.startswith('<stdin>:1:29: refused 16 SelfUpdate: '))
+
+    def test_substituted_processes(self):
+        text = "printf 'class P int x method main() x += x'"
+        for word, status in (('run', 3), ('check', 1)):
+            done = subprocess.run(['bash', '-c', f'{sys.executable} {COMMAND} {word} <({text})'], stdout=subprocess.PIPE, check=False)
+            self.assertEqual(done.returncode, status)
+            self.assertIn(':1:29: refused 16 SelfUpdate', done.stdout.decode())
+
+    def test_an_input(self):
+        done = self.rpp('run', os.path.join(EXAMPLES, 'counter.rpp'), '--input', '-', stdin='count = 4\n')
+        self.assertEqual(done.stdout.split('\n')[0], 'count = 7')
+
+
+class Colours(Case):
+    def test_when_there_are_colours(self):
+        plain = self.rpp('check', LIST).stdout
+        self.assertNotIn('\x1b', plain)
+        self.assertIn('\x1b[32maccepted\x1b[0m', self.rpp('check', LIST, '--color', 'always').stdout)
+        self.assertEqual(self.rpp('--color=never', 'check', LIST).stdout, plain)
+        self.assertEqual(self.rpp('check', LIST, '--color', 'some').returncode, 1)
+
+    def test_on_a_terminal(self):
+        for settings, has in (({}, True), ({'NO_COLOR': '1'}, False), ({'TERM': 'dumb'}, False)):
+            with self.subTest(settings=settings):
+                said = self.on_terminal('run', SUMS, 'a=4', 'b=8', columns=60, **settings)
+                self.assertEqual('\x1b[' in said, has)
+                self.assertIn('Fix:', said)
+
+    def test_lines_fit_the_terminal(self):
+        for columns in (60, 100):
+            said = self.on_terminal('help', '15', columns=columns, NO_COLOR='1')
+            widest = max(len(line) for line in said.splitlines() if not line.startswith('See'))
+            self.assertTrue(columns - 25 < widest <= columns, widest)
+
+    def on_terminal(self, *words, columns, **settings):
+        """What `rpp` writes on a terminal of so many columns."""
+        ours, its = pty.openpty()
+        environment = {**{name: value for name, value in os.environ.items() if name != 'NO_COLOR'}, 'TERM': 'xterm', 'COLUMNS': str(columns),
+                       **settings}
+        started = subprocess.Popen([sys.executable, COMMAND, *words], stdout=its, stderr=subprocess.DEVNULL, env=environment)
+        os.close(its)
+        said = b''
+        while True:
+            try:
+                piece = os.read(ours, 65536)
+            except OSError:
+                break
+            if not piece:
+                break
+            said += piece
+        started.wait()
+        os.close(ours)
+        return said.decode().replace('\r\n', '\n')
+
+
+class Folded(Case):
+    def test_arrays_of_ints(self):
+        source = self.write('a.rpp', 'class P int[] a C[] c method main() new int[3] a a[1] += 7 new C[2] c class C\n')
+        self.assertEqual(self.rpp('run', source).stdout.split('\n')[:6],
+                         ['a = #1', 'c = #2', '#1 int[3] count 1: 0 7 0', '#2 C[2] count 1', '  [0] = nil', '  [1] = nil'])
+
+
+class Completion(Case):
+    ROWS = [(['ver'], ['version']), (['run', 'count'], ['counter.rpp']), (['run', 'counter.rpp', 'c'], ['counter.rpp', 'count=']),
+            (['run', 'counter.rpp', 'count=1', 'b'], ['before=']), (['check', '--br'], ['--brief']), (['help', 'TooD'], ['TooDeep'])]
+
+    def setUp(self):
+        super().setUp()
+        shutil.copy(os.path.join(EXAMPLES, 'counter.rpp'), self.folder)
+
+    def test_words(self):
+        for words, wanted in self.ROWS:
+            with self.subTest(words=words):
+                self.assertEqual(self.rpp('complete', *words).stdout.split(), wanted)
+        self.assertEqual(set(self.rpp('complete', '').stdout.split()), {*COMMANDS, '--help'})
+
+    def test_shells(self):
+        for shell, words in SHELLS.items():
+            with self.subTest(shell=shell):
+                if not shutil.which(shell):
+                    self.skipTest(f'there is no {shell}')
+                for typed, wanted in self.ROWS[:3]:
+                    done = subprocess.run([shell, *words, *typed], cwd=self.folder, stdout=subprocess.PIPE, check=False)
+                    self.assertEqual(sorted(done.stdout.decode().split()), sorted(wanted))

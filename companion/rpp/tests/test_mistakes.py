@@ -1,0 +1,162 @@
+"""The sentences for the usual mistakes: those of mistakes.txt, those of the page of messages, and that none of them is a guess."""
+import json
+import os
+import re
+
+from rpp.explain import of_fault, of_refusal
+from rpp.fault_slots import Where
+from rpp.faults import find_fault
+from rpp.places import Text
+from rpp.program import TOP
+from rpp.rules import FAULT_OF, FAULTS, REFUSAL_OF, REFUSALS
+from rpp.run import Wanted
+from rpp.slots import SLOT
+
+from .base import Case
+
+PAGE = os.path.join(TOP, 'docs', 'reference', 'messages.md')
+HEADING = re.compile(r'^### (Fault )?(\d+) (\w+)\n(.*?)(?=^##|\Z)', re.S | re.M)
+WRONG = re.compile(r'^```\n(// wrong\.rpp\n.*?)^```', re.S | re.M)
+MOST_WITHOUT = 5
+
+
+def mistakes():
+    """The texts of mistakes.txt, each with its name and what is said."""
+    with open(os.path.join(os.path.dirname(__file__), 'mistakes.txt'), encoding='utf-8') as file:
+        parts = re.split(r'^== ', file.read(), flags=re.M)[1:]
+    for part in parts:
+        name, said, text = part.split('\n', 2)
+        text = re.sub(r'\\u([0-9a-f]{4})', lambda found: chr(int(found[1], 16)), text.rstrip('\n') + '\n' if text.strip() else '')
+        yield name, said[len('says: '):], text
+
+
+def quoted(body):
+    """The quoted sentences of a rule in the page."""
+    lines = '\n'.join(line[2:] if line.startswith('>') else '' for line in body.split('\n'))
+    return [' '.join(part.split()) for part in lines.split('\n\n') if part.strip()]
+
+
+def spelled(forms):
+    return [form if isinstance(form, str) else f'{form[0]} Fix: {form[1]}' for form in forms]
+
+
+class Mistakes(Case):
+    def verdicts(self, files):
+        done = self.rpp('check', '--json', *files)
+        self.assertEqual(done.stderr, '')
+        return json.loads(done.stdout)['sources']
+
+    def test_each_has_its_sentence(self):
+        rows = list(mistakes())
+        files = [self.write(f'{name}.rpp', text) for name, _, text in rows]
+        self.assertGreater(len(rows), 180)
+        for (name, said, _), verdict in zip(rows, self.verdicts(files)):
+            with self.subTest(name=name):
+                self.assertIn(said, verdict['message'])
+
+    def test_few_are_without_a_sentence_of_their_own(self):
+        general = {rule.sentence for rule in REFUSALS}
+        files = [self.write(f'{name}.rpp', text) for name, _, text in mistakes()]
+        without = [each['file'] for each in self.verdicts(files)
+                   if each['message'] in general or each['message'].startswith('Expected ')]
+        self.assertLessEqual(len(without), MOST_WITHOUT, without)
+
+    def test_what_is_written_in_place_is_taken(self):
+        """A text with its edits is accepted, or refused later, or for something else."""
+        before = [verdict for verdict in self.verdicts([self.write(f'{name}.rpp', text) for name, _, text in mistakes()])
+                  if verdict.get('edits')]
+        self.assertGreater(len(before), 40)
+        for verdict in before:
+            with open(verdict['file'], 'rb') as file:
+                content = file.read()
+            for edit in sorted(verdict['edits'], key=lambda each: -each['begin']):
+                content = content[:edit['begin']] + edit['text'].encode() + content[edit['end']:]
+            with open(verdict['file'], 'wb') as out:
+                out.write(content)
+        after = self.verdicts([each['file'] for each in before])
+        for one, other in zip(before, after):
+            with self.subTest(file=os.path.basename(one['file'])):
+                self.assertNotEqual((one.get('at'), one['message']), (other.get('at'), other.get('message')))
+
+    def test_two_byte_texts(self):
+        file = self.write('text.rpp', '')
+        with open(file, 'wb') as out:
+            out.write('class P method main() skip'.encode('utf-16'))
+        self.assertIn('UTF-16', self.verdicts([file])[0]['message'])
+
+    def test_deep_and_long_texts(self):
+        for text in ('class P int x method main() x += ' + '(' * 3000, 'class P method main() ' + 'if x then ' * 3000):
+            file = self.write('text.rpp', text)
+            self.assertEqual(self.verdicts([file])[0]['name'], 'Limit')
+
+
+class Pages(Case):
+    """The page of messages says what rules.py says, and its wrong programs get sentences of their own."""
+
+    def sections(self):
+        with open(PAGE, encoding='utf-8') as file:
+            return HEADING.findall(file.read())
+
+    def test_the_page_says_the_same(self):
+        found = {}
+        for fault, number, name, body in self.sections():
+            rule = (FAULT_OF if fault else REFUSAL_OF)[int(number)]
+            found[rule.title] = rule
+            paragraphs = [' '.join(part.split()) for part in body.split('\n\n')]
+            with self.subTest(rule=rule.title):
+                self.assertEqual(name, rule.name)
+                self.assertEqual(paragraphs[0], rule.sentence)
+                self.assertEqual(quoted(body), spelled(rule.forms + rule.back))
+                self.assertIn(f'Fix: {rule.fix}', paragraphs)
+                if rule.fix_back:
+                    self.assertIn(f'Fix, in a body that runs backward: {rule.fix_back}', paragraphs)
+        self.assertEqual(sorted(found), sorted(rule.title for rule in REFUSALS + FAULTS if rule.page.endswith('messages.md')))
+
+    def test_wrong_programs_of_refusals(self):
+        for fault, number, _, body in self.sections():
+            for text in WRONG.findall(body) if not fault else ():
+                with self.subTest(number=number, text=text):
+                    found = re.match(r'refused (\d+) \w+ at (\d+)', self.program.call('check', self.write('wrong.rpp', text)).output)
+                    self.assertEqual(found[1], number)
+                    self.good(of_refusal(text.encode(), int(number), int(found[2])))
+
+    def test_wrong_programs_of_faults(self):
+        for fault, number, name, body in self.sections():
+            for text in WRONG.findall(body) if fault else ():
+                heap, depth = map(int, re.search(r'go wrong\.rpp (\d+) (\d+)', body).groups())
+                source = self.write('wrong.rpp', text)
+                found = find_fault(self.program, Wanted(source, heap, depth, 100000, None, False), Text.read(source))
+                at = found.statement if found.statement is not None else found.point.place
+                with self.subTest(name=name):
+                    self.good(of_fault(int(number), Where(text.encode(), at, found.moment, found.is_back, heap, depth)))
+
+    def good(self, message):
+        self.assertTrue(message.is_own, message.sentence)
+        self.assertIsNone(SLOT.search(message.sentence + message.fix))
+
+
+class Directions(Case):
+    """A fault in a body that runs backward is told in the words of that direction."""
+
+    def test_each(self):
+        for text, said in {
+                'class P int x int y method main() x += 1 y += 1 uncall f() method f() if x = 0 then y += 1 else skip fi y = 1':
+                    'the condition `x = 0` must be true',
+                'class P int x int y method main() x += 3 uncall f() method f() local int i = 0 x += i delocal int i = 3':
+                    '`i` must be equal to its initial value `0` at its `local`',
+                'class P C c method main() new C c uncall f() method f() delete C c class C int x':
+                    '`c` must be nil before this `delete` is undone, and it holds #2',
+                'class P int x method main() x += 5 uncall f() method f() from x = 0 do x += 1 loop skip until x = 2':
+                    'On this way back, the condition `x = 2` must be true'}.items():
+            done = self.rpp('run', self.write('text.rpp', text + '\n'))
+            with self.subTest(text=text):
+                self.assertEqual(done.returncode, 5)
+                self.assertIn(said, ' '.join(done.stdout.split()))
+                self.assertNotIn('`if` tests, repeat', done.stdout)
+
+    def test_json(self):
+        done = self.rpp('run', '--json', self.write('text.rpp', 'class P int[] a method main() new int[2] a a[2] += 1\n'))
+        value = json.loads(done.stdout)
+        self.assertEqual((value['outcome'], value['name'], value['line'], value['last']['position']), ('fault', 'Index', 1, 1))
+        self.assertEqual(value['message'], 'The index of `a` must be at least 0 and less than 2, and it is 2.')
+

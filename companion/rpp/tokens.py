@@ -1,0 +1,63 @@
+"""The tokens and comments of a source text with their places in bytes, as docs/reference/language.md, "Tokens", has them."""
+import re
+from typing import Iterator, List, NamedTuple, Tuple
+
+KEYWORDS = frozenset(
+    'class inherits method int nil skip if then else fi from do loop until local delocal construct destruct new delete '
+    'copy uncopy call uncall'.split()
+)
+OPERATORS = frozenset('* / % + - < > <= >= = != & ^ | && ||'.split())
+UPDATES = frozenset('+= -= ^='.split())
+
+# The form of a name, as a part of patterns.
+NAME = r"[A-Za-z][A-Za-z0-9_']*"
+
+_PIECE = re.compile(
+    rb"(?P<blank>[ \t\n\r]+)|(?P<comment>//[^\n]*)|(?P<name>" + NAME.encode() + rb")|(?P<number>[0-9]+)"
+    rb'|(?P<sign><=>|[-+^]=|&&|\|\||[<>!]=|::|[-+^&|<>=*/%()\[\],])|(?P<bad>.)',
+    re.S,
+)
+_NAME = re.compile(NAME + r'\Z')
+_WORD = re.compile(rb"(//[^\n]*)|" + NAME.encode() + rb"|[0-9]+|<=>|[-+^]=|&&|\|\||[<>!]=|::|[^ \t\n\r]")
+
+
+class Token(NamedTuple):
+    """A token or a comment: its kind (name, keyword, number, sign, comment, bad), its text and its first byte."""
+
+    kind: str
+    text: str
+    at: int
+
+    @property
+    def end(self) -> int:
+        return self.at + len(self.text)
+
+
+def cut(text: bytes) -> Tuple[List[Token], List[Token]]:
+    """The tokens and the comments of a text. A byte with which no token begins is a token of the kind `bad`."""
+    tokens, comments = [], []
+    for piece in _PIECE.finditer(text):
+        kind = piece.lastgroup
+        if kind == 'blank':
+            continue
+        # (a character for each byte, so that lengths are in bytes)
+        word = piece.group().decode('latin-1')
+        if kind == 'name' and word in KEYWORDS:
+            kind = 'keyword'
+        (comments if kind == 'comment' else tokens).append(Token(kind, word, piece.start()))
+    return tokens, comments
+
+
+def words(text: bytes) -> List[bytes]:
+    """The texts of the tokens alone, which takes less time."""
+    return [each.group() for each in _WORD.finditer(text) if each.lastindex is None]
+
+
+def spans(text: bytes) -> Iterator[Tuple[int, int]]:
+    """Where the tokens begin and end."""
+    return (each.span() for each in _WORD.finditer(text) if each.lastindex is None)
+
+
+def is_name(word: str) -> bool:
+    """Whether a word can be a name of the language."""
+    return bool(_NAME.match(word)) and word not in KEYWORDS

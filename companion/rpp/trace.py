@@ -1,0 +1,356 @@
+"""A run as the program tells it: of a source by `trace`, of an image by `debug`. Nothing here computes a run: positions,
+places, depths and values are those that the program printed.
+
+    with SourceRun(program, 'list.rpp', heap=12, depth=64, inputs=None) as run:
+        run.point(7)              # Point(position=7, place=375, depth=2, fault=None)
+        run.points(0, 500)        # the points 0 to 499, fewer where the run ends before
+        run.states(0, 500)        # the same with variables and objects: Moment(point, variables, objects)
+        run.end()                 # the last point: at_end, or with a fault
+        run.seek(7, 375, 10**6)   # the first later point at this place of the text, or the last one within so many moves
+        run.seek_back(7, 375, 10**6)
+
+What was read once is kept, so that it costs no second call. A call that the program refuses raises Refused with its
+answer; `Refused.told.kind` is 'memory' where it ended with status 7, out of memory.
+"""
+import os
+import re
+import time
+from typing import Dict, List, NamedTuple, Optional, Set, Tuple
+
+from .messages import Told, read_answer
+from .places import Text
+from .program import SCRIPT_LIMIT, Closing, Program
+from .tokens import NAME
+
+FAR = 10 ** 17
+MOST_CELLS = 1000
+MOST_NAMES = 2000
+MOST_ROUNDS = 50
+AROUND = 10
+AROUND_SECONDS = 0.2
+AT_SOURCE = re.compile(r'^at (\d+) (?:place (\d+) depth (\d+)|end)(?: (?:start|fault (-?\d+)(?: (\w+))?))?$')
+AT_IMAGE = re.compile(r'^at (\d+) pc (-?\d+) br (-?\d+) dir (-?1)(?: (start|end .*))?$')
+VARIABLE = re.compile(rf'^({NAME}) = (.+)$')
+OBJECT = re.compile(r'^#(\d+) (\S+) count (\d+)$')
+CELL = re.compile(r'^  (\S+) = (.+)$')
+
+
+class Refused(Exception):
+    """The program did not carry the script out; `told` is its answer."""
+
+    def __init__(self, told: Told):
+        super().__init__(told.first_line or f'status {told.status}')
+        self.told = told
+
+
+class Fault(NamedTuple):
+    number: int
+    name: str
+
+
+class Point(NamedTuple):
+    """A position of a run: the place of the statement that begins there and how many calls are open; at the end of the run
+    both are None. `fault` is what stops the run there, where that is known (it is when a move beyond was tried)."""
+    position: int
+    place: Optional[int]
+    depth: Optional[int]
+    fault: Optional[Fault] = None
+
+    @property
+    def at_end(self) -> bool:
+        return self.place is None
+
+
+class Thing(NamedTuple):
+    """An object or array: its number, its class or `int[5]`, its count, and its cells as (label, value)."""
+    number: int
+    head: str
+    count: int
+    cells: Tuple[Tuple[str, str], ...]
+
+
+class Moment(NamedTuple):
+    """A point with what `regs` and `cells` say there: the variables in their order (fields of the present object, then
+    parameters, then locals from the outermost in), and the live objects by their numbers: all whose numbers are up to 2000,
+    and of later ones those to which references lead from what is shown. A value is a number, `nil` or `#K`, as printed."""
+    point: Point
+    variables: Tuple[Tuple[str, str], ...]
+    objects: Dict[int, Thing]
+
+    def value(self, name: str) -> Optional[str]:
+        """The value of the innermost variable of this name."""
+        found = [value for each, value in self.variables if each == name]
+        return found[-1] if found else None
+
+
+class SourceRun(Closing):
+    """The run of a source, read through `trace`. `text` is the source as it was at the beginning, and stays so; `copy` and
+    `inputs` are files that keep it and its input. `patience` is the time that a call may take; without it, any."""
+
+    def __init__(self, program: Program, source: str, heap: int = 12, depth: int = 64, inputs: Optional[str] = None):
+        self.program = program
+        self.source = source
+        self.text = Text.read(source)
+        self.bounds = (heap, depth)
+        self.last: Optional[Point] = None
+        self.patience: Optional[float] = None
+        self._pace = 0.0
+        self._paced_at = 0
+        self._folder = program.folder()
+        self._points: Dict[int, Point] = {}
+        self._moments: Dict[int, Moment] = {}
+        self._folder.__enter__()
+        self.copy = self._folder.name(os.path.basename(source) or 'source')
+        with open(self.copy, 'wb') as out:
+            out.write(self.text.content)
+        self.inputs = [self._kept(inputs)] if inputs else []
+
+    def close(self) -> None:
+        self._folder.__exit__()
+
+    def point(self, position: int) -> Point:
+        """The point at this position, or the last one before."""
+        if position not in self._points and not self._is_past(position) and not self._read_around(position):
+            return self._walk([f'step {position}'])[-1].point
+        return self._points.get(position) or self.last
+
+    def end(self) -> Point:
+        """The last point of the run."""
+        if self.last is None:
+            self._walk([f'step {FAR}'])
+        return self.last
+
+    def points(self, first: int, count: int) -> List[Point]:
+        """The points from the first on, at most so many."""
+        missing = self._missing(first, count, self._points)
+        if missing:
+            self._walk([f'step {missing[0]}'] + ['step 1'] * (missing[-1] - missing[0]))
+        return [self._points[each] for each in range(first, first + count) if each in self._points]
+
+    def moment(self, position: int) -> Moment:
+        """The point at this position, or the last one before, with its state."""
+        position = self.point(position).position
+        if position not in self._moments and not self._read_around(position):
+            self.states(position, 1)
+        return self._moments[position]
+
+    def states(self, first: int, count: int) -> List[Moment]:
+        """The points from the first on, at most so many, with their states."""
+        missing = self._missing(first, count, self._moments)
+        if missing:
+            lines: List[str] = []
+            for each in range(missing[0], missing[-1] + 1):
+                lines += [f'step {1 if lines else each}', 'regs'] + cells_lines(min(each + 2, MOST_NAMES))
+            self._walk(lines)
+            for each in missing:
+                self._complete(each)
+        return [self._moments[each] for each in range(first, first + count) if each in self._moments]
+
+    def looked(self, lines: List[str]) -> Moment:
+        """What stands after the last move of these lines, with what they showed there."""
+        return self._walk(lines)[-1]
+
+    def seek(self, position: int, place: int, limit: int) -> Point:
+        """From the position on, the point after the fewest moves at this place of the text; else the last one within
+        the limit."""
+        return self._walk([f'step {position}', f'to {place} {limit}'])[-1].point
+
+    def seek_back(self, position: int, place: int, limit: int) -> Point:
+        """The same toward the start."""
+        return self._walk([f'step {position}', f'backto {place} {limit}'])[-1].point
+
+    def seek_all(self, position: int, places: List[int], limit: int, back: bool = False) -> List[Point]:
+        """What `seek` (or `seek_back`) finds for each of the places, by one call."""
+        word = 'backto' if back else 'to'
+        lines = []
+        for place in places:
+            lines += [f'back {FAR}', f'step {position}', f'{word} {place} {limit}']
+        return [moment.point for moment in self._walk(lines)[2::3]]
+
+    def affordable(self, seconds: float, position: int) -> int:
+        """About how many lines of a script the program carries out at this position in this time, as it did the last ones;
+        farther on they are taken to cost more in proportion, until some were measured there."""
+        farther = max(1.0, (position + 1000) / (self._paced_at + 1000))
+        return int(max(4.0, min(4000.0, seconds / max(self._pace * farther, 1e-6))))
+
+    def _complete(self, position: int) -> None:
+        """Adds to a state the objects with later names, as far as references lead to them."""
+        for _ in range(MOST_ROUNDS):
+            moment = self._moments.get(position)
+            names = sorted(unknown_names(moment))[:MOST_CELLS] if moment else []
+            if not names:
+                return
+            found = self._walk([f'step {position}', 'regs'] + [f'cells {name} 1' for name in names])[-1]
+            self._moments[position] = moment._replace(objects={**moment.objects, **found.objects})
+
+    def _read_around(self, position: int) -> bool:
+        """Reads the states around a position, where that is quick; whether the position is among them, or past the end."""
+        if self.affordable(AROUND_SECONDS, position) < 6 * AROUND:
+            return False
+        try:
+            self.states(max(0, position - AROUND), 2 * AROUND)
+        except Refused as refused:
+            if refused.told.kind != 'memory':
+                raise
+            return False
+        return position in self._moments or self._is_past(position)
+
+    def _missing(self, first: int, count: int, kept: Dict) -> List[int]:
+        """The positions that are wanted, not kept, and not known to lie past the end."""
+        return [each for each in range(first, first + count) if each not in kept and not self._is_past(each)]
+
+    def _is_past(self, position: int) -> bool:
+        return self.last is not None and position > self.last.position
+
+    def _kept(self, inputs: str) -> str:
+        """A copy of the input, so that the session is of one input."""
+        with open(inputs, 'rb') as file, open(self._folder.name('input'), 'wb') as out:
+            out.write(file.read())
+        return self._folder.name('input')
+
+    def _walk(self, lines: List[str]) -> List[Moment]:
+        """Carries the lines out, in as few calls as scripts allow, and gives what stood after each move."""
+        walked: List[Moment] = []
+        for script in scripts(lines):
+            if walked:
+                script = [f'step {walked[-1].point.position}'] + script
+            walked += self._call(script)[1 if walked else 0:]
+        return walked
+
+    def _call(self, script: List[str]) -> List[Moment]:
+        path = self._folder.write('script', '\n'.join(script) + '\n')
+        begin = time.monotonic()
+        answer = self.program.call('trace', self.copy, *self.bounds, path, *self.inputs, timeout=self.patience)
+        self._pace = (time.monotonic() - begin) / len(script)
+        if answer.status != 0:
+            raise Refused(read_answer(answer))
+        moves = [line for line in script if line.split()[0] in ('step', 'back', 'to', 'backto')]
+        moments = read_moments(answer.output)
+        self._paced_at = moments[-1].point.position if moments else 0
+        looked = looked_at(script)
+        for move, moment, whole in zip(moves, moments, looked):
+            self._keep(move, moment, whole)
+        return moments
+
+    def _keep(self, move: str, moment: Moment, whole: bool) -> None:
+        """Keeps a point, and where the script looked at all of it its state; notes where the run ends."""
+        point = moment.point
+        known = self._points.get(point.position)
+        if known is None or known.fault is None:
+            self._points[point.position] = point
+        if point.at_end or point.fault:
+            self.last = point
+        if whole:
+            self._moments[point.position] = moment
+        kept = self._moments.get(point.position)
+        if kept and point.fault:
+            self._moments[point.position] = kept._replace(point=point)
+
+
+def cells_lines(names: int) -> List[str]:
+    """The lines that show all objects with a name up to this one."""
+    return [f'cells {first} {min(MOST_CELLS, names - first + 1)}' for first in range(1, names + 1, MOST_CELLS)]
+
+
+def unknown_names(moment: Moment) -> Set[int]:
+    """The names of objects that a state refers to and does not show."""
+    values = [value for _, value in moment.variables]
+    values += [value for thing in moment.objects.values() for _, value in thing.cells]
+    return {int(value[1:]) for value in values if value.startswith('#')} - set(moment.objects)
+
+
+def scripts(lines: List[str]) -> List[List[str]]:
+    """The lines parted, before moves alone, into scripts of allowed length."""
+    parts: List[List[str]] = [[]]
+    size = 0
+    for line in lines:
+        is_move = not line.startswith(('regs', 'cells'))
+        if is_move and size > SCRIPT_LIMIT * 3 // 4:
+            parts.append([])
+            size = 0
+        parts[-1].append(line)
+        size += len(line) + 1
+    return parts
+
+
+def looked_at(script: List[str]) -> List[bool]:
+    """For each move of a script whether `regs` stands behind it."""
+    looked: List[bool] = []
+    for line in script:
+        if line == 'regs':
+            looked[-1] = True
+        elif not line.startswith('cells'):
+            looked.append(False)
+    return looked
+
+
+def read_moments(output: str) -> List[Moment]:
+    """What stood after each move of a script of `trace`."""
+    moments: List[Moment] = []
+    variables: List[Tuple[str, str]] = []
+    things: Dict[int, Thing] = {}
+    for line in output.split('\n'):
+        at = AT_SOURCE.match(line)
+        if at:
+            variables, things = [], {}
+            moments.append(Moment(source_point(at), (), things))
+            continue
+        thing, cell, variable = OBJECT.match(line), CELL.match(line), VARIABLE.match(line)
+        if thing:
+            last = int(thing[1])
+            things[last] = Thing(last, thing[2], int(thing[3]), ())
+        elif cell and things:
+            things[last] = things[last]._replace(cells=things[last].cells + ((cell[1], cell[2]),))
+        elif variable and moments:
+            variables.append((variable[1], variable[2]))
+            moments[-1] = moments[-1]._replace(variables=tuple(variables))
+    return moments
+
+
+def source_point(at) -> Point:
+    place, depth = (int(at[2]), int(at[3])) if at[2] is not None else (None, None)
+    return Point(int(at[1]), place, depth, Fault(int(at[4]), at[5] or '') if at[4] is not None else None)
+
+
+class Standing(NamedTuple):
+    """Where a machine stands: steps made, place, branch register, direction; `note` is `start`, or `end` with the stop."""
+    position: int
+    pc: int
+    br: int
+    dir: int
+    note: str
+
+
+class MachineRun(Closing):
+    """The run of an image from the loaded memory, read through `debug`."""
+
+    def __init__(self, program: Program, image: str, heap: int = 12, depth: int = 64):
+        self.program = program
+        self.image = image
+        self.bounds = (heap, depth)
+        self._folder = program.folder()
+        self._folder.__enter__()
+
+    def close(self) -> None:
+        self._folder.__exit__()
+
+    def walk(self, lines: List[str]) -> Tuple[List[Standing], str]:
+        """Carries the lines out from the start by one call: where the machine stood after each move, and all the text."""
+        path = self._folder.write('script', '\n'.join(lines) + '\n')
+        answer = self.program.call('debug', self.image, *self.bounds, path)
+        if answer.status != 0:
+            raise Refused(read_answer(answer))
+        found = [AT_IMAGE.match(line) for line in answer.output.split('\n')]
+        standings = [Standing(int(at[1]), int(at[2]), int(at[3]), int(at[4]), at[5] or '') for at in found if at]
+        return standings, answer.output
+
+    def registers(self, position: int) -> Dict[int, int]:
+        """The registers that are not 0 after so many steps."""
+        _, output = self.walk([f'step {position}', 'regs'])
+        return {int(number): int(value) for number, value in re.findall(r'^\$(\d+) = (-?\d+)$', output, re.M)}
+
+    def cells(self, position: int, first: int, count: int) -> Dict[int, int]:
+        """The cells from the first on, so many as there are, after so many steps."""
+        lines = [f'cells {each} {min(MOST_CELLS, first + count - each)}' for each in range(first, first + count, MOST_CELLS)]
+        _, output = self.walk([f'step {position}'] + lines)
+        return {int(number): int(value) for number, value in re.findall(r'^cell (\d+) = (-?\d+)$', output, re.M)}
