@@ -1,5 +1,5 @@
-// Makes the calls that the page sends, one behind the other, each in an instance of its own. The first message is the
-// module. The page ends this worker to stop a call; a program that runs without end is stopped by that alone.
+// Makes the calls that the page sends, one after the other, each in an instance of its own. The first message is the
+// module. The page ends this worker to stop a call; a program that runs without end is only stopped by that.
 let program;
 onmessage = async ({ data }) => {
   if (data.module) {

@@ -12,7 +12,7 @@ LAYOUTS = (
     'e-m:e-p270:32:32-p271:32:32-p272:64:64-i64:64-i128:128-f80:128-n8:16:32:64-S128',
     'e-m:e-p:64:64-p10:8:8-p20:8:8-i64:64-i128:128-n32:64-S128-ni:1:10:20',
 )
-# What the text of the module has once, and what stands in its place.
+# What the text of the module has once, and what replaces it.
 CHANGES = (
     (f'target datalayout = "{LAYOUTS[0]}"', f'target datalayout = "{LAYOUTS[1]}"'),
     ('target triple = "x86_64-unknown-linux-gnu"', f'target triple = "{TARGET}"'),
@@ -41,7 +41,7 @@ def retargeted(text):
         text = text.replace(f'\n{old}', f'\n{new}')
     code = re.sub(r'"[^"\n]*"', '', text)
     if 'llvm.x86.' in code or ' asm ' in code:
-        raise NotForWebAssembly('the module has code for x86-64 alone')
+        raise NotForWebAssembly('the module has code only for x86-64')
     return re.sub(r'^attributes #\d+ = \{.*\}$', without_processor, text, flags=re.M)
 
 

@@ -43,6 +43,11 @@ class Browser:
         found = self.command('FindElement', 'element', {'using': 'css selector', 'value': selector})
         return found[ELEMENT]
 
+    def accessible(self, selector):
+        """The role and the name that assistive technology gets for an element."""
+        it = self.element(selector)
+        return self.ask('GetComputedRole', f'element/{it}/computedrole', it), self.ask('GetComputedLabel', f'element/{it}/computedlabel', it)
+
     def click(self, selector):
         it = self.element(selector)
         self.command('ElementClick', f'element/{it}/click', {'id': it})
@@ -135,6 +140,9 @@ class Chromium(Browser):
     def command(self, name, path, body):
         return self.send('GET' if body is None else 'POST', f'/{path}', body)
 
+    def ask(self, name, path, element):
+        return self.command(name, path, None)
+
     def close(self):
         with contextlib.suppress(BrowserFailed, OSError):
             if self.address:
@@ -198,6 +206,9 @@ class Firefox(Browser):
         if error:
             raise BrowserFailed(f'{error["error"]}: {error["message"]}'[:1000])
         return value['value'] if isinstance(value, dict) and list(value) == ['value'] else value
+
+    def ask(self, name, path, element):
+        return self.command(name, path, {'id': element})
 
     def close(self):
         if self.socket:

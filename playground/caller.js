@@ -15,16 +15,27 @@ class Caller {
 
   start() {
     this.worker = new Worker(this.source);
-    this.worker.onmessage = ({ data }) => {
+    const { worker } = this;
+    worker.onmessage = ({ data }) => {
       this.waiting.get(data.number)?.done(data);
       this.waiting.delete(data.number);
     };
-    this.worker.onerror = event => this.end(new Error(event.message));
-    this.worker.postMessage({ module: this.module });
+    worker.onerror = event => this.died(worker, event.message || 'the worker of this page has ended');
+    worker.onmessageerror = () => this.died(worker, 'an answer could not be read');
+    worker.postMessage({ module: this.module });
+  }
+
+  // The calls of a worker that dies fail; the next call begins another one.
+  died(worker, why) {
+    if (worker !== this.worker) return;
+    worker.terminate();
+    this.worker = undefined;
+    this.end(new Error(why));
   }
 
   // Makes a call; `files` is a list of names with bytes or texts.
   call(words, files) {
+    if (!this.worker) this.start();
     const number = ++this.number, encoder = new TextEncoder();
     const bytes = files.map(([name, it]) => [name, typeof it === 'string' ? encoder.encode(it) : it]);
     this.worker.postMessage({ number, words: words.map(String), files: bytes });
@@ -32,9 +43,9 @@ class Caller {
   }
 
   stop() {
-    this.worker.terminate();
+    this.worker?.terminate();
+    this.worker = undefined;
     this.end(new Stopped('stopped'));
-    this.start();
   }
 
   end(error) {
@@ -44,7 +55,7 @@ class Caller {
   }
 }
 
-// An answer with its printed text beside its bytes, and its files by their names.
+// An answer with its printed text next to its bytes, and its files by their names.
 function told(answer) {
   return { ...answer, text: new TextDecoder().decode(answer.printed), files: new Map(answer.files) };
 }

@@ -7,7 +7,7 @@ const WRITES = 3;
 // An engine that runs out of stack throws; natively the program is then stopped by a signal, and prints nothing.
 const STOPPED = 134;
 
-// The bytes of the parts, one behind the other.
+// The bytes of the parts, one after the other.
 function joined(parts) {
   const all = new Uint8Array(parts.reduce((length, part) => length + part.length, 0));
   let at = 0;

@@ -1,4 +1,4 @@
-// What stands for the C library where the program runs in a page: a heap over the module's memory, and the functions
+// The C library where the program runs in a page: a heap over the module's memory, and the functions
 // that the program calls. Files, words and output are the page's: it supplies the imports of the module "page".
 typedef unsigned long size;
 typedef struct { long is_some; void *at; } allocation;
@@ -13,7 +13,7 @@ FROM_PAGE("close") int page_close(int file);
 
 enum { NO_SEEK = 29, GRAIN = 16, ORDERS = 40, PAGE = 65536, AT_ONCE = 256 };
 
-// The heap: a block of order k has 16 * 2^k bytes and stands behind 16 bytes that hold k. The free blocks of an order
+// The heap: a block of order k has 16 * 2^k bytes and follows 16 bytes that hold k. The free blocks of an order
 // are a list, and blocks are not joined.
 extern unsigned char __heap_base;
 static unsigned char *unused, *end;
@@ -29,7 +29,7 @@ static size order_of(size bytes) {
 
 static size *order_word(void *block) { return (size *)((unsigned char *)block - GRAIN); }
 
-// Makes sure that so many bytes are unused, and tells whether there are.
+// Makes sure that so many bytes are unused, and says whether there are.
 static int has_unused(size bytes) {
   if (!unused) {
     unused = (unsigned char *)(((size)&__heap_base + GRAIN - 1) & ~(size)(GRAIN - 1));

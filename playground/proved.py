@@ -37,7 +37,7 @@ def rt_library(kit):
 
 
 def keeping_toolchain(kit, folder, kept):
-    """Makes a toolchain in the folder that is the kit's but for its clang, which keeps modules in the folder `kept`."""
+    """Makes a toolchain in the folder that is the kit's except for its clang, which keeps modules in the folder `kept`."""
     os.makedirs(f'{folder}/bin')
     os.makedirs(kept)
     os.symlink(f'{kit}/toolchain/lib', f'{folder}/lib')

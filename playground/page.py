@@ -1,0 +1,238 @@
+"""Puts the page together: one file with the module, the program's side of its calls, the editor and the layout, the examples
+and lessons, the project's highlighting, and the companion's messages for refusals and faults."""
+import base64
+import glob
+import gzip
+import hashlib
+import importlib
+import json
+import os
+import re
+import shutil
+import subprocess
+import sys
+
+HERE = os.path.dirname(os.path.realpath(__file__))
+TOP = os.path.dirname(HERE)
+# Debian's packages libjs-codemirror and node-dagre-layout put these here, and say here who may use them.
+EDITOR = '/usr/share/javascript/codemirror'
+EDITOR_SCRIPTS = ('lib/codemirror.js', 'addon/mode/simple.js', 'addon/edit/matchbrackets.js', 'addon/comment/comment.js')
+LAYOUT = '/usr/share/nodejs/dagre/dist/dagre.min.js'
+RIGHTS = ('libjs-codemirror', 'node-dagre-layout', 'node-graphlibrary', 'node-lodash')
+# Debian's package uglifyjs.
+MINIFIER = 'uglifyjs'
+# In the order in which they use each other.
+SCRIPTS = ('source.js', 'texts.js', 'grammar.js', 'messages.js', 'sharing.js', 'caller.js', 'run.js', 'failure.js',
+           'faults.js', 'places.js', 'arrows.js', 'store.js', 'editor.js', 'inverse.js', 'listing.js', 'inputs.js',
+           'problems.js', 'output.js', 'transport.js', 'lessons.js', 'figure.js', 'page.js', 'start.js')
+PAIRS = f'{TOP}/companion/rpp/pages/side.js'
+EXERCISES = f'{TOP}/docs/learn/exercises'
+# What the page can check of a run.
+CASES = ('compare', 'back')
+# The faults of the language, and the refusals of texts, have numbers without a gap from 1 on.
+FAULTS, TEXT_REFUSALS = 16, 23
+MOST_BYTES = 700_000
+
+
+class CannotBuild(Exception):
+    """Something that the page is made of is missing, or cannot be part of a page."""
+
+
+def read(file):
+    with open(file, encoding='utf-8') as it:
+        return it.read()
+
+
+def version():
+    """The newest version of CHANGELOG.md."""
+    found = re.search(r'^## (\d+\.\d+\.\d+)', read(f'{TOP}/CHANGELOG.md'), re.M)
+    if not found:
+        raise CannotBuild('CHANGELOG.md names no version')
+    return found[1]
+
+
+def example(file):
+    """A program of examples/ with the limits and the input that its words name."""
+    setting = {'text': read(file)}
+    words = read(f'{file[:-4]}.args').split()
+    numbers = [it for it in words if it.isdigit()]
+    if len(numbers) == 3:
+        setting.update(zip(('heap', 'depth', 'steps'), numbers))
+    inputs = f'{file[:-4]}.input'
+    if os.path.isfile(inputs):
+        lines = [line.split('=') for line in read(inputs).splitlines() if '=' in line]
+        setting['input'] = {name.strip(): number.strip() for name, number in lines}
+    return setting
+
+
+def examples():
+    return {os.path.basename(it)[:-4]: example(it) for it in sorted(glob.glob(f'{TOP}/examples/*.rpp'))}
+
+
+def lessons(programs):
+    """The steps of examples, each of which comes once, and exercises of the course."""
+    data = json.loads(read(f'{HERE}/lessons.json'))
+    names = [name for _, rows in data['ladder'] for name, title, sentence in rows if title and sentence]
+    if sorted(names) != sorted(programs):
+        raise CannotBuild(f'lessons.json and examples/ differ in {sorted(set(names) ^ set(programs))}')
+    return {'ladder': data['ladder'], 'exercises': [exercise(*row) for row in data['exercises']]}
+
+
+def exercise(name, title, sentence):
+    """An exercise of the course: its text, its task, and what its comments expect, as the companion reads them."""
+    chapter, number = name.split('.')
+    text = read(f'{EXERCISES}/{int(chapter):02}-{number}.rpp')
+    expected = of_companion('expectations').Expectations.read(text.encode())
+    head = ' '.join(line[2:].strip() for line in text.split('//?')[0].splitlines())
+    task = head.partition(': ')[2]
+    if not task or not expected.cases or expected.invariants:
+        raise CannotBuild(f'exercise {name} has no task or no cases, or what the page cannot check')
+    return {'name': name, 'title': title, 'sentence': sentence, 'task': task[0].upper() + task[1:], 'text': text,
+            'rules': [{'kind': it.kind, 'parts': it.parts, 'method': it.method} for it in expected.rules],
+            'cases': [case(name, it) for it in expected.cases]}
+
+
+def case(name, expected):
+    """A run of an exercise: its input, the fields that it must leave, and whether it must lead back."""
+    for it in expected.wanted:
+        if it.kind not in CASES or expected.inverse or expected.bounds or (it.kind == 'compare' and it.parts[1] != '='):
+            raise CannotBuild(f'exercise {name} expects `{it.text}`, which the page cannot check')
+    fields = {it.parts[0]: it.parts[2] for it in expected.wanted if it.kind == 'compare'}
+    return {'input': expected.inputs, 'fields': fields, 'back': any(it.kind == 'back' for it in expected.wanted)}
+
+
+def of_companion(module):
+    if f'{TOP}/companion' not in sys.path:
+        sys.path.insert(0, f'{TOP}/companion')
+    return importlib.import_module(f'rpp.{module}')
+
+
+def messages():
+    """The companion's tables: for each refusal and fault its name, its sentence and how to fix it."""
+    tables = of_companion('messages')
+    return complete({'refusals': plain(tables.refusals()), 'faults': plain(tables.faults())})
+
+
+def plain(rules):
+    """Rules as plain data: besides the general sentence those with slots, and those of a body that runs backward."""
+    more = {'forms': (), 'back': (), 'fix_back': ''}
+    slots = lambda it: {name: getattr(it, name, none) for name, none in more.items()}
+    return {it.number: {'name': it.name, 'sentence': it.sentence, 'fix': it.fix, **slots(it)} for it in rules.values()}
+
+
+def complete(tables):
+    """The tables, where they have all that the page shows; else the build fails."""
+    for kind, last in (('refusals', TEXT_REFUSALS), ('faults', FAULTS)):
+        rules = tables[kind]
+        missing = [number for number in range(1, last + 1) if not rules.get(number, {}).get('sentence')]
+        if missing:
+            raise CannotBuild(f'the companion has no sentences for the {kind} {missing}')
+        lacking = [number for number in range(1, last + 1) if not rules[number]['fix']]
+        if lacking:
+            raise CannotBuild(f'the companion does not say how to fix the {kind} {lacking}')
+    return tables
+
+
+def grammar():
+    patterns = json.loads(read(f'{TOP}/editors/vscode/rpp.tmLanguage.json'))['patterns']
+    if not patterns:
+        raise CannotBuild('the grammar of the editors has no patterns')
+    return patterns
+
+
+def packed(data):
+    return base64.b64encode(gzip.compress(data, 9, mtime=0)).decode()
+
+
+def unpacked(text):
+    return gzip.decompress(base64.b64decode(text))
+
+
+def minified(*files):
+    """The texts of scripts, one after the other, without what is there for readers; their own names at the top stay."""
+    done = subprocess.run([MINIFIER, '--mangle'], input='\n'.join(map(read, files)).encode(), stdout=subprocess.PIPE, check=False)
+    if done.returncode or not done.stdout:
+        raise CannotBuild(f'{MINIFIER} did not do {" ".join(files)}')
+    return done.stdout.decode()
+
+
+def missing_packages():
+    """Debian's packages that the page is made with and that are not here."""
+    files = {'libjs-codemirror': os.path.isdir(EDITOR), 'node-dagre-layout': os.path.isfile(LAYOUT), 'uglifyjs': bool(shutil.which(MINIFIER))}
+    return [name for name, is_here in files.items() if not is_here]
+
+
+def libraries():
+    """The editor and the layout, as one script that begins with the words of who may use them."""
+    lacking = missing_packages()
+    if lacking:
+        raise CannotBuild(f'the page is made with Debian\'s packages {" ".join(lacking)}, which are not here')
+    return '\n'.join([rights(), minified(*(f'{EDITOR}/{it}' for it in EDITOR_SCRIPTS)), read(LAYOUT)])
+
+
+def rights():
+    """Who may use the libraries, as a comment."""
+    texts = [read(f'/usr/share/doc/{it}/copyright') for it in RIGHTS if os.path.isfile(f'/usr/share/doc/{it}/copyright')]
+    return '/*\n' + '\n'.join(texts).replace('*/', '* /') + '*/'
+
+
+def carried(module, made):
+    """What the page carries as plain data. `made` says of what the module was made."""
+    programs = examples()
+    return {
+        **made,
+        'version': version(),
+        'module': packed(module),
+        'libraries': packed(libraries().encode()),
+        'worker': minified(f'{HERE}/program.js', f'{HERE}/worker.js'),
+        'examples': programs,
+        **lessons(programs),
+        'grammar': grammar(),
+        'messages': messages(),
+        'figure': style(f'{HERE}/store.css'),
+    }
+
+
+def style(*files):
+    """The texts of style sheets without comments and without spaces at the ends of lines."""
+    text = re.sub(r'/\*.*?\*/', '', '\n'.join(map(read, files)), flags=re.S)
+    text = re.sub(r'\s+', ' ', text)
+    return re.sub(r' ?([{};,]) ?', r'\1', text).replace(';}', '}').replace('}', '}\n')
+
+
+def help_text(module, made):
+    text = read(f'{HERE}/help.html')
+    for name, value in {**made, 'version': version(), 'size': len(module), 'sum': hashlib.sha256(module).hexdigest()}.items():
+        text = text.replace(f'{{{name}}}', str(value))
+    return text
+
+
+def page(module, made):
+    """The page over the bytes of a WebAssembly module of 32-bit addresses."""
+    scripts = minified(PAIRS, *(f'{HERE}/{it}' for it in SCRIPTS))
+    if '</script' in scripts:
+        raise CannotBuild('a script would end the element of which it is a part')
+    data = json.dumps(carried(module, made), separators=(',', ': ')).replace('</', '<\\/')
+    parts = {
+        '/*{styles}*/': style(f'{EDITOR}/lib/codemirror.css', f'{HERE}/page.css', f'{HERE}/store.css'),
+        '<!--{help}-->': help_text(module, made),
+        '/*{carried}*/': data,
+        '/*{scripts}*/': scripts,
+    }
+    text = read(f'{HERE}/page.html').replace('{version}', version())
+    for place, part in parts.items():
+        before, found, behind = text.partition(place)
+        if not found:
+            raise CannotBuild(f'page.html has no {place}')
+        text = before + part + behind
+    if len(text.encode()) > MOST_BYTES:
+        raise CannotBuild(f'the page has {len(text.encode())} bytes, and {MOST_BYTES} are the most')
+    return text
+
+
+def data_of(text):
+    """What a built page carries."""
+    found = re.search(r'id="carried">\n(.*?)\n</script>', text, re.S)
+    if not found:
+        raise CannotBuild('this is no built page')
+    return json.loads(found[1].replace('<\\/', '</'))

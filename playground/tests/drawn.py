@@ -1,0 +1,167 @@
+"""The page as a person sees it: what is drawn in a browser, and what keys and clicks do. Nothing here reads what the page's own
+objects hold; they are asked only whether the page still works on something."""
+import os
+import re
+
+SHIFT, CONTROL, TAB, ESCAPE, ENTER = '\ue008', '\ue009', '\ue004', '\ue00c', '\ue007'
+SPACE, END, HOME, LEFT, UP, RIGHT, DOWN = ' ', '\ue010', '\ue011', '\ue012', '\ue013', '\ue014', '\ue015'
+WIDE, TALL = 1440, 1000
+TOP = os.path.dirname(os.path.dirname(os.path.dirname(os.path.realpath(__file__))))
+
+# Whether an element is drawn: it has a size, and a point of it is on the screen and belongs to it or to what it holds.
+IS_DRAWN = '''
+const isDrawn = it => {
+  if (!it || !it.checkVisibility({ visibilityProperty: true, opacityProperty: true })) return false;
+  const box = it.getBoundingClientRect();
+  return box.width > 0 && box.height > 0;
+};
+const drawn = selector => {
+  const it = [...document.querySelectorAll(selector)].find(isDrawn);
+  if (!it) throw new Error(`nothing drawn for ${selector}`);
+  return it;
+};
+'''
+LINES = IS_DRAWN + '''
+return [...document.querySelectorAll('.CodeMirror-code > div')].filter(isDrawn).map(row => ({
+  number: Number(row.querySelector('.CodeMirror-linenumber').textContent),
+  text: row.querySelector('.CodeMirror-line').textContent.replace(/\\u200b/g, '').replace(/\\u00a0/g, ' '),
+  kinds: [...row.querySelectorAll('.CodeMirror-linebackground')].map(it => it.className).join(' '),
+  sign: row.querySelector('.way-mark')?.textContent ?? '',
+  marked: [...row.querySelectorAll('.here-place, .fault-place, .mistake-place')].map(it => it.textContent).join(''),
+  told: row.querySelector('.fault-told')?.innerText ?? '' }));
+'''
+BOXES = IS_DRAWN + '''
+return [...document.querySelectorAll('#store .box')].filter(isDrawn).map(box => {
+  const frame = box.querySelector('.frame').getBoundingClientRect(), canvas = document.querySelector('#store .picture').getBoundingClientRect();
+  return { name: box.dataset.name, kind: box.getAttribute('class'), title: box.querySelector('.title').textContent,
+    fields: [...box.querySelectorAll('.field')].map(it => it.textContent), values: [...box.querySelectorAll('.value')].map(it => it.textContent),
+    at: [frame.left - canvas.left, frame.top - canvas.top].map(Math.round) };
+});
+'''
+
+
+def read(file):
+    with open(os.path.join(TOP, file), encoding='utf-8') as it:
+        return it.read()
+
+
+def equal(got, wanted, what=''):
+    if got != wanted:
+        raise AssertionError(f'{what}{": " if what else ""}wanted {wanted!r}, got {got!r}')
+
+
+def holds(is_so, what):
+    if not is_so:
+        raise AssertionError(what)
+
+
+class Page:
+    """The page in a browser."""
+
+    def __init__(self, browser, file):
+        self.browser, self.file = browser, file
+
+    def run(self, script, *given):
+        return self.browser.run(script, *given)
+
+    # ---- opening, and waiting
+
+    def open(self, fragment='', query='', file=None, clears=True):
+        """Opens the page anew; what it kept of the last visit is cleared first, if not told otherwise."""
+        address = f'file://{file or self.file}{query}{fragment}'
+        if clears:
+            self.browser.open(f'file://{self.file}?embed')
+            self.run('localStorage.clear()')
+        self.browser.open('about:blank')
+        self.browser.open(address)
+        self.browser.until('return document.body && document.body.dataset.ready')
+
+    def settled(self):
+        """Waits until nothing is under way, as the page shows by its key Stop and counts by its questions."""
+        self.browser.until('await new Promise(done => setTimeout(done, 60)); const p = globalThis.playground;'
+                           'return !p || (!p.running && Number(document.body.dataset.asked) === p.asked)')
+
+    # ---- what is drawn
+
+    def text(self, selector):
+        return self.run(IS_DRAWN + 'return drawn(arguments[0]).innerText.trim()', selector)
+
+    def is_drawn(self, selector):
+        return self.run(IS_DRAWN + 'return [...document.querySelectorAll(arguments[0])].some(isDrawn)', selector)
+
+    def lines(self):
+        return self.run(LINES)
+
+    def position(self):
+        """The number of the position that is shown, and the last one."""
+        at, last = self.text('#where').replace(',', '').rstrip('+').split(' / ')
+        return int(at), int(last)
+
+    def here(self):
+        """The line that is marked as the next one, with its sign and the text that is marked in it."""
+        marked = [it for it in self.lines() if re.search('(here|fault)-line', it['kinds'])]
+        return (marked[0]['number'], marked[0]['sign'], marked[0]['marked']) if marked else None
+
+    def boxes(self):
+        return self.run(BOXES)
+
+    def store(self):
+        """The objects with their fields and values, by their titles, and the variables of the innermost call."""
+        found = {it['title']: dict(zip(it['fields'], it['values'])) for it in self.boxes() if ' object' in it['kind'] or ' inner' in it['kind']}
+        holds(found, 'the picture of the store is empty')
+        return found
+
+    def output(self):
+        """The rows of the table of fields: name, at the start, here, at the end."""
+        return self.run(IS_DRAWN + 'return [...drawn("#output table").querySelectorAll("tbody tr")]'
+                        '.map(row => [...row.children].map(it => it.innerText))')
+
+    # ---- doing
+
+    def click(self, selector):
+        self.browser.click(selector)
+
+    def click_text(self, selector, text):
+        """Clicks the element of this kind that has this text."""
+        self.run('for (const it of document.querySelectorAll("[data-of-test]")) delete it.dataset.ofTest;'
+                 'const it = [...document.querySelectorAll(arguments[0])].find(it => it.innerText.trim().startsWith(arguments[1]));'
+                 'if (!it) throw new Error(`no ${arguments[1]}`); it.scrollIntoView({ block: "nearest" }); it.dataset.ofTest = "yes"', selector, text)
+        self.click('[data-of-test]')
+
+    def click_line_number(self, line):
+        self.run('for (const it of document.querySelectorAll("[data-of-test]")) delete it.dataset.ofTest;'
+                 '[...document.querySelectorAll(".CodeMirror-code .CodeMirror-linenumber")].find(it => it.textContent === arguments[0]).dataset.ofTest = "yes"', str(line))
+        self.click('[data-of-test]')
+
+    def press(self, *keys):
+        self.browser.press(*keys)
+
+    def choose(self, title):
+        """Chooses an example by its title."""
+        self.click('#pick')
+        self.click_text('#rungs button', title)
+        self.settled()
+
+    def write(self, text):
+        """Puts a text into the editor in the place of all that is there, as one pastes it."""
+        self.run('const { code } = playground.editor, last = code.lastLine(); document.body.dataset.askedBefore = document.body.dataset.asked;'
+                 'code.replaceRange(arguments[0], { line: 0, ch: 0 }, { line: last, ch: code.getLine(last).length }, "paste"); code.getInputField().blur()', text)
+        self.browser.until('return document.body.dataset.asked !== document.body.dataset.askedBefore')
+        self.settled()
+
+    def view(self, name):
+        self.click(f'#tab-{name}')
+        self.settled()
+
+    def go(self, name):
+        """Presses a key of the transport."""
+        self.click(f'[data-go={name}]')
+        self.run('await new Promise(done => setTimeout(done, 30))')
+        self.settled()
+
+    def put(self, selector, value):
+        """Types a value into a box, and leaves it."""
+        self.run('const it = document.querySelector(arguments[0]); document.body.dataset.askedBefore = document.body.dataset.asked;'
+                 'it.focus(); it.value = arguments[1]; it.dispatchEvent(new Event("input")); it.dispatchEvent(new Event("change")); it.blur()', selector, value)
+        self.browser.until('return document.body.dataset.asked !== document.body.dataset.askedBefore')
+        self.settled()

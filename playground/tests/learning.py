@@ -1,0 +1,147 @@
+"""Examples, exercises, help, links, frames, figures and print."""
+import json
+import os
+import re
+
+from drawn import TOP, equal, holds, read
+
+SOLUTIONS = {'1.1': ('01', 'three.rpp'), '1.3': ('01', 'change.rpp'), '2.2': ('02', 'five.rpp'), '2.3': ('02', 'sign.rpp'), '3.1': ('03', 'most.rpp'),
+             '3.3': ('03', 'days.rpp'), '4.1': ('04', 'product.rpp'), '4.3': ('04', 'divide.rpp'), '5.3': ('05', 'pairs.rpp'), '6.1': ('06', 'sum.rpp'),
+             '11.1': ('11', 'square.rpp')}
+
+
+def the_ladder_has_all(page):
+    """Each example has a title and a sentence, and the picker names the one that is open."""
+    page.click('#pick')
+    rows = page.run('return [...document.querySelectorAll("#rungs button")].map(it => [it.querySelector("b").innerText, it.querySelector("span").innerText])')
+    page.click('#ladder [data-close]')
+    lessons = json.loads(read('playground/lessons.json'))
+    equal(len(rows), sum(len(rung) for _, rung in lessons['ladder']) + len(lessons['exercises']))
+    holds(all(title and sentence for title, sentence in rows), 'a row has no title or no sentence')
+    for _, rung in lessons['ladder']:
+        name, title, _ = rung[0]
+        page.choose(title)
+        holds(page.text('#picked').endswith(title), f'{page.text("#picked")!r} for {title!r}')
+        first = next(it for it in page.lines() if it['text'].strip())
+        holds(first['text'] in read(f'examples/{name}.rpp'), f'{name} is not what the editor shows')
+
+
+def solution(name):
+    page, file = SOLUTIONS[name]
+    return re.search(rf'```\n(// {re.escape(file)}\n.*?)```', read(f'examples/solutions/{page}.md'), re.S)[1]
+
+
+def exercises_check_themselves(page):
+    """An exercise opens by its link; its start is not yet right, and its solution of the course is."""
+    for name, title, _ in json.loads(read('playground/lessons.json'))['exercises']:
+        page.open(f'#exercise={name}')
+        page.settled()
+        equal(page.text('#picked'), f'Exercise: {name} {title}')
+        check = page.text('#check')
+        holds('must be' in check or check.startswith('Use '), f'{name} at its start: {check!r}')
+        page.write(solution(name))
+        holds(page.text('#check').startswith('Solved'), f'{name} with its solution: {page.text("#check")!r}')
+    page.click('#pick')
+    holds('✓' in page.text('#rungs'), 'what was solved is not marked')
+    page.click('#ladder [data-close]')
+
+
+def the_help_has_all(page):
+    """The sheet, the keys, all faults and refusals, the version and the sums are in the help."""
+    page.click('#help')
+    text = page.text('#helping')
+    pages = ''.join(read(it) for it in ('docs/reference/language.md', 'docs/reference/messages.md') if os.path.isfile(f'{TOP}/{it}'))
+    rules = sorted(set(re.findall(r'^### (?:Fault )?(\d+ \w+)$', pages, re.M)))
+    holds(len(rules) == 39, f'{len(rules)} rules in docs/reference')
+    for rule in rules:
+        holds(rule in text, f'the help has no {rule}')
+    for word in ('x += e', 'uncall m(x)', 'Shift', 'SHA-256', 'CodeMirror', 'dagre'):
+        holds(word in text, f'the help has no {word}')
+    page.click('#helping [data-close]')
+
+
+def links_lead_back(page):
+    """The address keeps text, inputs and limits as one types; a link has view and position, and the version."""
+    text = '// \u00e9\u2192 \U0001f600\nclass P int x int y method main()\nx += 1\ny += 2\nx += y'
+    page.open()
+    page.write(text)
+    page.put('#field-x', '-3')
+    page.put('#heap', '9')
+    page.view('output')
+    page.go('step-on')
+    page.click('#share')
+    page.browser.until('return /step=1/.test(location.hash)')
+    address = page.run('return location.hash')
+    version = read('CHANGELOG.md').split('\n## ')[1].split(' ')[0]
+    holds(f'v={version}' in address and 'view=output' in address, address[:80])
+    page.open(address)
+    page.settled()
+    equal([it['text'] for it in page.lines()], text.split('\n'))
+    equal(page.position(), (1, 3))
+    equal([row[:3] for row in page.output()], [['x', '-3', '-2'], ['y', '0', '0']])
+    equal(page.run('return document.getElementById("heap").value'), '9')
+    page.browser.until('await new Promise(done => setTimeout(done, 700)); return true')
+    page.run('document.body.dataset.address = location.hash')
+    page.write(text + '\ny += 7')
+    page.browser.until('return location.hash !== document.body.dataset.address')
+    page.open(page.run('return location.hash'))
+    equal(page.lines()[-1]['text'], 'y += 7')
+    equal(page.text('#version'), version)
+
+
+def a_reload_keeps_the_text(page):
+    page.open()
+    page.write('class P int kept method main()\nkept += 4\nkept += 5')
+    page.go('step-back')
+    page.browser.until('await new Promise(done => setTimeout(done, 700)); return true')
+    page.open(clears=False)
+    page.settled()
+    equal([it['text'] for it in page.lines()][-1], 'kept += 5')
+    equal(page.position(), (1, 2))
+
+
+def a_broken_link_says_so(page):
+    page.open('#v=0.1.0&program=broken')
+    holds('broken' in page.text('#notice'), page.text('#notice'))
+    holds(page.text('#problems').startswith('Accepted'), 'there is nothing to run')
+    page.open('#example=nothing')
+    holds('does not have' in page.text('#notice'), page.text('#notice'))
+    page.click('#notice button')
+    holds(not page.is_drawn('#notice'), 'the notice stays')
+    page.open('#v=0.1.0&example=tree')
+    holds('version 0.1.0' in page.text('#notice'), page.text('#notice'))
+    holds(page.text('#picked').endswith('Search tree'), page.text('#picked'))
+
+
+def it_embeds(page):
+    """Embedded it has no header, shows the view and position asked for, and keeps nothing."""
+    page.open(query='?embed&view=store&step=20', fragment='#example=list')
+    page.settled()
+    equal(page.position(), (20, 60))
+    holds(not page.is_drawn('#head') and page.is_drawn('#store .picture') and page.is_drawn('[data-go=on]'), 'what is to be seen is not')
+    holds('#v=' in page.run('return document.querySelector(".open-all").href'), 'no link leads to the workbench')
+    equal(page.run('return localStorage.length'), 0)
+    page.open()
+    page.click('#embed')
+    frame = page.run('return document.getElementById("frame").value')
+    holds(frame.startswith('<iframe src="file://') and '?embed#v=' in frame and 'step=40' in frame, frame)
+    page.click('#embedding [data-close]')
+
+
+def figures_stand_alone(page):
+    """The picture as a file has its colours and arrow heads inside; the printed page has the picture and the program."""
+    page.open('#example=list')
+    page.settled()
+    page.go('end')
+    figure = page.run('''let saved; const make = URL.createObjectURL; URL.createObjectURL = blob => { saved = blob; return make(blob); };
+      HTMLAnchorElement.prototype.click = function () { saved.file = this.download; };
+      document.getElementById('save-figure').click(); URL.createObjectURL = make; return [saved.file, await saved.text()]''')
+    equal(figure[0], 'store-60.svg')
+    holds('var(' not in figure[1] and '<marker' in figure[1] and '#1 List' in figure[1] and 'fill:' in figure[1], figure[1][:200])
+    page.run('dispatchEvent(new Event("beforeprint"))')
+    printed = page.run('return document.getElementById("printed").textContent')
+    holds('Linked list' in printed and 'position 60 of 60' in printed and 'delocal int i = 4' in printed, printed[:200])
+
+
+TESTS = (the_ladder_has_all, exercises_check_themselves, the_help_has_all, links_lead_back, a_reload_keeps_the_text, a_broken_link_says_so, it_embeds,
+         figures_stand_alone)

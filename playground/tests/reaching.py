@@ -1,0 +1,249 @@
+"""Access by keyboard, names, contrast and sizes; no network; browsers that cannot run the program; a worker that dies."""
+import os
+import tempfile
+
+from drawn import LEFT, RIGHT, SHIFT, TAB, equal, holds, read
+
+UNNAMED = '''
+const labelled = it => (it.getAttribute('aria-labelledby') || '').split(' ').map(id => document.getElementById(id)?.textContent ?? '').join('');
+const named = it => (it.getAttribute('aria-label') || labelled(it) || it.closest('label')?.textContent || it.textContent || it.title).trim();
+const kinds = 'button, input, select, textarea, a, [role=tab], [role=separator], [role=tabpanel], [role=region], section, form, dialog';
+return [...document.querySelectorAll(kinds)].filter(it => it.checkVisibility() && !named(it)).map(it => it.outerHTML.slice(0, 90));
+'''
+# The contrast of two colours, as WCAG defines it.
+RATIO = '''
+const numbers = colour => {
+  const found = colour.match(/[\\d.]+/g).map(Number);
+  return found.length > 3 ? found : [...found.slice(0, 3), 1];
+};
+const linear = part => (part <= 0.03928 ? part / 12.92 : ((part + 0.055) / 1.055) ** 2.4);
+const light = ([r, g, b]) => 0.2126 * linear(r / 255) + 0.7152 * linear(g / 255) + 0.0722 * linear(b / 255);
+const ratio = (one, other) => {
+  const [high, low] = [light(one), light(other)].sort((a, b) => b - a);
+  return (high + 0.05) / (low + 0.05);
+};
+const low = new Set();
+'''
+# The texts with too little contrast, each with its ground: the nearest background that is not transparent.
+CONTRAST = RATIO + '''
+const isShape = it => it instanceof SVGElement;
+const ground = it => {
+  for (let at = it; at; at = at.parentElement) {
+    const colour = isShape(at) ? [0, 0, 0, 0] : numbers(getComputedStyle(at).backgroundColor);
+    if (colour[3] === 1) return colour;
+  }
+  return [255, 255, 255];
+};
+const shapeGround = it => {
+  const box = it.closest('.box'), before = it.previousElementSibling?.matches('rect.changed, rect.cell') ? it.previousElementSibling : null;
+  return numbers(getComputedStyle(before ?? box?.querySelector('.tab') ?? box?.querySelector('.frame') ?? it).fill);
+};
+for (const it of document.querySelectorAll('body *')) {
+  if (!it.checkVisibility({ opacityProperty: true }) || it.closest('[aria-hidden=true], [hidden], .stale') || it.tagName === 'OPTION') continue;
+  if (![...it.childNodes].some(child => child.nodeType === 3 && child.textContent.trim())) continue;
+  const style = getComputedStyle(it), colour = numbers(isShape(it) ? style.fill : style.color);
+  const found = ratio(colour, isShape(it) ? shapeGround(it) : ground(it));
+  if (found < 4.5) low.add(`${found.toFixed(2)} ${it.tagName}.${it.getAttribute('class') ?? ''} ${it.textContent.trim().slice(0, 20)}`);
+}
+return [...low];
+'''
+SHAPES = RATIO + '''
+const ground = it => numbers(getComputedStyle(document.querySelector(it.closest('#timeline') ? '#transport' : 'body')).backgroundColor);
+for (const it of document.querySelectorAll('#store .object > .frame, #store .inner > .frame, #store .arrow, #timeline rect')) {
+  const style = getComputedStyle(it), found = ratio(numbers(it.matches('#timeline rect') ? style.fill : style.stroke), ground(it));
+  if (found < 3) low.add(`${found.toFixed(2)} ${it.getAttribute('class')}`);
+}
+return [...low];
+'''
+# The element that has the focus, by a name, and whether it shows that it has it.
+FOCUS = '''
+const it = document.activeElement, style = getComputedStyle(it), box = getComputedStyle(it.closest('.CodeMirror, .chip') ?? it);
+const name = it.id || it.dataset.go || it.dataset.step || it.getAttribute('aria-label') || `${it.tagName}.${it.className}`;
+return [name, style.outlineStyle !== 'none' || box.boxShadow !== 'none'];
+'''
+LISTENS = '''
+const spoken = document.getElementById('spoken');
+playground.heard = [];
+new MutationObserver(() => playground.heard.push(spoken.textContent)).observe(spoken, { childList: true, characterData: true, subtree: true });
+'''
+TOO_WIDE = 'const it = document.documentElement; return [it.scrollWidth > it.clientWidth, document.body.scrollWidth > innerWidth]'
+OFF_SCREEN = '''
+const isOff = box => box.left < -1 || box.right > innerWidth + 1 || box.bottom > innerHeight + 1;
+return [...document.querySelectorAll('.controls button:not([hidden])')].filter(it => isOff(it.getBoundingClientRect())).map(it => it.id || it.dataset.go);
+'''
+# Tries to reach the network in three ways, and gives the rules of the page's policy that forbid it.
+FETCHES = '''
+const image = () => new Promise((done, failed) => { const it = new Image(); it.onload = done; it.onerror = failed; it.src = 'http://127.0.0.1:9/x.png'; });
+const tries = [() => fetch('http://127.0.0.1:9/'), image, async () => new WebSocket('ws://127.0.0.1:9/')], blocked = [];
+document.addEventListener('securitypolicyviolation', it => blocked.push(it.effectiveDirective));
+for (const one of tries) await one().catch(() => undefined);
+await new Promise(done => setTimeout(done, 200));
+return blocked;
+'''
+DIES = '''
+const { caller } = playground, call = caller.call(['check', 'p'], [['p', 'class']]).catch(error => { document.body.dataset.died = error.message; });
+caller.worker.dispatchEvent(new ErrorEvent('error', { message: 'out of memory' }));
+await call;
+'''
+
+
+def every_control_has_a_name(page):
+    page.open('#example=list')
+    page.settled()
+    for view in ('store', 'output', 'inverse', 'machine'):
+        page.view(view)
+        equal(page.run(UNNAMED), [], view)
+    for key, dialog in (('#pick', '#ladder'), ('#help', '#helping'), ('#embed', '#embedding')):
+        page.click(key)
+        equal(page.run(UNNAMED), [], dialog)
+        page.click(f'{dialog} [data-close]')
+    equal(page.run('return [...document.querySelectorAll("[role=status], [role=alert], [aria-live]")].map(it => it.id)'), ['cannot', 'spoken'])
+    page.view('store')
+
+
+def assistive_technology_sees_it(page):
+    """The accessibility tree of the browser has each part with its role and its name."""
+    page.open('#example=list')
+    page.settled()
+    for selector, role, name in (
+            ('[data-go=on]', 'button', 'Forward'), ('[data-go=back]', 'button', 'Back'), ('[data-go=start]', 'button', 'To the start'),
+            ('[data-go=step-on]', 'button', 'One statement on'), ('#timeline input', 'slider', 'Position in the run'), ('#tab-store', 'tab', 'Store'),
+            ('#store', 'tabpanel', 'Store'), ('#split', 'separator', 'Width of the program'), ('#speed', 'combobox', 'Speed'),
+            ('#field-sum', 'textbox', 'sum'), ('#pick', 'button', 'Data structures: Linked list'), ('#dark', 'button', 'Dark'),
+            ('.CodeMirror textarea', 'textbox', 'Program text'), ('#gear', 'button', 'Limits of the run')):
+        equal(page.browser.accessible(selector), (role, name), selector)
+    picture = page.browser.accessible('#store .picture')
+    holds(picture[0] in ('image', 'img', 'graphics-document') and picture[1].startswith('The store: '), repr(picture))
+
+
+def tabs_keep_the_focus(page):
+    """Arrow keys go along the tabs, open each view, and leave the focus there."""
+    page.run('document.getElementById("tab-store").focus()')
+    for key, view in ((RIGHT, 'output'), (RIGHT, 'inverse'), (RIGHT, 'machine'), (RIGHT, 'store'), (LEFT, 'machine'), (RIGHT, 'store')):
+        page.press(key)
+        page.settled()
+        equal(page.run('return document.activeElement.id'), f'tab-{view}')
+        holds(page.is_drawn(f'#{view}'), f'{view} is not open')
+
+
+def the_keyboard_reaches_all(page):
+    """The tabulator goes through the whole page, into the editor and out of it, and each stop shows its focus."""
+    page.run('document.activeElement.blur(); scrollTo(0, 0)')
+    seen = []
+    for _ in range(45):
+        page.press(TAB)
+        here = page.run(FOCUS)
+        if seen and here[0] == seen[0][0]:
+            break
+        seen.append(here)
+    names = [name for name, _ in seen]
+    for wanted in ('pick', 'share', 'help', 'Program text', 'split', 'tab-store', 'start', 'back', 'on', 'end', 'speed', 'gear'):
+        holds(wanted in names, f'the tabulator does not come to {wanted}: {names}')
+    equal([name for name, is_shown in seen if not is_shown and name not in ('BODY.', 'HTML.')], [], 'these do not show their focus')
+
+
+def one_voice(page):
+    """A move by hand is spoken once; while the run plays nothing is."""
+    page.choose('Linked list')
+    page.run(LISTENS)
+    page.go('start')
+    page.run('await new Promise(done => setTimeout(done, 400)); playground.heard.length = 0')
+    page.go('step-on')
+    heard = page.run('await new Promise(done => setTimeout(done, 400)); return playground.heard')
+    equal(len(heard), 1, repr(heard))
+    holds(heard[0].startswith('1 of 60, line '), heard[0])
+    page.run('playground.heard.length = 0; document.getElementById("speed").value = "1"')
+    page.go('on')
+    equal(page.run('await new Promise(done => setTimeout(done, 800)); return playground.heard.length'), 0)
+    page.go('on')
+    equal(page.run('await new Promise(done => setTimeout(done, 400)); return playground.heard.length'), 1)
+    told = page.run('return document.querySelector("#timeline input").getAttribute("aria-valuetext")')
+    holds('of 60, line' in told, f'the slider has {told!r}')
+
+
+def colours_have_contrast(page):
+    """Text has a contrast of 4.5 and shapes one of 3, in all views, both themes, and where something is wrong."""
+    for theme in ('light', 'dark'):
+        page.open('#example=list', query=f'?theme={theme}')
+        page.settled()
+        for view in ('store', 'output', 'inverse', 'machine'):
+            page.view(view)
+            page.go('step-on')
+            page.run('for (const it of document.getAnimations()) it.finish()')
+            equal(page.run(CONTRAST), [], f'{theme}, {view}')
+            if view == 'store':
+                equal(page.run(SHAPES), [], f'{theme}, shapes')
+        page.view('store')
+        page.choose('Find the mistake')
+        page.go('end')
+        equal(page.run(CONTRAST), [], f'{theme}, a fault')
+        page.write('class P int x method main() x += x')
+        equal(page.run(CONTRAST), [], f'{theme}, a refusal')
+        for key, dialog in (('#pick', '#ladder'), ('#help', '#helping')):
+            page.click(key)
+            equal(page.run(CONTRAST), [], f'{theme}, {dialog}')
+            page.click(f'{dialog} [data-close]')
+
+
+def it_fits(page):
+    """Nothing is wider than the screen, at all widths and in all views; at 320 wide and at twice the size all keys are on the screen."""
+    page.open('#example=tree')
+    page.settled()
+    for width, height in ((320, 700), (390, 844), (720, 500), (1024, 768), (1440, 1000)):
+        page.browser.resize(width, height)
+        for view in ('store', 'output', 'inverse', 'machine'):
+            page.run('playground.openView(arguments[0])', view)
+            page.settled()
+            equal(page.run(TOO_WIDE), [False, False], f'{width}, {view}')
+        equal(page.run(OFF_SCREEN), [], f'keys that are not on the screen at {width}')
+    page.run('playground.openView("store")')
+    page.browser.resize(1440, 1000)
+
+
+def it_asks_no_network(page):
+    """The page fetches nothing, and the browser lets it fetch nothing."""
+    page.open()
+    asked = 'return performance.getEntriesByType("resource").map(it => it.name).filter(it => !/^(blob|data):/.test(it))'
+    equal(page.run(asked), [])
+    blocked = page.run(FETCHES)
+    holds('connect-src' in blocked and 'img-src' in blocked, f'the policy blocks {blocked} alone')
+
+
+def a_worker_that_dies_is_begun_anew(page):
+    page.open('#example=first')
+    page.settled()
+    page.run('playground.caller.worker.dispatchEvent(new ErrorEvent("error", { message: "out of memory" }))')
+    page.write('class P int x method main() x += 7')
+    holds(page.text('#problems').startswith('Accepted'), page.text('#problems'))
+    page.run(DIES)
+    equal(page.run('return document.body.dataset.died'), 'out of memory')
+    page.write('class P int x method main() x += 8')
+    holds(page.text('#problems').startswith('Accepted'), page.text('#problems'))
+
+
+def without_runs_it_reads(page):
+    """If the browser has no runs the page says why, and shows texts, examples, exercises and help."""
+    lacks = {'WebAssembly': 'delete globalThis.WebAssembly', 'workers': 'delete globalThis.Worker',
+             'DecompressionStream': 'delete globalThis.DecompressionStream', 'it refuses to': 'globalThis.Worker = function () { throw new Error("a policy forbids it"); }'}
+    with open(page.file, encoding='utf-8') as it:
+        text = it.read()
+    for what, script in lacks.items():
+        with tempfile.TemporaryDirectory() as folder:
+            with open(os.path.join(folder, 'page.html'), 'w', encoding='utf-8') as it:
+                it.write(text.replace('<body', f'<script>{script}</script>\n<body', 1))
+            page.open(file=os.path.join(folder, 'page.html'))
+            told = page.text('#cannot')
+            holds(told.startswith('This browser cannot run the program') and what in told, told)
+            holds('class List' in page.run('return document.querySelector("#text").value'), 'no text is shown')
+            page.click('#pick')
+            page.click_text('#rungs button', 'Search tree')
+            equal(page.run('return document.querySelector("#text").value'), read('examples/tree.rpp'))
+            holds(page.text('#picked').endswith('Search tree'), page.text('#picked'))
+            page.click('#help')
+            holds('16 SharedArray' in page.text('#helping'), 'the help has no faults')
+            page.click('#helping [data-close]')
+            holds(not page.is_drawn('#transport'), 'keys are shown that can do nothing')
+
+
+TESTS = (every_control_has_a_name, assistive_technology_sees_it, tabs_keep_the_focus, the_keyboard_reaches_all, one_voice, colours_have_contrast,
+         it_fits, it_asks_no_network, a_worker_that_dies_is_begun_anew, without_runs_it_reads)

@@ -1,0 +1,70 @@
+// What the program prints, read into plain data. docs/reference/formats.md has the form of these texts.
+'use strict';
+
+const REFUSED = /^refused (\d+) (\w+)(?: at (\d+))?$/m;
+const FAULT = /^fault (-?\d+)(?: (\w+))?$/m;
+const STATE = /^at (\d+) pc (-?\d+) br (-?\d+) dir (-?1)(?: (.*))?$/;
+
+// The refusal that a text reports: its number, its name and its place.
+function refusalOf(text) {
+  const found = REFUSED.exec(text);
+  return found && { number: Number(found[1]), name: found[2], place: found[3] && Number(found[3]) };
+}
+
+// The fault that a text reports.
+function faultOf(text) {
+  const found = FAULT.exec(text);
+  return found && { number: Number(found[1]), name: found[2] ?? '' };
+}
+
+// A listing: its cells, its marks with their cells and places, the number of static words, and the names of the main
+// object's int fields with their cells.
+function listingOf(text) {
+  const cells = [], marks = [], cellNames = [];
+  let statics = 0;
+  for (const line of text.split('\n')) {
+    const words = line.split(' ');
+    if (words[0] === 'MARK') marks.push({ first: Number(words[1]), behind: Number(words[2]), place: Number(words[3]) });
+    else if (words[0] === 'NAME') cellNames.push([Number(words[1]), words[2]]);
+    else if (words[0] === 'STATIC') statics++;
+    else if (line !== '') cells.push(line);
+  }
+  return { cells, marks, statics, cellNames, names: cellNames.map(([, name]) => name) };
+}
+
+// The states that a script of the machine's debugger shows, each with the registers and cells that follow it.
+function statesOf(text) {
+  const states = [];
+  for (const line of text.split('\n')) {
+    const found = STATE.exec(line), value = /^(?:(\$\d+)|cell (\d+)) = (-?\d+)$/.exec(line);
+    if (found) {
+      const [at, place, branch, direction] = found.slice(1, 5).map(Number);
+      states.push({ at, place, branch, direction, said: found[5] ?? '', registers: new Map(), cells: new Map() });
+    } else if (value && states.length) {
+      if (value[1]) states.at(-1).registers.set(value[1], value[3]);
+      else states.at(-1).cells.set(Number(value[2]), value[3]);
+    }
+  }
+  return states;
+}
+
+// A report: the fields of the main object, the objects and arrays that it prints, and its other lines.
+function reportOf(text) {
+  const fields = [], objects = new Map(), rest = [];
+  let object;
+  for (const line of text.split('\n')) {
+    const head = /^(#\d+) (\S+) count (\d+)$/.exec(line), cell = /^( *)(\S+) = (-?\d+|nil|#\d+)$/.exec(line);
+    if (head) objects.set(head[1], object = { head: head[2], cells: [] });
+    else if (cell) (cell[1] ? object.cells : fields).push([cell[2], cell[3]]);
+    else rest.push(line);
+  }
+  return { fields, objects, rest };
+}
+
+// Where a place in bytes is in a text: the index, line and column from 0, and the whole line.
+function spotOf(text, place) {
+  const bytes = new TextEncoder().encode(text);
+  const before = new TextDecoder().decode(bytes.slice(0, place)).split('\n');
+  const line = before.length - 1, column = before[line].length;
+  return { index: before.join('\n').length, line, column, text: text.split('\n')[line] ?? '' };
+}
