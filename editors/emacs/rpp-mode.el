@@ -6,7 +6,7 @@
 
 ;;; Commentary:
 
-;; (add-to-list 'load-path ".../extras/emacs") and (require 'rpp-mode).  M-x compile judges the file; M-x eglot starts the
+;; (add-to-list 'load-path ".../editors/emacs") and (require 'rpp-mode).  M-x compile judges the file; M-x eglot starts the
 ;; language server; with dap-mode or dape, M-x dap-debug or M-x dape steps through a run both ways.
 
 ;;; Code:

@@ -106,6 +106,32 @@ function toDiagnostic(it) {
   return made;
 }
 
+function toSignatures(it) {
+  const made = new vscode.SignatureHelp();
+  made.signatures = it.signatures.map(each => {
+    const shown = new vscode.SignatureInformation(each.label, each.documentation);
+    shown.parameters = each.parameters.map(one => new vscode.ParameterInformation(one.label));
+    return shown;
+  });
+  made.activeSignature = it.activeSignature;
+  made.activeParameter = it.activeParameter;
+  return made;
+}
+
+function toAction(it, diagnostics) {
+  const made = new vscode.CodeAction(it.title, vscode.CodeActionKind.QuickFix);
+  made.edit = toWorkspaceEdit(it.edit);
+  made.isPreferred = it.isPreferred;
+  made.diagnostics = diagnostics;
+  return made;
+}
+
+// What an action is asked for, in the words of the protocol.
+const asked = it => ({
+  range: { start: it.range.start, end: it.range.end }, severity: it.severity + 1, message: it.message, source: it.source,
+  code: it.code && it.code.value !== undefined ? it.code.value : it.code,
+});
+
 function toWorkspaceEdit(it) {
   const made = new vscode.WorkspaceEdit();
   for (const [uri, edits] of Object.entries(it.changes)) made.set(vscode.Uri.parse(uri), edits.map(toEdit));
@@ -116,6 +142,7 @@ function toWorkspaceEdit(it) {
 class Client {
   constructor() {
     this.told = vscode.languages.createDiagnosticCollection(LANGUAGE);
+    this.runs = vscode.window.createOutputChannel('ROOPL++');
     this.start();
   }
 
@@ -124,7 +151,8 @@ class Client {
       message => this.heard(message),
       why => vscode.window.showErrorMessage(`${command()} lsp ended: ${why}. The setting rpp.command names the command.`));
     const able = { textDocument: { completion: { completionItem: { snippetSupport: true } } } };
-    this.ready = this.connection.request('initialize', { processId: process.pid, rootUri: null, capabilities: able })
+    const workspaceFolders = (vscode.workspace.workspaceFolders || []).map(it => ({ uri: it.uri.toString(), name: it.name }));
+    this.ready = this.connection.request('initialize', { processId: process.pid, rootUri: null, workspaceFolders, capabilities: able })
       .then(() => this.connection.notify('initialized', {}));
     this.ready.catch(() => {});
     vscode.workspace.textDocuments.forEach(it => this.opened(it));
@@ -139,12 +167,13 @@ class Client {
   dispose() {
     this.connection.close();
     this.told.dispose();
+    this.runs.dispose();
   }
 
   heard(message) {
     if (message.method === 'textDocument/publishDiagnostics') {
       this.told.set(vscode.Uri.parse(message.params.uri), message.params.diagnostics.map(toDiagnostic));
-    } else if (message.method === 'window/showMessage') {
+    } else if (message.method === 'window/showMessage' && message.params.type < 3) {
       vscode.window.showWarningMessage(message.params.message);
     }
   }
@@ -168,10 +197,16 @@ class Client {
   }
 
   // Asks the server, and turns an answer that is there into the editor's form.
-  async ask(method, params, form) {
+  async ask(method, params, form, part = 'textDocument') {
     await this.ready;
-    const answer = await this.connection.request(`textDocument/${method}`, params);
+    const answer = await this.connection.request(`${part}/${method}`, params);
     return answer ? form(answer) : undefined;
+  }
+
+  // Runs a text by a command of a lens, and shows what the program said.
+  async run(name, uri) {
+    await this.ask('executeCommand', { command: name, arguments: [uri] }, said => this.runs.appendLine(`${said}\n`), 'workspace');
+    this.runs.show(true);
   }
 
   each(method, params, form) {
@@ -185,6 +220,10 @@ function providers(client) {
   const toHighlight = it => new vscode.DocumentHighlight(toRange(it.range));
   const toFold = it => new vscode.FoldingRange(it.startLine, it.endLine, it.kind === 'comment' ? vscode.FoldingRangeKind.Comment : undefined);
   const toHover = it => new vscode.Hover(new vscode.MarkdownString(it.contents.value), toRange(it.range));
+  const toLens = it => new vscode.CodeLens(toRange(it.range), it.command);
+  const toFound = it => new vscode.SymbolInformation(it.name, it.kind - 1, it.containerName || '', toLocation(it.location));
+  const legend = new vscode.SemanticTokensLegend(['class', 'method', 'property', 'parameter', 'variable'], ['declaration']);
+  const toTokens = it => new vscode.SemanticTokens(new Uint32Array(it.data));
   const prepared = it => ({ range: toRange(it.range), placeholder: it.placeholder });
   return [
     languages.registerHoverProvider(LANGUAGE, { provideHover: (d, p) => client.ask('hover', at(d, p), toHover) }),
@@ -206,6 +245,19 @@ function providers(client) {
       },
     }),
     languages.registerCompletionItemProvider(LANGUAGE, { provideCompletionItems: (d, p) => client.each('completion', at(d, p), toItem) }, ':'),
+    languages.registerSignatureHelpProvider(
+      LANGUAGE, { provideSignatureHelp: (d, p) => client.ask('signatureHelp', at(d, p), toSignatures) }, '(', ','),
+    languages.registerDocumentSemanticTokensProvider(
+      LANGUAGE, { provideDocumentSemanticTokens: d => client.ask('semanticTokens/full', at(d), toTokens) }, legend),
+    languages.registerCodeLensProvider(LANGUAGE, { provideCodeLenses: d => client.each('codeLens', at(d), toLens) }),
+    languages.registerCodeActionsProvider(LANGUAGE, {
+      provideCodeActions: (d, range, context) => client.each(
+        'codeAction', { ...at(d), range: { start: range.start, end: range.end }, context: { diagnostics: context.diagnostics.map(asked) } },
+        it => toAction(it, context.diagnostics)),
+    }),
+    languages.registerWorkspaceSymbolProvider({
+      provideWorkspaceSymbols: query => client.ask('symbol', { query }, all => all.map(toFound), 'workspace'),
+    }),
     languages.registerDocumentFormattingEditProvider(LANGUAGE, {
       provideDocumentFormattingEdits: (d, options) => client.each('formatting', { ...at(d), options }, toEdit),
     }),
@@ -235,6 +287,7 @@ exports.activate = context => {
     vscode.workspace.onDidCloseTextDocument(it => client.closed(it)),
     vscode.workspace.onDidChangeConfiguration(it => it.affectsConfiguration('rpp.command') && client.restart()),
     vscode.commands.registerCommand('rpp.restart', () => client.restart()),
+    ...['rpp.run', 'rpp.thereAndBack'].map(name => vscode.commands.registerCommand(name, uri => client.run(name, uri))),
     ...providers(client),
     ...debugging());
 };
