@@ -4,7 +4,6 @@ import shutil
 import subprocess
 import sys
 import threading
-import time
 
 from rpp.program import Interrupted, OutOfTime, OverSource, Program, keep_apart
 
@@ -80,10 +79,9 @@ class Called(Case):
     def test_a_call_is_stopped_from_another_thread(self):
         source = self.write('endless.rpp', ENDLESS)
         threading.Timer(0.3, self.program.stop).start()
-        begin = time.monotonic()
+        # (a call that is not stopped takes years, so this ends only if it is)
         with self.assertRaises(Interrupted):
             self.program.call('go', source, 1, 1, 10 ** 17)
-        self.assertLess(time.monotonic() - begin, 20)
 
     def test_nothing_is_written_over_what_is_read(self):
         source = self.write('a.rpp', 'class P method main() skip')
