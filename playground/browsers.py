@@ -30,6 +30,9 @@ class Browser:
     def open(self, url):
         self.command('Navigate', 'url', {'url': url})
 
+    def reload(self):
+        self.command('Refresh', 'refresh', {})
+
     def run(self, script, *given):
         """The value that the body of a function in the page returns for the arguments given; it may be a promise."""
         body = f'const done = arguments[arguments.length - 1]; (async function () {{ {script} }}).apply(null, arguments)' \

@@ -4,7 +4,7 @@
 class Sharing {
   // `bench` has the program, its run and its position.
   constructor(bench) {
-    this.bench = bench;
+    Object.assign(this, { bench, asked: 0 });
     $('share').onclick = () => this.share();
     $('embed').onclick = () => this.showEmbed();
     $('copy-frame').onclick = () => this.copy($('frame').value, 'The frame is copied.');
@@ -13,8 +13,15 @@ class Sharing {
   }
 
   async link() {
-    const { view, transport, carried } = this.bench, fragment = await fragmentOf(this.bench.setting(), carried.version, { view, step: transport.at });
+    const { view, at, carried } = this.bench, fragment = await fragmentOf(this.bench.setting(), carried.version, { view, step: at });
     return location.href.split(/[?#]/)[0] + fragment;
+  }
+
+  // Puts the link into the address, where no later one was asked for while it was made.
+  async showLink() {
+    const asked = ++this.asked, link = await this.link();
+    if (asked === this.asked) setAddress(link);
+    return link;
   }
 
   async copy(text, told) {
@@ -27,9 +34,8 @@ class Sharing {
   }
 
   async share() {
-    const link = await this.link();
-    setAddress(link);
-    await this.copy(link, `The link is copied: this program at position ${this.bench.transport.at}.`);
+    const { at } = this.bench, link = await this.showLink();
+    await this.copy(link, `The link is copied: this program at position ${at}.`);
   }
 
   async showEmbed() {

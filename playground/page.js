@@ -215,7 +215,7 @@ class Workbench {
   judge() {
     clearTimeout(this.later);
     return this.guarded(async still => {
-      this.keepAddress();
+      this.keepSetting();
       const text = this.editor.text;
       this.lessons.name(this.lessons.title(text, this.exercise));
       $('welcome-first').hidden = text !== this.carried.examples[FIRST.example].text;
@@ -244,7 +244,7 @@ class Workbench {
 
   // Walks along the run, runs it on the machine, and finds the place of a fault.
   async film(still) {
-    this.keepAddress();
+    this.keepSetting();
     const text = this.editor.text, run = new Run(text, script => this.trace(script, text)), bad = this.inputs.bad();
     this.inputs.markBad(bad);
     const refused = still(await run.walk());
@@ -342,18 +342,13 @@ class Workbench {
     if (this.view === 'inverse' && this.hasInverse) this.inverse.go(run.places[index], run.undone[index]);
     if (this.view === 'machine' && this.hasListing && !keepsMachine) await this.listing.go(index);
     if (!isQuiet && !isPlaying) this.speakSoon();
-    this.keepPosition();
+    this.keepPlace();
     this.walkOn();
   }
 
   speakSoon() {
     clearTimeout(this.speaking);
     this.speaking = setTimeout(() => this.say(this.spoken()), SPEAK_MILLISECONDS);
-  }
-
-  keepPosition() {
-    clearTimeout(this.keeping);
-    this.keeping = setTimeout(() => Kept.set({ at: this.at, view: this.view }), KEEP_MILLISECONDS);
   }
 
   markPosition(index, isFault) {
@@ -406,7 +401,7 @@ class Workbench {
     this.tellSheet();
     this.listing.colour(false);
     $('tools').hidden = view !== 'store';
-    this.keepPosition();
+    this.keepPlace();
     return this.fillView();
   }
 
@@ -504,12 +499,18 @@ class Workbench {
 
   // ---- the address and what is kept
 
-  // The address keeps the text as one types.
-  keepAddress() {
-    if (this.isEmbedded) return;
+  keepSetting() {
     Kept.set({ setting: this.setting() });
-    clearTimeout(this.addressing);
-    this.addressing = setTimeout(async () => setAddress(await fragmentOf(this.setting(), this.carried.version)), KEEP_MILLISECONDS);
+    this.keepPlace();
+  }
+
+  // The browser and the address keep what is shown, a moment after it was last changed.
+  keepPlace() {
+    clearTimeout(this.keeping);
+    this.keeping = setTimeout(() => {
+      Kept.set({ at: this.at, view: this.view });
+      if (!this.isEmbedded) this.sharing.showLink();
+    }, KEEP_MILLISECONDS);
   }
 
   // What the address asks for: the setting, its view and its position; nothing where it asks for none.

@@ -76,6 +76,13 @@ class Page:
         self.browser.open(address)
         self.browser.until('return document.body && document.body.dataset.ready')
 
+    def reload(self):
+        self.browser.reload()
+        self.browser.until('return document.body && document.body.dataset.ready')
+
+    def rest(self, seconds):
+        self.run('await new Promise(done => setTimeout(done, 1000 * arguments[0]))', seconds)
+
     def settled(self):
         """Waits until nothing is under way, as the page shows by its key Stop and counts by its questions."""
         self.browser.until('await new Promise(done => setTimeout(done, 60)); const p = globalThis.playground;'

@@ -3,8 +3,10 @@ import json
 import os
 import re
 
-from drawn import TOP, equal, holds, read
+from drawn import END, TOP, equal, holds, read
 
+# After this time the browser and the address have what is shown.
+KEPT_SECONDS = 1.2
 SOLUTIONS = {'1.1': ('01', 'three.rpp'), '1.3': ('01', 'change.rpp'), '2.2': ('02', 'five.rpp'), '2.3': ('02', 'sign.rpp'), '3.1': ('03', 'most.rpp'),
              '3.3': ('03', 'days.rpp'), '4.1': ('04', 'product.rpp'), '4.3': ('04', 'divide.rpp'), '5.3': ('05', 'pairs.rpp'), '6.1': ('06', 'sum.rpp'),
              '11.1': ('11', 'square.rpp')}
@@ -70,34 +72,52 @@ def links_lead_back(page):
     page.view('output')
     page.go('step-on')
     page.click('#share')
-    page.browser.until('return /step=1/.test(location.hash)')
+    page.browser.until('return /view=output&step=1&/.test(location.hash)')
     address = page.run('return location.hash')
     version = read('CHANGELOG.md').split('\n## ')[1].split(' ')[0]
-    holds(f'v={version}' in address and 'view=output' in address, address[:80])
+    holds(f'v={version}' in address, address[:80])
+    page.rest(KEPT_SECONDS)
+    equal(page.run('return location.hash'), address, 'the address a while after Share')
     page.open(address)
     page.settled()
     equal([it['text'] for it in page.lines()], text.split('\n'))
     equal(page.position(), (1, 3))
     equal([row[:3] for row in page.output()], [['x', '-3', '-2'], ['y', '0', '0']])
     equal(page.run('return document.getElementById("heap").value'), '9')
-    page.browser.until('await new Promise(done => setTimeout(done, 700)); return true')
-    page.run('document.body.dataset.address = location.hash')
-    page.write(text + '\ny += 7')
-    page.browser.until('return location.hash !== document.body.dataset.address')
-    page.open(page.run('return location.hash'))
-    equal(page.lines()[-1]['text'], 'y += 7')
     equal(page.text('#version'), version)
 
 
+def the_address_keeps_the_text(page):
+    """The address alone has the text as it was typed last, and what Share gave stays there also while the text before it is packed."""
+    page.open()
+    page.write('class P int x method main()\nx += 1\nx += 2')
+    page.rest(KEPT_SECONDS)
+    page.write('class P int x method main()\nx += 1\nx += 7')
+    page.rest(KEPT_SECONDS)
+    page.open(page.run('return location.hash'))
+    page.settled()
+    equal(page.lines()[-1]['text'], 'x += 7')
+    page.press(END)
+    page.run('playground.keepPlace(); document.getElementById("share").click()')
+    page.browser.until('return /step=2&/.test(location.hash)')
+    address = page.run('return location.hash')
+    page.rest(KEPT_SECONDS)
+    equal(page.run('return location.hash'), address, 'the address a while after Share')
+
+
 def a_reload_keeps_the_text(page):
+    """Text, field, view and position stay when the page is loaded again, and when it is opened without an address."""
     page.open()
     page.write('class P int kept method main()\nkept += 4\nkept += 5')
-    page.go('step-back')
-    page.browser.until('await new Promise(done => setTimeout(done, 700)); return true')
-    page.open(clears=False)
-    page.settled()
-    equal([it['text'] for it in page.lines()][-1], 'kept += 5')
-    equal(page.position(), (1, 2))
+    page.put('#field-kept', '30')
+    page.view('output')
+    page.go('step-on')
+    page.rest(KEPT_SECONDS)
+    for again in (page.reload, lambda: page.open(clears=False)):
+        again()
+        page.settled()
+        equal([it['text'] for it in page.lines()][-1], 'kept += 5')
+        equal((page.position(), page.output()), ((1, 2), [['kept', '30', '34', '39']]))
 
 
 def a_broken_link_says_so(page):
@@ -143,5 +163,5 @@ def figures_stand_alone(page):
     holds('Linked list' in printed and 'position 60 of 60' in printed and 'delocal int i = 4' in printed, printed[:200])
 
 
-TESTS = (the_ladder_has_all, exercises_check_themselves, the_help_has_all, links_lead_back, a_reload_keeps_the_text, a_broken_link_says_so, it_embeds,
-         figures_stand_alone)
+TESTS = (the_ladder_has_all, exercises_check_themselves, the_help_has_all, links_lead_back, the_address_keeps_the_text, a_reload_keeps_the_text,
+         a_broken_link_says_so, it_embeds, figures_stand_alone)
