@@ -3,7 +3,7 @@ import sys
 from typing import List
 
 from . import show
-from .faults import failing_place
+from .faults import failing
 from .machine import debug_image
 from .options import Parser, Unfit, add_run_options, add_source, input_file
 from .places import Text
@@ -34,8 +34,8 @@ class SourcePrompt(Prompt):
         """Makes a move, and shows where it led and what changed."""
         before = self.session.moment
         stop = move()
-        failing = failing_place(self.session) if stop.reason == 'fault' else None
-        self.say(show.stop_lines(self.session, stop, before, failing))
+        at_fault = failing(self.session) if stop.reason == 'fault' else None
+        self.say(show.stop_lines(self.session, stop, before, at_fault))
 
     def here(self) -> None:
         self.say(show.stop_lines(self.session, Stop(self.session.point, 'step'), None))

@@ -9,7 +9,7 @@ from typing import Any, Callable, Dict, List, Optional
 
 from .checking import first_refusal, message_of, spoken
 from .explain import of_fault, of_refusal
-from .faults import failing_place
+from .faults import failing
 from .frames import Statements, statement_on
 from .options import DEPTH, HEAP, STEPS
 from .places import Text
@@ -366,7 +366,7 @@ class Adapter:
         found = self.standing().point.fault
         if found is None:
             raise Declined('no fault stopped the run')
-        where = fault_where(self.session, Stop(self.session.point, 'fault'), failing_place(self.session))
+        where = fault_where(self.session, Stop(self.session.point, 'fault'), failing(self.session))
         message = of_fault(found.number, where)
         told = {'exceptionId': f'fault {found.number} {found.name}', 'breakMode': 'always'}
         return {**told, 'description': spoken(message)} if message.rule else told

@@ -2,8 +2,8 @@
 
     filled(rule.forms, fault_slots(where, 6), rule.fix)
 
-Values are those that `trace` printed before the last statement that began, and count only where that is the statement that fails. A
-slot that is not known drops its sentence, so that no sentence says what is not so."""
+Values are those at the moment of the test that fails, or else those that `trace` printed before the last statement that began, which
+count only if that is the statement that fails. A slot that is not known drops its sentence, so that no sentence says what is not so."""
 from typing import Dict, List, NamedTuple, Optional
 
 from .slots import Slots, end_of_place
@@ -12,13 +12,14 @@ from .trace import Moment, Thing
 
 class Where(NamedTuple):
     """A fault: the text, the byte of the statement that fails, what was there before the last statement that began, whether the body
-    runs backward, and the bounds of the run."""
+    runs backward, the bounds of the run, and the moment of the test that fails at the end of the statement."""
     text: bytes
     at: int
     moment: Optional[Moment]
     is_back: bool
     heap: int
     depth: int
+    failed: Optional[Moment] = None
 
 
 def fault_slots(where: Where, number: int) -> Dict[str, str]:
@@ -35,7 +36,8 @@ class _FaultSlots(Slots):
         super().__init__(where.text, where.at)
         self.is_back = where.is_back
         self.here = next((each for each in self.source.statements() if each.first == self.token), None)
-        self.moment = where.moment if where.moment is not None and where.moment.point.place == where.at else None
+        begins_here = where.moment is not None and where.moment.point.place == where.at
+        self.moment = where.failed or (where.moment if begins_here else None)
 
     # ---- places and values
 
@@ -103,10 +105,11 @@ class _FaultSlots(Slots):
         if self.here.form != 'local' or self.here.closing_at is None:
             return {}
         name = self.here.variable.name
+        found = {'name': name, 'given': (self.moment and self.moment.value(name)) or ''}
         if not self.is_back:
-            return {'name': name, 'value': self.spelled(self.here.closing_at + 2, self.here.last)}
+            return {**found, 'value': self.spelled(self.here.closing_at + 2, self.here.last)}
         last = max(number for number, each in enumerate(self.source.tokens) if each.end <= self.here.variable.begins)
-        return {'name': name, 'value': self.spelled(self.here.variable.name_at + 2, last)}
+        return {**found, 'value': self.spelled(self.here.variable.name_at + 2, last)}
 
     def of_4(self):
         target = self.places()[-1]

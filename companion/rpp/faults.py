@@ -1,7 +1,8 @@
 """Where the run of a source stopped with a fault: the statement in whose code the machine stopped, as `run` tells it (`from
-A`), and the last statement that began, as `trace` tells it. They differ where a test at the end of a statement fails."""
+A`), and the last statement that began, as `trace` tells it. They differ if a test at the end of a statement fails."""
 from typing import List, NamedTuple, Optional, Tuple
 
+from .failing import FailedTest, failed_test
 from .messages import read_answer
 from .options import STEPS
 from .places import Text
@@ -13,16 +14,23 @@ from .trace import Moment, Point, Refused
 PATIENCE = 60.0
 
 
+class Failing(NamedTuple):
+    """The place of the statement that fails, and the test that fails at its end, if it is one."""
+    place: Optional[int]
+    test: Optional[FailedTest]
+
+
 class FaultPlaces(NamedTuple):
     """`statement` is the place of the statement that fails; `point`, `moment` and `frames` are what `trace` shows of the
-    last one that began; `is_back` says whether the body of the statement that fails runs backward. What could not be found is
-    None, and `why` says why."""
+    last one that began; `is_back` says whether the body of the statement that fails runs backward; `test` is the test that fails
+    at its end, if it is one. What could not be found is None, and `why` says why."""
     statement: Optional[int]
     point: Optional[Point]
     moment: Optional[Moment]
     frames: List[Frame]
     why: str
     is_back: bool = False
+    test: Optional[FailedTest] = None
 
 
 def find_fault(program: Program, wanted, text: Text) -> FaultPlaces:
@@ -35,7 +43,8 @@ def find_fault(program: Program, wanted, text: Text) -> FaultPlaces:
             if stop.reason == 'fault':
                 place = stop.point.place if stopped is None else stopped
                 frames = session.stack()
-                return FaultPlaces(place, stop.point, session.moment, frames, '', runs_back(session, frames, place))
+                test = of_place(session, stopped).test
+                return FaultPlaces(place, stop.point, session.moment, frames, '', runs_back(session, frames, place), test)
             why = why_not(stop.reason)
     except OutOfTime:
         why = f'`trace` did not reach it within {PATIENCE:.0f} seconds.'
@@ -44,12 +53,20 @@ def find_fault(program: Program, wanted, text: Text) -> FaultPlaces:
     return FaultPlaces(stopped, None, None, [], why)
 
 
-def failing_place(session: Session) -> Optional[int]:
-    """The place of the statement in whose code the machine stops with the fault of a session; it is asked for once."""
+def failing(session: Session) -> Failing:
+    """The statement in whose code the machine stops with the fault at which a session stands; it is asked for once."""
     if session.failing is None:
         run = session.run
-        session.failing = [machine_place(run.program, run.copy, run.bounds, STEPS, *(run.inputs or [None]))]
-    return session.failing[0]
+        session.failing = of_place(session, machine_place(run.program, run.copy, run.bounds, STEPS, *(run.inputs or [None])))
+    return session.failing
+
+
+def of_place(session: Session, place: Optional[int]) -> Failing:
+    """The statement at this place, where a session stands at its fault."""
+    point = session.point
+    if place is None or place == point.place or point.fault is None:
+        return Failing(place, None)
+    return Failing(place, failed_test(session.run, place, point.fault.number, runs_back(session, session.stack(), place)))
 
 
 def runs_back(session: Session, frames: List[Frame], place: int) -> bool:

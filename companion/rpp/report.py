@@ -2,6 +2,7 @@
 from typing import List
 
 from .explain import Message, of_refusal
+from .failing import FailedTest
 from .messages import Told, see
 from .places import Text
 from .rules import Rule
@@ -36,6 +37,12 @@ def caret_lines(text: Text, at: int) -> List[str]:
     """The source line of a place, and below it carets under the token."""
     line, marks = text.pointed(at).split('\n')
     return [line, marks.replace(marks.lstrip(' |\t'), paint('mark', marks.lstrip(' |\t')))]
+
+
+def test_lines(file: str, text: Text, test: FailedTest) -> List[str]:
+    """The test that failed, what was found, and the variables at that moment."""
+    return ['The test that failed, and the variables at that moment:', *pointed_lines(file, text, test.at, test.title),
+            *[f'  {name} = {value}' for name, value in test.moment.variables]]
 
 
 def refused_title(told: Told) -> str:

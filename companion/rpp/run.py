@@ -13,7 +13,7 @@ from .options import MOST_DEPTH, MOST_HEAP, STEPS, Parser, Unfit, add_run_option
 from .places import Text
 from .program import Interrupted, Program
 from .reading import shown, title
-from .report import failure_lines, fault_title, message_lines, pointed_lines, rule_lines, source_refused
+from .report import failure_lines, fault_title, message_lines, pointed_lines, rule_lines, source_refused, test_lines
 from .run_values import run_value
 from .screen import wrapped
 from .session import Frame
@@ -146,7 +146,7 @@ def faulted(program: Program, wanted: Wanted, told: Told) -> List[str]:
 def where_of(wanted: Wanted, text: Text, found: FaultPlaces) -> Optional[Where]:
     if found.statement is None:
         return None
-    return Where(text.content, found.statement, found.moment, found.is_back, wanted.heap, wanted.depth)
+    return Where(text.content, found.statement, found.moment, found.is_back, wanted.heap, wanted.depth, found.test and found.test.moment)
 
 
 def place_lines(wanted: Wanted, text: Text, told: Told, found: FaultPlaces) -> List[str]:
@@ -170,7 +170,11 @@ def larger_bound(wanted: Wanted, told: Told) -> List[str]:
 
 
 def state_lines(wanted: Wanted, text: Text, found: FaultPlaces) -> List[str]:
-    """What `trace` shows of the last statement that began: where it is, the open calls, and the variables before it."""
+    """The test that failed with the variables at that moment; or the last statement that began, with the variables before it; and
+    the open calls."""
+    if found.test is not None:
+        lines = test_lines(shown(wanted.source), text, found.test)
+        return lines + caller_lines(wanted, text, found.frames[1:])
     if found.point is None:
         return wrapped(found.why) if found.statement is not None and found.why else []
     lines = ['The last statement that began, and the variables before it:']

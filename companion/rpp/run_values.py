@@ -1,5 +1,5 @@
 """What `rpp run --json` prints of a run."""
-from typing import Any, Dict
+from typing import Any, Dict, List
 
 from .explain import of_fault, of_refusal
 from .fault_slots import Where
@@ -10,6 +10,7 @@ from .program import Program
 from .reading import shown
 from .results import Result
 from .json_values import JSON_VERSION, message_value, place_value
+from .trace import Moment
 
 OUTCOMES = {'done': 'finished', 'refused': 'refused', 'fault': 'fault', 'bound': 'bound'}
 
@@ -50,6 +51,10 @@ def refusal_value(wanted, told: Told) -> Dict[str, Any]:
     return {**value, **place_value(text, told.at), **message_value(of_refusal(text.content, told.number, told.at))}
 
 
+def variables_value(moment: Moment) -> List[Dict[str, str]]:
+    return [{'name': name, 'value': shown_value} for name, shown_value in moment.variables]
+
+
 def fault_value(program: Program, wanted, told: Told) -> Dict[str, Any]:
     """The fault, the statement that fails, and the last one that began with the variables before it."""
     text = Text.read(wanted.source)
@@ -57,10 +62,12 @@ def fault_value(program: Program, wanted, told: Told) -> Dict[str, Any]:
     where = None
     value: Dict[str, Any] = {'number': told.number, 'name': told.name, 'steps': told.number_behind('steps')}
     if found.statement is not None:
-        where = Where(text.content, found.statement, found.moment, found.is_back, wanted.heap, wanted.depth)
+        where = Where(text.content, found.statement, found.moment, found.is_back, wanted.heap, wanted.depth, found.test and found.test.moment)
         value.update(place_value(text, found.statement))
     value.update(message_value(of_fault(told.number, where)))
+    if found.test is not None:
+        value['test'] = {**place_value(text, found.test.at), 'found': found.test.title, 'variables': variables_value(found.test.moment)}
     if found.point is not None:
         value['last'] = {'position': found.point.position, **place_value(text, found.point.place),
-                         'variables': [{'name': name, 'value': shown_value} for name, shown_value in found.moment.variables]}
+                         'variables': variables_value(found.moment)}
     return value

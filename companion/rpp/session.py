@@ -58,8 +58,8 @@ class Session(Closing):
         self.position = 0
         self.breakpoints: List[Breakpoint] = []
         self._numbers = 0
-        # (the place of the statement that fails, once it was asked for)
-        self.failing: Optional[List[Optional[int]]] = None
+        # (what fails at the end of the run, once it was asked for)
+        self.failing = None
 
     @classmethod
     def begun(cls, program: Program, source: str, heap: int = 12, depth: int = 64,

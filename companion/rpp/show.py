@@ -5,8 +5,8 @@ from .changes import changes, thing_of, value_of
 from .explain import of_fault
 from .fault_slots import Where
 from .reading import title
-from .faults import runs_back
-from .report import caret_lines, message_lines
+from .faults import Failing, runs_back
+from .report import caret_lines, message_lines, test_lines
 from .screen import paint
 from .session import Frame, Session, Stop
 from .trace import Moment, Thing
@@ -37,9 +37,9 @@ def framed(frame: Frame) -> str:
     return f'in {frame.method}{of}{deep}{", uncalled" if frame.uncalled else ""}'
 
 
-def stop_lines(session: Session, stop: Stop, before: Optional[Moment], failing: Optional[int] = None) -> List[str]:
-    """Where the session stands, its source line, why it stopped, and what changed on the way. `failing` is the place of the
-    statement in whose code the machine stops with a fault, where that is known."""
+def stop_lines(session: Session, stop: Stop, before: Optional[Moment], failing: Optional[Failing] = None) -> List[str]:
+    """Where the session stands, its source line, why it stopped, and what changed on the way. `failing` is the statement in whose
+    code the machine stops with a fault, if that is known."""
     frames = session.stack()
     frame = frames[0] if frames else None
     lines = [place_line(session, frame)]
@@ -54,22 +54,25 @@ def stop_lines(session: Session, stop: Stop, before: Optional[Moment], failing: 
     return lines
 
 
-def fault_lines(session: Session, stop: Stop, failing: Optional[int]) -> List[str]:
+def fault_lines(session: Session, stop: Stop, failing: Optional[Failing]) -> List[str]:
     """The fault behind this statement, and where it came if that is at the end of another one."""
     number, name = stop.point.fault
     lines = [f'{paint("wrong", f"fault {number} {name}")}: the run goes no further']
-    if failing is not None and failing != stop.point.place:
-        file = title(session.run.source)
+    place, test = failing or Failing(None, None)
+    file, text = title(session.run.source), session.run.text
+    if place is not None and place != stop.point.place:
         lines[0] += ', and stops within this statement:'
-        lines += [paint('where', session.run.text.spelled(file, failing))] + caret_lines(session.run.text, failing)
+        lines += [paint('where', text.spelled(file, place))] + caret_lines(text, place)
+    lines += test_lines(file, text, test) if test is not None else []
     message = of_fault(number, fault_where(session, stop, failing))
     return lines + message_lines(message)
 
 
-def fault_where(session: Session, stop: Stop, failing: Optional[int]) -> Where:
+def fault_where(session: Session, stop: Stop, failing: Optional[Failing]) -> Where:
     """The statement that fails, with what was there before it, and the direction in which its body runs."""
-    run, place = session.run, stop.point.place if failing is None else failing
-    return Where(run.text.content, place, session.moment, runs_back(session, session.stack(), place), *run.bounds)
+    run, (place, test) = session.run, failing or Failing(None, None)
+    place = stop.point.place if place is None else place
+    return Where(run.text.content, place, session.moment, runs_back(session, session.stack(), place), *run.bounds, test and test.moment)
 
 
 def reason_lines(session: Session, stop: Stop) -> List[str]:

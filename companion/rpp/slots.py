@@ -34,6 +34,12 @@ def slots(text: bytes, number: int, at: int) -> Dict[str, str]:
     return {name: value for name, value in getattr(found, f'of_{number}', dict)().items() if value}
 
 
+def spelled(source: Source, first: int, last: int) -> str:
+    """The text from one token to another, in one line, with the spaces of the author where they part words."""
+    text = source.text[source.tokens[first].at:source.tokens[last].end].decode('utf-8', 'replace')
+    return ' '.join(re.sub(r'//[^\n]*', ' ', text).split())
+
+
 class Slots:
     """A text with a place in it, and what is there."""
 
@@ -57,10 +63,7 @@ class Slots:
     # ---- what is where
 
     def spelled(self, first: int, last: int) -> str:
-        """The text from one token to another, in one line, with the spaces of the author where they part words."""
-        tokens = self.source.tokens
-        text = self.text[tokens[first].at:tokens[last].end].decode('utf-8', 'replace')
-        return ' '.join(re.sub(r'//[^\n]*', ' ', text).split())
+        return spelled(self.source, first, last)
 
     def line_of(self, token: int) -> str:
         return str(self.text.count(b'\n', 0, self.source.tokens[token].at) + 1)

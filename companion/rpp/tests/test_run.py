@@ -123,11 +123,17 @@ class Faults(Case):
                 self.assertEqual((done.returncode, done.stdout.split('\n')[0]), (5, first))
                 self.assertIn('\nSee docs/reference/messages.md#fault-', done.stdout)
 
-    def test_the_last_statement_with_its_variables(self):
+    def test_the_test_with_its_variables(self):
         done = self.rpp('run', SUMS, 'a=4', 'b=8')
         self.assertTrue(done.stdout.startswith(f'{SUMS}:8:3: fault 3 Delocal\n'))
-        self.assertIn(f'the variables before it:\n{SUMS}:12:5: position 4\n', done.stdout)
-        self.assertIn('  a = -4\n  b = 8\n  total = 12\n  sum = 12\n', done.stdout)
+        self.assertIn(f'at that moment:\n{SUMS}:13:21: `sum` is 8 after the block, and 0 is wanted\n', done.stdout)
+        self.assertIn('  a = -4\n  b = 8\n  total = 12\n  sum = 8\n', done.stdout)
+
+    def test_the_last_statement_with_its_variables(self):
+        self.write('bad.rpp', 'class P\n  int[] a  int n\nmethod main()\n  n += 3\n  new int[2] a\n  a[n] += 1\n')
+        done = self.rpp('run', 'bad.rpp')
+        self.assertIn('the variables before it:\nbad.rpp:6:3: position 2\n', done.stdout)
+        self.assertIn('  a = #2\n  n = 3\n', done.stdout)
 
     def test_the_calls_around(self):
         self.write('bad.rpp', 'class P\nmethod main()\n  call f()\nmethod f()\n  call f()\n')
