@@ -1,14 +1,32 @@
-# Completion of the words of rooplpp for bash: source this file.
+# Completion of `rooplpp` for bash: commands and files. In a form, F stands for a file and - for another word; the last one is for all
+# words that follow. tools/map writes the forms.
 _rooplpp() {
-    local word=${COMP_WORDS[COMP_CWORD]}
-    if [ "$COMP_CWORD" -eq 1 ]; then
-        mapfile -t COMPREPLY < <(compgen -W 'check compile show-inverse generate explain asm list flip run debug trace cluster go turn profile wrap' -- "$word")
+    local word=${COMP_WORDS[COMP_CWORD]} forms=() form=() at=$((COMP_CWORD - 1))
+# <!-- forms -->
+    forms+=('check F -')
+    forms+=('go F - - - F -')
+    forms+=('turn F - - - F -')
+    forms+=('profile F - - - -')
+    forms+=('wrap F - - - - F -')
+    forms+=('explain F - - - F -')
+    forms+=('trace F - - F F -')
+    forms+=('compile F F -')
+    forms+=('show-inverse F F -')
+    forms+=('generate - - F -')
+    forms+=('list F F -')
+    forms+=('flip F F -')
+    forms+=('asm F F -')
+    forms+=('run F - - - F F -')
+    forms+=('debug F - - F -')
+    forms+=('cluster F - F F')
+# <!-- end -->
+    if [ "$at" -eq 0 ]; then
+        mapfile -t COMPREPLY < <(compgen -W "${forms[*]%% *}" -- "$word")
         return
     fi
-    case ${COMP_WORDS[1]}:$COMP_CWORD in
-        check:2 | compile:[23] | show-inverse:[23] | generate:4 | asm:[23] | list:[23] | flip:[23] | go:[26] | turn:[26] | profile:2 | wrap:[27] | explain:[26] | run:[267] | debug:[25] | trace:[256] | cluster:2 | cluster:[4-9] | cluster:1[01])
-            mapfile -t COMPREPLY < <(compgen -f -- "$word") ;;
-        *) COMPREPLY=() ;;
-    esac
+    COMPREPLY=()
+    read -r -a form < <(printf '%s\n' "${forms[@]}" | grep "^${COMP_WORDS[1]} ")
+    [ "$at" -lt ${#form[@]} ] || at=$((${#form[@]} - 1))
+    [ "$at" -lt 0 ] || [ "${form[at]}" != F ] || mapfile -t COMPREPLY < <(compgen -f -- "$word")
 }
 complete -o filenames -F _rooplpp rooplpp ./rooplpp

@@ -21,6 +21,14 @@ SHELLS = {
              'set -g argv_before $argv[2..-2]; set -g argv_last $argv[-1]; source $argv[1]/editors/fish/rpp.fish; __rpp_complete', TOP,
              COMMAND],
 }
+# The same of `rooplpp`, whose completions are by what its commands take.
+SHELLS_OF_PROGRAM = {
+    'bash': ['-c', 'source "$0/editors/bash/rooplpp.bash"; COMP_WORDS=(rooplpp "$@"); COMP_CWORD=$#; _rooplpp; '
+             'printf "%s\\n" "${COMPREPLY[@]}"', TOP],
+    'zsh': ['-c', 'compadd() { local each; for each in "${@:2}"; do [[ $each != $words[CURRENT]* ]] || print -r -- $each; done }; '
+            '_files() { print -rl -- $words[CURRENT]*(N) }; words=(rooplpp "$@"); CURRENT=$#words; source "$0/editors/zsh/_rooplpp"', TOP],
+    'fish': ['-c', 'source $argv[1]/editors/fish/rooplpp.fish; complete -C "rooplpp $argv[2..-1]" | string replace -r "\\t.*" ""', TOP],
+}
 
 
 class Layout(Case):
@@ -179,10 +187,19 @@ class Completion(Case):
         self.assertEqual(set(self.rpp('complete', '').stdout.split()), {*COMMANDS, '--help'})
 
     def test_shells(self):
-        for shell, words in SHELLS.items():
+        self.complete_by(SHELLS, self.ROWS[:3])
+
+    def test_the_program(self):
+        self.complete_by(SHELLS_OF_PROGRAM, [
+            (['che'], ['check']), (['f'], ['flip']), (['check', 'count'], ['counter.rpp']), (['check', 'counter.rpp', 'count'], []),
+            (['go', 'count'], ['counter.rpp']), (['go', 'counter.rpp', 'count'], []), (['go', 'counter.rpp', '1', '1', '9', 'count'], ['counter.rpp']),
+            (['cluster', 's', '9', 'a', 'b', 'c', 'count'], ['counter.rpp']), (['nothing', 'count'], [])])
+
+    def complete_by(self, shells, rows):
+        for shell, words in shells.items():
             with self.subTest(shell=shell):
                 if not shutil.which(shell):
                     self.skipTest(f'there is no {shell}')
-                for typed, wanted in self.ROWS[:3]:
+                for typed, wanted in rows:
                     done = subprocess.run([shell, *words, *typed], cwd=self.folder, stdout=subprocess.PIPE, check=False)
-                    self.assertEqual(sorted(done.stdout.decode().split()), sorted(wanted))
+                    self.assertEqual((typed, sorted(done.stdout.decode().split())), (typed, sorted(wanted)))
