@@ -6,10 +6,14 @@
    call     a read or a write ends with an error
    short    a read or a write of several bytes moves one
    again    a read or a write is broken off by a signal before it has moved a byte
-   nothing  a write of several bytes moves none */
+   nothing  a write of several bytes moves none
+   step     a file is not brought to the disk, or gets no owner, mode or name
+   kill     the program is killed before a call that may change a file or a folder
+   torn     a write of several bytes moves half of them, and the program is killed */
 #define _GNU_SOURCE
 #include <errno.h>
 #include <fcntl.h>
+#include <signal.h>
 #include <stdarg.h>
 #include <stdio.h>
 #include <stdlib.h>
@@ -41,6 +45,14 @@ __attribute__((destructor)) static void end(void) {
 /* Counts a call of this kind, and answers whether it is to fail. */
 static int fails(const char *of) { return strcmp(kind, of) == 0 && ++calls == at; }
 
+static void end_here(void) { syscall(SYS_kill, syscall(SYS_getpid), SIGKILL); }
+
+/* A call that may change a file or a folder is about to be made. */
+static void before_change(void) {
+    if (fails("kill")) end_here();
+}
+
+
 static void *without(void) {
     errno = ENOMEM;
     return NULL;
@@ -60,6 +72,7 @@ int posix_memalign(void **to, size_t place, size_t size) {
 }
 
 static int opened(int folder, const char *name, int flags, mode_t mode) {
+    if (flags & O_CREAT) before_change();
     if (fails("open")) {
         errno = EIO;
         return -1;
@@ -109,8 +122,35 @@ ssize_t read(int file, void *to, size_t size) {
 }
 
 ssize_t write(int file, const void *from, size_t size) {
+    before_change();
+    if (size > 1 && fails("torn")) {
+        syscall(SYS_write, file, from, size / 2);
+        end_here();
+    }
     long now = moved(size, 1);
     return now < 0 || (now == 0 && size > 0) ? now : syscall(SYS_write, file, from, now);
 }
 ssize_t __write(int file, const void *from, size_t size) { return write(file, from, size); }
 ssize_t __read(int file, void *to, size_t size) { return read(file, to, size); }
+
+/* A call that changes a file or a folder, but for its bytes. */
+#define STEP(name, parameters, ...) \
+    int name parameters { \
+        before_change(); \
+        if (fails("step")) { \
+            errno = EIO; \
+            return -1; \
+        } \
+        return syscall(SYS_##name, __VA_ARGS__); \
+    }
+
+STEP(fsync, (int file), file)
+STEP(fchmod, (int file, mode_t mode), file, mode)
+STEP(chown, (const char *name, uid_t user, gid_t group), name, user, group)
+STEP(rename, (const char *from, const char *to), from, to)
+
+/* What failed is taken back by this call, so it fails with no other. */
+int unlink(const char *name) {
+    before_change();
+    return syscall(SYS_unlink, name);
+}

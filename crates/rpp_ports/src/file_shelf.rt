@@ -6,7 +6,7 @@ ghost use Rattle.rpp_ports.specs.Failures.{risen};
 ghost use Rattle.rpp_ports.specs.Files as files;
 
 use crate::trail::{Note, Trail};
-use crate::{Shelf, ShelfFault};
+use crate::{Shelf, ShelfFault, replacing};
 use std::fs::File;
 use std::io;
 use std::io::{ErrorKind, Read};
@@ -64,7 +64,8 @@ fn fault_of(kind: ErrorKind) -> ShelfFault
 }
 
 // Each error is counted, `Missing` and `TooLong` too. A call is made, and then noted with its
-// answer.
+// answer. After an error of a write a file has its old text, except where `replacing` writes in
+// place. No clause says so, since none knows what a file holds.
 impl<'a, R: Files + AllocGlobal> Shelf for FileShelf<'a, R> {
     ghost texts = { λ _. None };
 
@@ -107,8 +108,7 @@ impl<'a, R: Files + AllocGlobal> Shelf for FileShelf<'a, R> {
             ≡ Write name.now bytes.now result ∷ self.old.trail.events }
         ensures later { self.old.faults ≤ self.new.faults }
     {
-        // A file that could not be written may have lost its text, also if memory runs out.
-        let answer = match std::fs::write(self.rt, name, bytes) {
+        let answer = match replacing::write(self.rt, name, bytes) {
             Ok(()) => Ok(()),
             Err(_) => {
                 self.faults = self.faults.saturating_add(1);

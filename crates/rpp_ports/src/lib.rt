@@ -9,6 +9,7 @@ mod file_shelf;
 mod memory_shelf;
 mod memory_sink;
 mod out_sink;
+mod replacing;
 mod shelf;
 mod sink;
 mod trail;
