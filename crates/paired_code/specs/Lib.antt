@@ -13,3 +13,4 @@ pub mod Closed
 pub mod Link
 pub mod Does
 pub mod Rows
+pub mod Stored

@@ -7,6 +7,8 @@
 mod marking;
 mod part;
 mod piece;
+mod row;
+mod rows;
 mod span;
 mod writer;
 

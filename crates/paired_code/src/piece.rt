@@ -8,9 +8,11 @@ ghost use Rattle.paired_code.specs.Machine.{reversed, is_single};
 ghost use Rattle.paired_code.specs.Layout.{between, fork, branch_cells, loop_cells, mirror_cells, inverse_sym, check_cells, check_equal_cells, check_differ_cells, check_positive_cells, Equal, Differ, Positive, place_register, enter_at_cells};
 ghost use Rattle.paired_code.specs.Laws.{SeqLaw, MirrorLaw, BranchLaw, WhileLaw, PlainLaw, CheckLaw, TestLaw, EmptyLaw, EnterLaw, EnterAtLaw};
 ghost use Rattle.paired_code.specs.Fit.{AllFit};
+ghost use Rattle.paired_code.specs.Stored.{cells_in};
 ghost use Rattle.paired_code.specs.Code.{Code, Kept, AllWithin, shift, unmarked, seq_code, branch_code, loop_code, marked_code, parts};
 
 use crate::part::Symbol;
+use crate::row::Row;
 use crate::span::{Span, cover, put_spans};
 use code_conventions::cells::{add, with_word};
 use code_conventions::registers::LINK;
@@ -25,18 +27,19 @@ const WORDS: usize = 0x1_0000_0000;
 /// Closed code of any number of cells, with the places of the source that made it.
 #[derive(Drop)]
 pub struct Piece {
-    cells: Vec<Symbol>,
+    cells: Row,
     marks: Vec<Span>,
 }
 
 impl Model for Piece {
     ghost use Rattle.paired_code.specs.Code.{Code, Kept};
+    ghost use Rattle.paired_code.specs.Stored.{cells_in};
 
     ghost Value = { Code };
 
-    ghost view = { λ p. record { cells = p.cells.items; marks = p.marks.items } };
+    ghost view = { λ p. record { cells = cells_in p.cells; marks = p.marks.items } };
 
-    ghost invariant = { λ p. Kept p.cells.items p.marks.items };
+    ghost invariant = { λ p. Kept (cells_in p.cells) p.marks.items };
 }
 
 /// No cells.
@@ -45,7 +48,7 @@ pub fn empty(alloc: Global) -> Piece
     ensures law { EmptyLaw result.cells }
 {
     Piece {
-        cells: Vec::new(alloc),
+        cells: Row::new(alloc),
         marks: Vec::new(alloc),
     }
 }
@@ -58,9 +61,9 @@ pub fn seq(first: Piece, second: Piece) -> Result<Piece, NoMemory>
 {
     let mut cells = first.cells;
     let mut marks = first.marks;
-    let mut more = second.cells;
     let front = cells.len();
-    cells.append(&mut more)?;
+    cells.append(second.cells)?;
+    let _size = cells.len();
     put_spans(&mut marks, &second.marks, front)?;
     Ok(sealed(cells, marks))
 }
@@ -74,6 +77,7 @@ pub fn branch_if(alloc: Global, flag: u8, yes: Piece, no: Piece) -> Result<Piece
 {
     let no_size = no.cells.len();
     let cells = branch_row(alloc, flag, yes.cells, no.cells)?;
+    let _size = cells.len();
     let mut marks = Vec::new(alloc);
     put_spans(&mut marks, &no.marks, 2)?;
     put_spans(&mut marks, &yes.marks, 5 + no_size)?;
@@ -90,6 +94,7 @@ pub fn turn_while(alloc: Global, flag: u8, head: Piece, tail: Piece) -> Result<P
 {
     let tail_size = tail.cells.len();
     let cells = loop_row(alloc, flag, head.cells, tail.cells)?;
+    let _size = cells.len();
     let mut marks = Vec::new(alloc);
     put_spans(&mut marks, &tail.marks, 3)?;
     put_spans(&mut marks, &head.marks, 5 + tail_size)?;
@@ -103,7 +108,7 @@ pub fn plain(alloc: Global, cell: Cell) -> Result<Piece, NoMemory>
     ensures code { IfOk result (λ p. p ≡ unmarked (Symbol.Own cell ∷ [])) }
     ensures law { IfOk result (λ p. PlainLaw cell p.cells) }
 {
-    let mut cells = Vec::new(alloc);
+    let mut cells = Row::new(alloc);
     cells.push(Symbol::Own(cell))?;
     Ok(sealed(cells, Vec::new(alloc)))
 }
@@ -114,7 +119,7 @@ pub fn check_zero(alloc: Global, reg: u8, code: u32) -> Result<Piece, NoMemory>
     ensures code { IfOk result (λ p. p ≡ unmarked (check_cells reg code)) }
     ensures law { IfOk result (λ p. CheckLaw reg code p.cells) }
 {
-    let mut cells = Vec::new(alloc);
+    let mut cells = Row::new(alloc);
     cells.push(Symbol::Own(bra(2)))?;
     cells.push(Symbol::Own(data_word(code)))?;
     cells.push(Symbol::Own(bra(behind(2, 0))))?;
@@ -130,7 +135,7 @@ pub fn check_equal(alloc: Global, one: u8, other: u8, code: u32) -> Result<Piece
     ensures code { IfOk result (λ p. p ≡ unmarked (check_equal_cells one other code)) }
     ensures law { IfOk result (λ p. TestLaw (Equal one other) code p.cells) }
 {
-    let mut cells = Vec::new(alloc);
+    let mut cells = Row::new(alloc);
     cells.push(Symbol::Own(beq(one, other, 2)))?;
     cells.push(Symbol::Own(data_word(code)))?;
     cells.push(Symbol::Own(beq(one, other, behind(2, 0))))?;
@@ -144,7 +149,7 @@ pub fn check_differ(alloc: Global, one: u8, other: u8, code: u32) -> Result<Piec
     ensures code { IfOk result (λ p. p ≡ unmarked (check_differ_cells one other code)) }
     ensures law { IfOk result (λ p. TestLaw (Differ one other) code p.cells) }
 {
-    let mut cells = Vec::new(alloc);
+    let mut cells = Row::new(alloc);
     cells.push(Symbol::Own(bne(one, other, 2)))?;
     cells.push(Symbol::Own(data_word(code)))?;
     cells.push(Symbol::Own(bne(one, other, behind(2, 0))))?;
@@ -157,7 +162,7 @@ pub fn check_positive(alloc: Global, reg: u8, code: u32) -> Result<Piece, NoMemo
     ensures code { IfOk result (λ p. p ≡ unmarked (check_positive_cells reg code)) }
     ensures law { IfOk result (λ p. TestLaw (Positive reg) code p.cells) }
 {
-    let mut cells = Vec::new(alloc);
+    let mut cells = Row::new(alloc);
     cells.push(Symbol::Own(bgtz(reg, 2)))?;
     cells.push(Symbol::Own(data_word(code)))?;
     cells.push(Symbol::Own(bgtz(reg, behind(2, 0))))?;
@@ -169,7 +174,7 @@ pub fn enter(alloc: Global, routine: u32, back: bool) -> Result<Piece, NoMemory>
     ensures code { IfOk result (λ p. p ≡ unmarked (Symbol.Enter routine back ∷ [])) }
     ensures law { IfOk result (λ p. EnterLaw routine back p.cells) }
 {
-    let mut cells = Vec::new(alloc);
+    let mut cells = Row::new(alloc);
     cells.push(Symbol::Enter(routine, back))?;
     Ok(sealed(cells, Vec::new(alloc)))
 }
@@ -182,7 +187,7 @@ pub fn enter_at(alloc: Global, reg: u8, back: bool) -> Result<Piece, NoMemory>
     ensures law { IfOk result (λ p. EnterAtLaw reg back p.cells) }
 {
     let from = if reg == LINK { 3 } else { reg };
-    let mut cells = Vec::new(alloc);
+    let mut cells = Row::new(alloc);
     cells.push(Symbol::Turn(true, false, back))?;
     cells.push(Symbol::Fixed(add(LINK, from)))?;
     cells.push(Symbol::Aim(false))?;
@@ -211,7 +216,7 @@ pub fn mirror(alloc: Global, piece: &Piece) -> Result<Piece, NoMemory>
     ensures code { IfOk result (λ p. p ≡ unmarked (mirror_cells piece.now.cells)) }
     ensures law { IfOk result (λ p. MirrorLaw piece.now.cells p.cells) }
 {
-    let cells = mirrored(alloc, &piece.cells)?;
+    let cells = mirrored(alloc, piece.cells.as_slice())?;
     Ok(sealed(cells, Vec::new(alloc)))
 }
 
@@ -220,7 +225,7 @@ pub fn cells_of(piece: &Piece) -> &[Symbol]
     ensures cells { result.now ≡ piece.now.cells }
     ensures fit { AllFit piece.now.cells }
 {
-    &piece.cells
+    piece.cells.as_slice()
 }
 
 /// Its marks.
@@ -231,10 +236,10 @@ pub fn marks_in(piece: &Piece) -> &[Span]
     &piece.marks
 }
 
-fn mirrored(alloc: Global, cells: &[Symbol]) -> Result<Vec<Symbol>, NoMemory>
-    ensures { IfOk result (λ v. v.items ≡ map inverse_sym (reverse cells.now)) }
+fn mirrored(alloc: Global, cells: &[Symbol]) -> Result<Row, NoMemory>
+    ensures { IfOk result (λ v. cells_in v ≡ map inverse_sym (reverse cells.now)) }
 {
-    let mut out = Vec::new(alloc);
+    let mut out = Row::new(alloc);
     for c in cells.iter().rev().copied() {
         out.push(turned(c))?;
     }
@@ -253,31 +258,26 @@ fn turned(cell: Symbol) -> Symbol
     }
 }
 
-fn sealed(cells: Vec<Symbol>, marks: Vec<Span>) -> Piece
-    requires fit { AllFit cells.items }
-    requires within { AllWithin (length cells.items) marks.items }
-    ensures { result ≡ record { cells = cells.items; marks = marks.items } }
+fn sealed(cells: Row, marks: Vec<Span>) -> Piece
+    requires fit { AllFit (cells_in cells) }
+    requires within { AllWithin (length (cells_in cells)) marks.items }
+    ensures { result ≡ record { cells = cells_in cells; marks = marks.items } }
 {
     Piece { cells, marks }
 }
 
 // The cells of a choice.
-fn branch_row(
-    alloc: Global,
-    flag: u8,
-    mut yes: Vec<Symbol>,
-    mut no: Vec<Symbol>,
-) -> Result<Vec<Symbol>, NoMemory>
-    ensures { IfOk result (λ v. v.items ≡ branch_cells flag yes.items no.items) }
+fn branch_row(alloc: Global, flag: u8, yes: Row, no: Row) -> Result<Row, NoMemory>
+    ensures { IfOk result (λ v. cells_in v ≡ branch_cells flag (cells_in yes) (cells_in no)) }
 {
     let no_size = no.len();
     let yes_size = yes.len();
-    let mut cells = Vec::new(alloc);
+    let mut cells = Row::new(alloc);
     put_fork(&mut cells, flag, ahead(3, no_size))?;
-    cells.append(&mut no)?;
+    cells.append(no)?;
     put_jump(&mut cells, ahead(5, yes_size))?;
     put_fork(&mut cells, flag, behind(3, no_size))?;
-    cells.append(&mut yes)?;
+    cells.append(yes)?;
     put_fork(&mut cells, flag, 3)?;
     put_jump(&mut cells, behind(5, yes_size))?;
     put_fork(&mut cells, flag, behind(3, 0))?;
@@ -285,22 +285,17 @@ fn branch_row(
 }
 
 // The cells of a loop.
-fn loop_row(
-    alloc: Global,
-    flag: u8,
-    mut head: Vec<Symbol>,
-    mut tail: Vec<Symbol>,
-) -> Result<Vec<Symbol>, NoMemory>
-    ensures { IfOk result (λ v. v.items ≡ loop_cells flag head.items tail.items) }
+fn loop_row(alloc: Global, flag: u8, head: Row, tail: Row) -> Result<Row, NoMemory>
+    ensures { IfOk result (λ v. cells_in v ≡ loop_cells flag (cells_in head) (cells_in tail)) }
 {
     let tail_size = tail.len();
     let head_size = head.len();
-    let mut cells = Vec::new(alloc);
+    let mut cells = Row::new(alloc);
     put_fork(&mut cells, flag, ahead(3, tail_size))?;
     put_jump(&mut cells, ahead(5 + tail_size, head_size))?;
-    cells.append(&mut tail)?;
+    cells.append(tail)?;
     put_fork(&mut cells, flag, behind(3, tail_size))?;
-    cells.append(&mut head)?;
+    cells.append(head)?;
     put_fork(&mut cells, flag, 3)?;
     put_jump(&mut cells, behind(5 + tail_size, head_size))?;
     put_fork(&mut cells, flag, behind(3, 0))?;
@@ -328,16 +323,16 @@ fn behind(front: usize, more: usize) -> u32
     (WORDS - both) as u32
 }
 
-fn put_fork(cells: &mut Vec<Symbol>, flag: u8, word: u32) -> Result<(), NoMemory>
-    ensures { OnOk result (cells.new.items ≡ cells.old.items ++ fork flag word []) }
+fn put_fork(cells: &mut Row, flag: u8, word: u32) -> Result<(), NoMemory>
+    ensures { OnOk result (cells_in cells.new ≡ cells_in cells.old ++ fork flag word []) }
 {
     cells.push(Symbol::Own(bgtz(flag, word)))?;
     cells.push(Symbol::Own(bltz(flag, word)))?;
     Ok(())
 }
 
-fn put_jump(cells: &mut Vec<Symbol>, word: u32) -> Result<(), NoMemory>
-    ensures { OnOk result (cells.new.items ≡ cells.old.items ++ Symbol.Own (bra word) ∷ []) }
+fn put_jump(cells: &mut Row, word: u32) -> Result<(), NoMemory>
+    ensures { OnOk result (cells_in cells.new ≡ cells_in cells.old ++ Symbol.Own (bra word) ∷ []) }
 {
     cells.push(Symbol::Own(bra(word)))?;
     Ok(())

@@ -4,4 +4,4 @@ use Rattle.paired_code.proofs.Small.{runs_empty}
 use Rattle.paired_code.proofs.piece.empty.Goals as goal
 
 pub returns-clause-law : goal.returns-clause-law
-returns-clause-law c = subst EmptyLaw (sym c.new.ensures.items) (λ im d m. runs_empty im d m)
+returns-clause-law c = subst EmptyLaw (sym c.new.ensures) (λ im d m. runs_empty im d m)

@@ -1,10 +1,9 @@
-use Rattle.std.proofs.Common.{◌∙◌}
 use Rattle.paired_code.proofs.Fits.{loop_built}
 use Rattle.paired_code.proofs.piece.loop_row.Goals as goal
 
 pub returns : goal.returns
-returns c = loop_built _ _ _ _ _ _ _ _ _ _ _ _ _ _ _ _ _ _ _ (c.len-tail_size.ensures ∙ c.args.tail.ok.0)
-    (c.len-head_size.ensures ∙ c.args.head.ok.0) c.ahead.ensures c.behind.ensures c.ahead-2.ensures c.behind-2.ensures
-    c.behind-3.ensures c.new-cells.ensures.items c.in_ok-put_fork.ensures c.in_ok-put_jump.ensures
-    c.in_ok-append.ensures.items c.in_ok-put_fork-2.ensures c.in_ok-append-2.ensures.items c.in_ok-put_fork-3.ensures
+returns c = loop_built _ _ _ _ _ _ _ _ _ _ _ _ _ _ _ _ _ _ _ c.len-tail_size.ensures.count
+    c.len-head_size.ensures.count c.ahead.ensures c.behind.ensures c.ahead-2.ensures c.behind-2.ensures
+    c.behind-3.ensures c.new-cells.ensures c.in_ok-put_fork.ensures c.in_ok-put_jump.ensures
+    c.in_ok-append.ensures c.in_ok-put_fork-2.ensures c.in_ok-append-2.ensures c.in_ok-put_fork-3.ensures
     c.in_ok-put_jump-2.ensures c.in_ok-put_fork-4.ensures

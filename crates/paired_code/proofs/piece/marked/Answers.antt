@@ -1,4 +1,4 @@
-use Rattle.std.proofs.Common.{arith, rules, sym, subst, ◌≡◌, ◌++◌, ◌∷◌, [], length}
+use Rattle.std.proofs.Common.{rules, sym, subst, ◌≡◌, ◌++◌, ◌∷◌, []}
 use Rattle.paired_code.specs.Code.{Code, parts}
 use Rattle.paired_code.proofs.Marks.{marked_all}
 use Rattle.paired_code.proofs.Fits.{marked_within}
@@ -6,9 +6,7 @@ use Rattle.paired_code.proofs.piece.marked.Goals as goal
 
 pub sealed-requires-clause-within : goal.sealed-requires-clause-within
 sealed-requires-clause-within c =
-    let n : c.len.result ≡ length c.piece.inside.cells.items =
-    omega (arith, c.len.ensures, c.piece.inside.cells.ok.0) in
-    marked_within _ _ _ _ _ _ c.in_ok-push.ensures.items c.cover.ensures n c.requires c.piece.invariant.within
+    marked_within _ _ _ _ _ _ c.in_ok-push.ensures.items c.cover.ensures c.len.ensures.count c.requires c.piece.invariant.within
 
 pub returns-clause-code : goal.returns-clause-code
 returns-clause-code c = search rules

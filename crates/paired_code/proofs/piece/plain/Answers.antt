@@ -11,8 +11,8 @@ use Rattle.paired_code.proofs.piece.plain.Goals as goal
 
 pub sealed-requires-clause-fit : goal.sealed-requires-clause-fit
 sealed-requires-clause-fit c =
-    subst AllFit (sym (c.in_ok-push.ensures.items ∙ ap (λ (z : List Symbol). z ++ Own c.args.cell ∷ [])
-    c.new-cells.ensures.items)) (inner_single c.args.cell c.requires.single c.requires.cell, tt)
+    subst AllFit (sym (c.in_ok-push.ensures ∙ ap (λ (z : List Symbol). z ++ Own c.args.cell ∷ [])
+    c.new-cells.ensures)) (inner_single c.args.cell c.requires.single c.requires.cell, tt)
 
 pub returns-clause-code : goal.returns-clause-code
 returns-clause-code c = search rules

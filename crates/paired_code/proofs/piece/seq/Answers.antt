@@ -1,4 +1,4 @@
-use Rattle.std.proofs.Common.{◌≡◌, ◌++◌, rules, arith, ◌∙◌, sym, subst}
+use Rattle.std.proofs.Common.{◌≡◌, ◌++◌, rules, arith, sym, subst}
 use Rattle.paired_code.specs.Laws.{SeqLaw}
 use Rattle.paired_code.specs.Fit.{AllFit}
 use Rattle.paired_code.specs.Code.{Code, parts}
@@ -8,17 +8,17 @@ use Rattle.paired_code.proofs.Marks.{seq_parts, kept_view}
 use Rattle.paired_code.proofs.piece.seq.Goals as goal
 
 pub put_spans-requires : goal.put_spans-requires
-put_spans-requires c = seq_room _ _ _ _ _ _ _ c.in_ok-append.ensures.items
-    (omega (arith, c.append.new.self.ok.0, c.append.new.self.ok.1, c.append.new.self.small))
-    (c.len-front.ensures ∙ c.first.inside.cells.ok.0) c.deref.ensures.value c.second.invariant.within
+put_spans-requires c = seq_room _ _ _ _ _ _ _ c.in_ok-append.ensures
+    (omega (arith, c.len-size.ensures.few))
+    c.len-front.ensures.count c.deref.ensures.value c.second.invariant.within
 
 pub sealed-requires-clause-fit : goal.sealed-requires-clause-fit
-sealed-requires-clause-fit c = subst AllFit (sym c.in_ok-append.ensures.items)
+sealed-requires-clause-fit c = subst AllFit (sym c.in_ok-append.ensures)
     (fit_append _ _ c.first.invariant.fit c.second.invariant.fit)
 
 pub sealed-requires-clause-within : goal.sealed-requires-clause-within
-sealed-requires-clause-within c = seq_within _ _ _ _ _ _ _ _ c.in_ok-append.ensures.items c.in_ok-put_spans.ensures
-    (c.len-front.ensures ∙ c.first.inside.cells.ok.0) c.deref.ensures.value c.first.invariant.within
+sealed-requires-clause-within c = seq_within _ _ _ _ _ _ _ _ c.in_ok-append.ensures c.in_ok-put_spans.ensures
+    c.len-front.ensures.count c.deref.ensures.value c.first.invariant.within
     c.second.invariant.within
 
 pub returns-clause-code : goal.returns-clause-code
