@@ -1,4 +1,3 @@
 pub use Rattle.rpp_probes.proofs as rpp_probes_laws
-pub mod Paging
 pub mod Legs
 pub mod Watched

@@ -4,10 +4,9 @@
 //! changes it.
 #![tactic(auto)]
 
+mod lazy_cells;
 mod machine;
 mod noting;
-mod page;
-mod pages;
 mod rows;
 mod run;
 mod steps;

@@ -1,5 +1,5 @@
 // Machines.
-ghost use Rattle.std.specs.Prelude.{◌≡◌, IsSome, ◌<◌, ◌≤◌, ◌^◌, ◌+◌, ◌-◌, ◌↔◌, pos, false, All, length, take, Some, slice_get, vec_len, IsTrue, IsFalse, IfOk, if◌then◌else◌};
+ghost use Rattle.std.specs.Prelude.{◌≡◌, IsSome, ◌<◌, ◌≤◌, ◌^◌, ◌+◌, ◌-◌, ◌↔◌, pos, false, All, length, take, replicate, ◌++◌, Some, slice_get, vec_len, IsTrue, IsFalse, IfOk, if◌then◌else◌};
 ghost use Rattle.pisa_isa.specs.rpp_words.Words.{IsWord};
 ghost use Rattle.pisa_isa.specs.Machine.{state_of, word_at, stop, fetch, back, IsCode, IsNext};
 ghost use Rattle.pisa_isa.specs.Image.{IsImage, start_of};
@@ -7,8 +7,8 @@ ghost use Rattle.pisa_isa.specs.Runs.{run, steps as steps_made, counted, counted
 ghost use Rattle.pisa_machine.specs.Position.{Position, IsMachine, first_position, stepped};
 ghost use Rattle.pisa_machine.specs.Told.{step_at, counted_steps, place_of as number_of};
 
+use crate::lazy_cells::LazyCells;
 use crate::noting::note_leg;
-use crate::page::Pages;
 use crate::run::{RunEnd, count_step, run_from, steps_of, stop_at_bound};
 use crate::steps::Steps;
 use pisa_isa::{Cell, Cells, Core, Image, Stop, step, unstep};
@@ -24,20 +24,20 @@ use std::sync::ledger::Ledger;
 pub struct Machine {
     image: Image,
     core: Core,
-    cells: Pages,
+    cells: LazyCells,
     made: u64,
 }
 
 impl Model for Machine {
     ghost use Rattle.pisa_isa.specs.Machine.{state_of};
-    ghost use Rattle.pisa_machine.specs.Paged.{words_of};
+    ghost use Rattle.pisa_machine.specs.Reached.{words_of};
     ghost use Rattle.pisa_machine.specs.Position.{Position, IsMachine};
 
     ghost Value = { Position };
 
     ghost view = { λ m. record {
       image = m.image;
-      state = state_of m.core (words_of m.cells.pages.items m.cells.count);
+      state = state_of m.core (words_of m.cells.words.items m.cells.count);
       made = m.made;
     } };
 
@@ -45,7 +45,7 @@ impl Model for Machine {
         (record {
           image = m.image;
           state = state_of m.core
-              (words_of m.cells.pages.items m.cells.count);
+              (words_of m.cells.words.items m.cells.count);
           made = m.made;
         }) };
 }
@@ -95,11 +95,9 @@ fn place_of(code: &[Cell], pc: i64) -> u32
 }
 
 impl Machine {
-    /// A machine at the start of a run of an image, with these registers and data cells. The cells
-    /// are in pages of 4,096 words. All pages are reserved here, so that no call that runs the
-    /// machine allocates memory.
+    /// A machine at the start of a run of an image, with these registers and data cells.
     pub fn start_with(
-        alloc: Global,
+        _alloc: Global,
         image: Image,
         regs: [u32; 32],
         cells: Vec<u32>,
@@ -107,12 +105,28 @@ impl Machine {
         requires { vec_len cells < 2 ^ 32 }
         ensures { IfOk result (λ machine. machine ≡ first_position image regs cells.items) }
     {
+        Machine::start_with_more(image, regs, cells, 0)
+    }
+
+    /// A machine at the start of a run of an image, with these registers, these data cells, and so
+    /// many of 0 behind them. Room for all of them is reserved here, so that no call that runs the
+    /// machine allocates memory. Those of 0 are written only once the run is near them.
+    pub fn start_with_more(
+        image: Image,
+        regs: [u32; 32],
+        cells: Vec<u32>,
+        more: u32,
+    ) -> Result<Machine, NoMemory>
+        requires { vec_len cells + more < 2 ^ 32 }
+        ensures { IfOk result (λ machine. machine
+            ≡ first_position image regs (cells.items ++ replicate more 0)) }
+    {
         are_registers(&regs);
         are_words(&cells);
         Ok(Machine {
             core: start_core(&image, regs),
             image,
-            cells: Pages::of(alloc, &cells)?,
+            cells: LazyCells::of(cells, more)?,
             made: 0,
         })
     }
