@@ -4,3 +4,4 @@ pub mod StateBytes
 pub mod Inputs
 pub mod InputForm
 pub mod ValidInput
+pub mod Zeros

@@ -42,8 +42,9 @@ pub fn load_more(
         (loaded image.statics limits input.now.words.items ++ replicate more 0)) }
     ensures image { IfOk result (λ machine. IsImage machine.image) }
 {
-    let cells = memory(alloc, image.statics(), limits, &input.words, more)?;
-    Machine::start_with(alloc, image, [0; 32], cells)
+    let zeros = zeros_behind(image.statics().len() as u32, limits, more);
+    let cells = front_cells(alloc, image.statics(), limits, &input.words)?;
+    Machine::start_with_more(image, [0; 32], cells, zeros)
 }
 
 /// The number of cells of a run's memory, for an image with so many static cells.
@@ -56,34 +57,41 @@ pub(crate) fn memory_size(statics: u32, limits: Limits) -> u32
     heap_base(limits.heap, statics) + heap_size(limits.heap) + FRAME_WORDS * limits.deep
 }
 
-/// The memory of a run that begins with these static cells, this input and an empty heap, and so
-/// many cells of 0 after it.
-fn memory(
+/// The cells of 0 behind the static cells: up to the heap, the heap, the stack and so many more.
+fn zeros_behind(statics: u32, limits: Limits, more: u32) -> u32
+    requires limits { IsLimits limits }
+    requires statics { statics ≤ MOST_STATICS }
+    requires room { more ≤ 2 ^ 24 }
+    ensures count { result ≡ base_of limits.heap statics - FIXED_CELLS - statics + 2 ^ limits.heap
+        + FRAME_WORDS * limits.deep + more }
+    ensures high { FIXED_CELLS + statics + result < 2 ^ 32 }
+{
+    let gap = heap_base(limits.heap, statics) - FIXED_CELLS - statics;
+    gap + heap_size(limits.heap) + FRAME_WORDS * limits.deep + more
+}
+
+/// The first cells of a run that begins with these static cells, this input and an empty heap, up
+/// to the last static cell.
+fn front_cells(
     alloc: Global,
     statics: &[u32],
     limits: Limits,
     input: &[FieldWord],
-    more: u32,
 ) -> Result<Vec<u32>, AllocError>
     requires limits { IsLimits limits }
     requires statics { length statics.now ≤ MOST_STATICS }
     requires input { IsInputOf statics.now input.now }
-    requires room { more ≤ 2 ^ 24 }
-    ensures items { IfOk result (λ cells. cells.items ≡ loaded statics.now limits input.now
-        ++ replicate more 0) }
-    ensures len { IfOk result (λ cells. vec_len cells < 2 ^ 32) }
+    ensures items { IfOk result (λ cells. cells.items ≡ fixed_cells limits.heap limits.deep
+        (base_of limits.heap (length statics.now))
+        (empty_heads limits.heap (base_of limits.heap (length statics.now)))
+        ++ with_words input.now statics.now) }
+    ensures len { IfOk result (λ cells. vec_len cells ≡ FIXED_CELLS + length statics.now) }
 {
-    let count = statics.len() as u32;
-    let base = heap_base(limits.heap, count);
+    let base = heap_base(limits.heap, statics.len() as u32);
     let words = with_words(alloc, statics, input)?;
-    let size = memory_size(count, limits) + more;
-    let mut cells = Vec::with_capacity(alloc, size as usize)?;
+    let mut cells = Vec::new(alloc);
     add_fixed(&mut cells, limits, base)?;
     cells.extend_from_slice(&words)?;
-    add_zeros(&mut cells, base - FIXED_CELLS - count)?;
-    add_zeros(&mut cells, heap_size(limits.heap))?;
-    add_zeros(&mut cells, FRAME_WORDS * limits.deep)?;
-    add_zeros(&mut cells, more)?;
     Ok(cells)
 }
 
