@@ -196,7 +196,7 @@ impl Machine {
 
     /// Makes one step, or returns why the machine stops, and counts what counts as a step.
     #[inline(always)]
-    pub(crate) fn make_step<L: Ledger>(&mut self, steps: &mut Steps<L>) -> Option<Stop>
+    pub fn make_step<L: Ledger>(&mut self, steps: &mut Steps<L>) -> Option<Stop>
         requires { self.old.made + 1 < 2 ^ 63 }
         ensures stops { result ≡ stop self.old.image.code self.old.state }
         ensures stepped { self.new ≡ stepped result self.old }

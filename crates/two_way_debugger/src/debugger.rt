@@ -13,7 +13,7 @@ use std::alloc::{AllocError, Global};
 use std::marker::Model;
 use std::sync::ledger::Ledger;
 
-/// A debugger of a machine. It moves the machine only by runs of one step and by steps back.
+/// A debugger of a machine. It moves the machine only by runs, by single steps and by steps back.
 #[derive(Drop)]
 pub struct Debugger {
     machine: Machine,

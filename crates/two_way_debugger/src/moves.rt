@@ -28,15 +28,12 @@ fn step<L: Ledger>(machine: &mut Machine, steps: &mut Steps<L>) -> Option<Ending
     ensures position { machine.new ≡ (if is_some result then machine.old else moved false machine.old) }
     ensures counter { steps.new ≡ steps.old + spent_by result }
 {
-    let made = machine.made();
-    if made >= LAST_POSITION {
+    if machine.made() >= LAST_POSITION {
         return Some(Ending::Last);
     }
-    let end = machine.run(1, steps);
-    if machine.made() == made {
-        Some(Ending::Stopped(end.stop))
-    } else {
-        None
+    match machine.make_step(steps) {
+        Some(stop) => Some(Ending::Stopped(stop)),
+        None => None,
     }
 }
 

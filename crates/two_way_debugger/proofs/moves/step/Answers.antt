@@ -1,27 +1,22 @@
-use Rattle.std.proofs.Common.{◌≡◌, refl, true, arith}
+use Rattle.std.proofs.Common.{◌≡◌, ◌∙◌, ap, refl, ℕ, suc, ◌+◌, true, arith}
 use Rattle.std.specs.Prelude.{nat_lt}
 use Rattle.std.proofs.lemmas.Bool.Decides.{nat_tests}
+use Rattle.pisa_scripts.specs.pisa_isa.Machine.{next}
 use Rattle.two_way_debugger.specs.declared.moves.TheConstants.{LAST_POSITION}
-use Rattle.two_way_debugger.proofs.OneStep.{no_step, same_position}
 use Rattle.two_way_debugger.proofs.moves.step.Goals as goal
 
-pub returns-then-made-clause-ending : goal.returns-then-made-clause-ending
-returns-then-made-clause-ending g c =
-    let old = c.args.machine.now in
-    let new = c.run-end.new.self in
-    let end = c.run-end.result in
-    let same : new.made ≡ old.made = omega arith in
-    let stays = no_step old.image.code old.state new.state end.stop end.spent old.made new.made c.run-end.ensures.runs
-    c.run-end.ensures.made same in
-    let below : nat_lt old.made LAST_POSITION ≡ true = grind (arith, nat_tests) in
-    rw (below, stays.0) refl
+pub returns-in-Some-clause-ending : goal.returns-in-Some-clause-ending
+returns-in-Some-clause-ending g c =
+    let below : nat_lt c.args.machine.now.made LAST_POSITION ≡ true = grind (arith, nat_tests) in
+    rw (below, ← c.in-Some.ensures.stops) refl
 
-pub returns-then-made-clause-position : goal.returns-then-made-clause-position
-returns-then-made-clause-position g c =
-    let old = c.args.machine.now in
-    let new = c.run-end.new.self in
-    let end = c.run-end.result in
-    let same : new.made ≡ old.made = omega arith in
-    let stays = no_step old.image.code old.state new.state end.stop end.spent old.made new.made c.run-end.ensures.runs
-    c.run-end.ensures.made same in
-    same_position new old c.run-end.ensures.image stays.1 same
+pub returns-in-None-clause-ending : goal.returns-in-None-clause-ending
+returns-in-None-clause-ending g c =
+    let below : nat_lt c.args.machine.now.made LAST_POSITION ≡ true = grind (arith, nat_tests) in
+    rw (below, ← c.in-None.ensures.stops) refl
+
+pub returns-in-None-clause-position : goal.returns-in-None-clause-position
+returns-in-None-clause-position g c =
+    let p = c.args.machine.now in
+    let one : p.made + 1 ≡ suc p.made = omega arith in
+    c.in-None.ensures.stepped ∙ ap (λ (n : ℕ). record p { state = next p.image.code p.state; made = n }) one
