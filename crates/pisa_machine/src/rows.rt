@@ -1,6 +1,6 @@
 // The rows of a step on the parts of a core, so that a loop can hold the place and the branch
 // register by themselves.
-ghost use Rattle.std.specs.Prelude.{◌≡◌, ◌<◌, ◌≤◌, ◌^◌, pos, ◌+ℤ◌, ◌≤ℤ◌, IsNone, IsSome, IsTrue, if◌then◌else◌, slice_index, length};
+ghost use Rattle.std.specs.Prelude.{◌≡◌, ◌<◌, ◌≤◌, ◌^◌, pos, ◌+ℤ◌, ◌≤ℤ◌, IsNone, IsSome, IsTrue, if◌then◌else◌, slice_index, slice_set, length};
 ghost use Rattle.pisa_isa.specs.rpp_words.Words.{sum_of};
 ghost use Rattle.pisa_isa.specs.Table.{IsCell};
 ghost use Rattle.pisa_isa.specs.Machine.{below_zero, stride, place_moved, stop_in, effect, moved};
@@ -129,80 +129,194 @@ impl Way {
     }
 }
 
-/// The effect of a row in a direction, if its first two registers hold `x` and `y`, or why the
-/// machine stops there, and then nothing changes.
+/// The word in a cell's first register.
+#[inline(always)]
+fn first(regs: &[u32; 32], cell: &Cell) -> u32
+    requires { IsCell cell.now }
+    ensures { result ≡ slice_index regs.now cell.now.a }
+{
+    regs[cell.a as usize]
+}
+
+/// The word in its second register.
+#[inline(always)]
+fn second(regs: &[u32; 32], cell: &Cell) -> u32
+    requires { IsCell cell.now }
+    ensures { result ≡ slice_index regs.now cell.now.b }
+{
+    regs[cell.b as usize]
+}
+
+/// The word in its third register.
+#[inline(always)]
+fn third(regs: &[u32; 32], cell: &Cell) -> u32
+    requires { IsCell cell.now }
+    ensures { result ≡ slice_index regs.now cell.now.c }
+{
+    regs[cell.c as usize]
+}
+
+/// Puts a word into its first register.
+#[inline(always)]
+fn put(regs: &mut [u32; 32], cell: &Cell, word: u32)
+    requires { IsCell cell.now }
+    ensures { regs.new ≡ slice_set regs.old cell.now.a word }
+{
+    regs[cell.a as usize] = word;
+}
+
+/// The effect of a cell's row in a direction, or why the machine stops there, and then nothing
+/// changes. Each arm reads only the operands that it needs.
 #[inline(always)]
 fn act<C: Cells>(
     regs: &mut [u32; 32],
     way: &mut Way,
-    op: Op,
+    cell: &Cell,
     back: bool,
-    a: usize,
-    x: u32,
-    y: u32,
-    c: usize,
-    i: u32,
     cells: &mut C,
 ) -> Outcome
-    requires a { a < 32 }
-    requires c { c < 32 }
-    requires x { x ≡ slice_index regs.old a }
-    ensures stops { stop_of result ≡ stop_by op back y i
+    requires { IsCell cell.now }
+    ensures stops { stop_of result
+        ≡ stop_by cell.now.op back (slice_index regs.old cell.now.b) cell.now.imm
         (state_at way.old.pc way.old.br back regs.old (C.words cells.old)) }
     ensures stays { IsSome (stop_of result)
         → state_at way.new.pc way.new.br back regs.new (C.words cells.new)
         ≡ state_at way.old.pc way.old.br back regs.old (C.words cells.old) }
-    ensures acts { IsTrue (has_cell_at op y
+    ensures acts { IsTrue (has_cell_at cell.now.op (slice_index regs.old cell.now.b)
         (state_at way.old.pc way.old.br back regs.old (C.words cells.old)))
         → state_at way.new.pc way.new.br (back_behind result back) regs.new (C.words cells.new)
-        ≡ row_by op back a x y c i (state_at way.old.pc way.old.br back regs.old (C.words cells.old)) }
+        ≡ row_by cell.now.op back cell.now.a (slice_index regs.old cell.now.a)
+        (slice_index regs.old cell.now.b) cell.now.c cell.now.imm
+        (state_at way.old.pc way.old.br back regs.old (C.words cells.old)) }
     ensures place { way.new.pc ≡ way.old.pc }
 {
-    let o = offset_by(back, i);
-    match op {
-        Op::Add => regs[a] = sum_by(back, x, y),
-        Op::Sub => regs[a] = sum_by(!back, x, y),
-        Op::Xor => regs[a] = x ^ y,
-        Op::Neg => regs[a] = wrap_sub(0, x),
-        Op::Addi => regs[a] = wrap_add(x, o),
-        Op::Xori => regs[a] = x ^ i,
-        Op::Rl => regs[a] = turn_by(back, x, i),
-        Op::Rr => regs[a] = turn_by(!back, x, i),
-        Op::Rlv => regs[a] = turn_by(back, x, y),
-        Op::Rrv => regs[a] = turn_by(!back, x, y),
-        Op::Andx => regs[a] = x ^ (y & regs[c]),
-        Op::Orx => regs[a] = x ^ (y | regs[c]),
-        Op::Norx => regs[a] = x ^ !(y | regs[c]),
-        Op::Sltx => regs[a] = x ^ u32::from(less(y, regs[c])),
-        Op::Andix => regs[a] = x ^ (y & i),
-        Op::Orix => regs[a] = x ^ (y | i),
-        Op::Sllx => regs[a] = x ^ shift_left(y, i),
-        Op::Srlx => regs[a] = x ^ shift_right(y, i),
-        Op::Srax => regs[a] = x ^ shift_right_signed(y, i),
-        Op::Sllvx => regs[a] = x ^ shift_left(y, regs[c]),
-        Op::Srlvx => regs[a] = x ^ shift_right(y, regs[c]),
-        Op::Sravx => regs[a] = x ^ shift_right_signed(y, regs[c]),
-        Op::Exch if y >= cells.len() => return Outcome::Stops(Stop::BadAddress(y)),
-        Op::Exch => cells.exchange(y, &mut regs[a]),
+    match cell.op {
+        Op::Add => put(
+            regs,
+            cell,
+            sum_by(back, first(regs, cell), second(regs, cell)),
+        ),
+        Op::Sub => put(
+            regs,
+            cell,
+            sum_by(!back, first(regs, cell), second(regs, cell)),
+        ),
+        Op::Xor => put(regs, cell, first(regs, cell) ^ second(regs, cell)),
+        Op::Neg => put(regs, cell, wrap_sub(0, first(regs, cell))),
+        Op::Addi => put(
+            regs,
+            cell,
+            wrap_add(first(regs, cell), offset_by(back, cell.imm)),
+        ),
+        Op::Xori => put(regs, cell, first(regs, cell) ^ cell.imm),
+        Op::Rl => put(regs, cell, turn_by(back, first(regs, cell), cell.imm)),
+        Op::Rr => put(regs, cell, turn_by(!back, first(regs, cell), cell.imm)),
+        Op::Rlv => put(
+            regs,
+            cell,
+            turn_by(back, first(regs, cell), second(regs, cell)),
+        ),
+        Op::Rrv => put(
+            regs,
+            cell,
+            turn_by(!back, first(regs, cell), second(regs, cell)),
+        ),
+        Op::Andx => put(
+            regs,
+            cell,
+            first(regs, cell) ^ (second(regs, cell) & third(regs, cell)),
+        ),
+        Op::Orx => put(
+            regs,
+            cell,
+            first(regs, cell) ^ (second(regs, cell) | third(regs, cell)),
+        ),
+        Op::Norx => put(
+            regs,
+            cell,
+            first(regs, cell) ^ !(second(regs, cell) | third(regs, cell)),
+        ),
+        Op::Sltx => put(
+            regs,
+            cell,
+            first(regs, cell) ^ u32::from(less(second(regs, cell), third(regs, cell))),
+        ),
+        Op::Andix => put(
+            regs,
+            cell,
+            first(regs, cell) ^ (second(regs, cell) & cell.imm),
+        ),
+        Op::Orix => put(
+            regs,
+            cell,
+            first(regs, cell) ^ (second(regs, cell) | cell.imm),
+        ),
+        Op::Sllx => put(
+            regs,
+            cell,
+            first(regs, cell) ^ shift_left(second(regs, cell), cell.imm),
+        ),
+        Op::Srlx => put(
+            regs,
+            cell,
+            first(regs, cell) ^ shift_right(second(regs, cell), cell.imm),
+        ),
+        Op::Srax => put(
+            regs,
+            cell,
+            first(regs, cell) ^ shift_right_signed(second(regs, cell), cell.imm),
+        ),
+        Op::Sllvx => put(
+            regs,
+            cell,
+            first(regs, cell) ^ shift_left(second(regs, cell), third(regs, cell)),
+        ),
+        Op::Srlvx => put(
+            regs,
+            cell,
+            first(regs, cell) ^ shift_right(second(regs, cell), third(regs, cell)),
+        ),
+        Op::Sravx => put(
+            regs,
+            cell,
+            first(regs, cell) ^ shift_right_signed(second(regs, cell), third(regs, cell)),
+        ),
+        Op::Exch if second(regs, cell) >= cells.len() => return Outcome::Stops(Stop::BadAddress(
+            second(regs, cell),
+        )),
+        Op::Exch => cells.exchange(second(regs, cell), &mut regs[cell.a as usize]),
         Op::Swapbr => {
-            regs[a] = way.br;
-            way.set(x);
+            let word = first(regs, cell);
+            put(regs, cell, way.br);
+            way.set(word);
         }
-        Op::Bra => way.branch_if(true, o),
+        Op::Bra => way.branch_if(true, offset_by(back, cell.imm)),
         Op::Rbra => {
-            way.set(wrap_sub(0, wrap_add(way.br, o)));
+            way.set(wrap_sub(0, wrap_add(way.br, offset_by(back, cell.imm))));
             return Outcome::Turns;
         }
-        Op::Beq => way.branch_if(x == y, o),
-        Op::Bne => way.branch_if(x != y, o),
-        Op::Bgez => way.branch_if(!is_below_zero(x), o),
-        Op::Bgtz => way.branch_if(!(is_below_zero(x) || x == 0), o),
-        Op::Blez => way.branch_if(is_below_zero(x) || x == 0, o),
-        Op::Bltz => way.branch_if(is_below_zero(x), o),
+        Op::Beq => way.branch_if(
+            first(regs, cell) == second(regs, cell),
+            offset_by(back, cell.imm),
+        ),
+        Op::Bne => way.branch_if(
+            first(regs, cell) != second(regs, cell),
+            offset_by(back, cell.imm),
+        ),
+        Op::Bgez => way.branch_if(!is_below_zero(first(regs, cell)), offset_by(back, cell.imm)),
+        Op::Bgtz => way.branch_if(
+            !(is_below_zero(first(regs, cell)) || first(regs, cell) == 0),
+            offset_by(back, cell.imm),
+        ),
+        Op::Blez => way.branch_if(
+            is_below_zero(first(regs, cell)) || first(regs, cell) == 0,
+            offset_by(back, cell.imm),
+        ),
+        Op::Bltz => way.branch_if(is_below_zero(first(regs, cell)), offset_by(back, cell.imm)),
         Op::Start if back && way.br == 0 => return Outcome::Stops(Stop::Returned),
         Op::Finish if !back && way.br == 0 => return Outcome::Stops(Stop::Finished),
         Op::Start | Op::Finish => {}
-        Op::DataWord => return Outcome::Stops(Stop::Trap(i)),
+        Op::DataWord => return Outcome::Stops(Stop::Trap(cell.imm)),
     }
     Outcome::Goes
 }
@@ -227,10 +341,7 @@ fn act_by<C: Cells>(
         ≡ effect cell.now (state_at way.old.pc way.old.br back regs.old (C.words cells.old)) }
     ensures place { way.new.pc ≡ way.old.pc }
 {
-    let (a, c) = (cell.a as usize, cell.c as usize);
-    let x = regs[a];
-    let y = regs[cell.b as usize];
-    act(regs, way, cell.op, back, a, x, y, c, cell.imm, cells)
+    act(regs, way, cell, back, cells)
 }
 
 /// One step at a cell in a direction, or why the machine stops, and then nothing changes.
