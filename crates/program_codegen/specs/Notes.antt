@@ -85,14 +85,13 @@ unmarked_from marks cell (suc count) =
     (if is_marked marks cell then 0 else 1) + unmarked_from marks (cell + 1) count
 
 -- one for each statement of the program, over cells that do it, nested as the statements are or
--- else
--- apart, in the order of their places. At most 256 cells a method, and 8192, lie in no mark's
--- range.
+-- else apart, in the order of their places. The cells that lie in no mark's range are 12 around
+-- each method's, and 119: START, FINISH, the 13 of the call of `main`, and the allocator's 104.
 pub record HasMarks (program : Source) (image : Segments) (marks : List Mark) : Type 0 where
   pub rows : MarksDoTheirRows program image marks
   pub nested : AreNested (program_rows program) rows.ranges
   pub ascending : IsNonDecreasingBy (λ k. k.at) marks
-  pub few : unmarked_from marks 0 (length image.code) ≤ 256 * length (entries program) + 8192
+  pub few : unmarked_from marks 0 (length image.code) ≤ 12 * length (entries program) + 119
 
 -- ---- names of fields
 
