@@ -121,12 +121,14 @@ class _FaultSlots(Slots):
         if len(empty) != 1:
             return {}
         name, token = next(iter(empty.items()))
-        return {'place': name if self.moment.value(name) == 'nil' else self.shown(token)}
+        # (an update and a swap have no word of their own, and are their own inverse or run with another sign)
+        undone = self.here.form if self.here.form not in ('update', 'swap') else ''
+        return {'place': name if self.moment.value(name) == 'nil' else self.shown(token), 'undone': undone}
 
     def of_6(self):
         target = self.places()[-1]
         thing = self.thing(target)
-        return {'place': self.shown(target), 'reference': f'#{thing.number}', 'count': str(thing.count)} if thing else {}
+        return {'place': self.shown(target), **({'reference': f'#{thing.number}', 'count': str(thing.count)} if thing else {})}
 
     def of_7(self):
         thing = self.thing(self.places()[-1])
@@ -137,9 +139,9 @@ class _FaultSlots(Slots):
         made, length = self.word_at(self.here.first + 1), self.length_tokens()
         if self.here.form == 'construct' or self.here.form in ('new', 'delete') and not length:
             owner = self.names.classes.get(made)
-            return {'words': str(len(self.names.all_fields(owner)) + 2)} if owner else {}
+            return {'words': f'{len(self.names.all_fields(owner)) + 2:,}'} if owner else {}
         count = self.simple(*length) if length else ''
-        return {'words': str(int(count) + 2) if count.isdigit() else ''}
+        return {'words': f'{int(count) + 2:,}' if count.isdigit() else ''}
 
     def of_9(self):
         elements = [each for each in self.variables(self.here) if self.is_element(each)]

@@ -21,7 +21,7 @@ FORMS: Dict[str, Form] = {
     'if': Form('if a then s else t fi b', "if b then s' else t' fi a", 'runs s where a is true, else t; then b must be true after s and '
                'false after t', (1,), 'a and b are `int`', 'at the end'),
     'from': Form('from a do s loop t until b', "from b do s' loop t' until a", 'runs s, and ends where b is true; else runs t and goes on '
-                 'with s. a must be true at the begin, and false at every later round', (2,), 'a and b are `int`', 'at each test of a'),
+                 'with s. a must be true at the begin, and false at every later iteration', (2,), 'a and b are `int`', 'at each test of a'),
     'local': Form('local T x = a s delocal T x = b', "local T x = b s' delocal T x = a", 'x appears with the value of a, s runs, and x '
                   'must have the value of b before it goes', (3,), 'x has a name that no parameter or local in scope has, and occurs '
                   'neither in a nor in b; these are `int` for an `int`, else both are `nil`', 'at the end'),

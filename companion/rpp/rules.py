@@ -1,9 +1,8 @@
 """What each refusal and fault means: the words of every message of this tool. docs/reference/messages.md says the same with programs.
 
 A rule has one general sentence, sentences with {slots} for the forms in which it is broken, and what to do. The first sentence whose
-slots are all known is shown (slots.py, fault_slots.py); where none is, the general one. One that has advice of its own is a pair with
-it. `back` has the sentences of a body that runs
-backward, as under `uncall`, and `fix_back` what to do then."""
+slots are all known is shown (slots.py, fault_slots.py); if there is none, the general one. A sentence that has advice of its own is
+a pair with it. `back` has the sentences of a body that runs backward, as under `uncall`, and `fix_back` what to do then."""
 from typing import Dict, NamedTuple, Tuple, Union
 
 PAGE = 'reference/messages.md'
@@ -184,7 +183,7 @@ REFUSALS = (
     Rule(33, 'ImageField', 'Each field of an image file must be within its range.', page=FORMATS),
     Rule(34, 'ImageTrailing', 'Nothing must follow the image in its file.', page=FORMATS),
     Rule(35, 'HeapOrder', 'H must be from 1 to 20: the heap has 2^H words.', page=FORMATS),
-    Rule(36, 'DeepRange', 'D must be from 1 to 8192: the most calls that are open at once.', page=FORMATS),
+    Rule(36, 'DeepRange', 'D must be from 1 to 8192: the most calls that may be active.', page=FORMATS),
     Rule(37, 'UnknownField', 'A line of the input must name an `int` field of the main class, each one once.', page=FORMATS),
     Rule(38, 'BadState', 'A state file must be one of this image with these H and D.', page=FORMATS),
     Rule(39, 'BadCommand', 'A line of a script must be empty or a command.', page=FORMATS),
@@ -205,10 +204,10 @@ _FAULTS = (
         'run. If they do not change what `if` tests, repeat that condition.', (
         'On this way back, the condition `{condition}` must be true after the `then` block was undone, and false after the `else` block '
         'was.',), BEGIN_AS_IT_ENDED),
-    Rule(2, 'Loop', 'The assertion after `from` must be true when the loop begins, and false at every later round.', (
-        'The assertion `{assertion}` must be true when the loop begins, and false at every later round.',),
-        'The way back stops at it: write one that holds only before the first round, such as a counter that has its first value.', (
-        'On this way back, the condition `{condition}` must be true when the loop begins, and false at every later round.',),
+    Rule(2, 'Loop', 'The assertion after `from` must be true when the loop begins, and false at every later iteration.', (
+        'The assertion `{assertion}` must be true when the loop begins, and false at every later iteration.',),
+        'The way back stops at it: write one that holds only before the first iteration, such as a counter that has its first value.', (
+        'On this way back, the condition `{condition}` must be true when the loop begins, and false at every later iteration.',),
         BEGIN_AS_IT_ENDED),
     Rule(3, 'Delocal', 'A local must have its final value at `delocal`.', (
         '`{name}` must be equal to `{value}` at its `delocal`, and it is {given}.',
@@ -221,17 +220,21 @@ _FAULTS = (
         '`{place}` must be nil before `{form}`, and it holds {reference}.',
         '`{place}` must be nil before `{form}`.'),
         'Move the old reference away by `<=>`, or end it by `delete` or `uncopy`. A `new` in a loop needs a local that is nil again at '
-        'the end of each round.', (
+        'the end of each iteration.', (
         '`{place}` must be nil before this `{form}` is undone, and it holds {reference}.',
         '`{place}` must be nil before this `{form}` is undone.'), BEGIN_AS_IT_ENDED),
     Rule(5, 'Nil', 'A receiver, an indexed array, what `delete` names and the first place of `copy` and `uncopy` must not be nil.', (
         '`{place}` must not be nil here.',),
-        'Make the object first, or test `a != nil`. While a call is open, its receiver and its arguments read as nil or 0.'),
-    Rule(6, 'Count', 'An object must have one reference only to be deleted.', (
-        '`{place}` must have the only reference to {reference}, which has {count}.',),
-        'End the other references first, each by the `uncopy` that matches its `copy`; `objects` of `rpp debug` shows them. An open '
+        'Make the object first, or test `a != nil`. While a call is active, its receiver and its arguments read as nil or 0.', (
+        '`{place}` must not be nil before this `{undone}` is undone.',
+        '`{place}` must not be nil on this way back.'), BEGIN_AS_IT_ENDED),
+    Rule(6, 'Count', 'An object must have only one reference when it is deleted.', (
+        '`{place}` must have the only reference to {reference}, which has {count}.',
+        '`{place}` must have the only reference to its object.'),
+        'End the other references first, each by the `uncopy` that matches its `copy`; `objects` of `rpp debug` shows them. An active '
         'call on the object counts as one.', (
-        '`{place}` must have the only reference to {reference} before this `{form}` is undone, and it has {count}.',)),
+        '`{place}` must have the only reference to {reference} before this `{form}` is undone, and it has {count}.',
+        '`{place}` must have the only reference to its object before this `{form}` is undone.')),
     Rule(7, 'NotEmpty', 'The fields or elements of an object must all be 0 or nil when it is deleted.', (
         '`{field}` of {reference} must be 0 or nil when it is deleted, and it is {value}.',),
         'Swap the values out into variables, or `uncall` the method that filled them.', (
@@ -248,27 +251,29 @@ _FAULTS = (
         '`{first}` and `{second}` must have one reference, and they have {first_reference} and {second_reference}.',),
         'Name the place that was copied from. A reference that was moved in by `<=>` is moved out by `<=>`.', (
         '`{first}` and `{second}` must have one reference before this `copy` is undone, and they have {first_reference} and '
-        '{second_reference}.',)),
+        '{second_reference}.',), BEGIN_AS_IT_ENDED),
     Rule(11, 'ClassDiffers', '`delete` must name exactly the class with which the object was made.', (
         'The class of this `{form}` must be `{wanted}`, with which {reference} was made, not `{given}`.',),
         'Write that class, even where the variable has the type of an ancestor. If there are several, let an overridden method delete.', (
-        'The class of this `{form}`, which is undone here, must be `{wanted}`, with which {reference} was made, not `{given}`.',)),
+        'The class of this `{form}`, which is undone here, must be `{wanted}`, with which {reference} was made, not `{given}`.',),
+        BEGIN_AS_IT_ENDED),
     Rule(12, 'LengthDiffers', '`delete` must give the length with which the array was made.', (
         'The length of this `{form}` must be {length}, with which {reference} was made.',),
         'Keep the length in a variable that does not change while the array exists.', (
-        'The length of this `{form}`, which is undone here, must be {length}, with which {reference} was made.',)),
+        'The length of this `{form}`, which is undone here, must be {length}, with which {reference} was made.',),
+        BEGIN_AS_IT_ENDED),
     Rule(13, 'Length', 'The length of a new array must be at least 1.', (
         'The length `{expression}` must be at least 1, and it is {value}.',
         'The length `{expression}` must be at least 1.'),
         'Test the length first, and make no array where there is nothing to keep.'),
-    Rule(14, 'TooDeep', 'A run must not have more than D calls open at once, `main` included.', (
-        'This call must not be made: {depth} calls are open, `main` included, and D allows no more.',),
+    Rule(14, 'TooDeep', 'A run must not have more than D active calls, `main` included.', (
+        'This call must not be made: {depth} calls are active, `main` included, and D allows no more.',),
         'Run with a larger D, up to 8192. If the recursion has no end, find the condition that should have ended it.'),
     Rule(15, 'Touched', 'A variable that is an argument or the receiver of a call must still be 0 or nil when the call ends.', (
         '`{name}` must still be {empty} when the call ends, and it was changed during the call.',
         '{names} must still be 0 or nil when the call ends, and one of them was changed during the call.'),
         'Its value moves into the call and back, which would overwrite the change. Reach the variable by no other reference while the '
-        'call is open: let the method use its parameter.', (
+        'call is active: let the method use its parameter.', (
         '`{name}` must still be {empty} when this call is undone, and it was changed during the call.',
         '{names} must still be 0 or nil when this call is undone, and one of them was changed during the call.')),
     Rule(16, 'SharedArray', 'A statement must not change an element of an array and read another one of it by another name.', (

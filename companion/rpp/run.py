@@ -5,7 +5,7 @@ import sys
 from typing import List, NamedTuple, Optional
 
 from .explain import of_fault
-from .fault_slots import Where
+from .fault_slots import Where, fault_slots
 from .faults import FaultPlaces, find_fault
 from .messages import Told, read_answer, refusal
 from .names import input_fields
@@ -87,7 +87,7 @@ def call(program: Program, wanted: Wanted, bound: int) -> Told:
 
 
 def said(program: Program, wanted: Wanted, told: Told) -> List[str]:
-    """The lines that tell the answer."""
+    """The lines that report the answer."""
     if told.kind == 'done':
         return folded(told.output.rstrip('\n').split('\n'))
     if told.kind == 'refused' and told.status == 3:
@@ -129,13 +129,14 @@ def field_lines(wanted: Wanted) -> List[str]:
 
 
 def faulted(program: Program, wanted: Wanted, told: Told) -> List[str]:
-    """What is said of a fault: where it came, what is wrong, what stood there, and a larger bound where that may help."""
+    """What is said of a fault: where it came, what is wrong, what was there, and a larger bound if that may help."""
     text = Text.read(wanted.source)
     found = find_fault(program, wanted, text)
     lines = place_lines(wanted, text, told, found)
-    message = of_fault(told.number, where_of(wanted, text, found))
+    where = where_of(wanted, text, found)
+    message = of_fault(told.number, where)
     lines += message_lines(message) if message.rule else ['No rule of the language has this number: the image is no compiled program.']
-    lines += larger_bound(wanted, told)
+    lines += larger_bound(wanted, told, where)
     lines += state_lines(wanted, text, found)
     steps = told.number_behind('steps')
     if steps is not None:
@@ -153,15 +154,18 @@ def place_lines(wanted: Wanted, text: Text, told: Told, found: FaultPlaces) -> L
     title = fault_title(told)
     if found.statement is not None:
         return pointed_lines(shown(wanted.source), text, found.statement, title)
-    return [f'{shown(wanted.source)}: {title}', 'Neither `trace` nor `run` tells at which statement.'] + wrapped(found.why)
+    return [f'{shown(wanted.source)}: {title}', 'Neither `trace` nor `run` reports at which statement.'] + wrapped(found.why)
 
 
-def larger_bound(wanted: Wanted, told: Told) -> List[str]:
+def larger_bound(wanted: Wanted, told: Told, where: Optional[Where]) -> List[str]:
     """The option that gives more space, if the fault is that there was none."""
     if told.name == 'HeapFull':
+        needed = order_of_block(where)
+        if needed > MOST_HEAP:
+            return [f'No heap is large enough: the largest, --heap {MOST_HEAP}, has {1 << MOST_HEAP:,} words.']
         if wanted.heap >= MOST_HEAP:
             return [f'The run had the largest heap, --heap {MOST_HEAP}.']
-        return [f'The run had --heap {wanted.heap}; a larger one is --heap {min(MOST_HEAP, wanted.heap + 4)}.']
+        return [f'The run had --heap {wanted.heap}; a larger one is --heap {min(MOST_HEAP, max(needed, wanted.heap + 4))}.']
     if told.name == 'TooDeep':
         if wanted.depth >= MOST_DEPTH:
             return [f'The run had the most calls, --depth {MOST_DEPTH}.']
@@ -169,9 +173,15 @@ def larger_bound(wanted: Wanted, told: Told) -> List[str]:
     return []
 
 
+def order_of_block(where: Optional[Where]) -> int:
+    """The order of the block that the heap did not have; 0 if it is not known."""
+    words = fault_slots(where, 8).get('words', '') if where else ''
+    return (int(words.replace(',', '')) - 1).bit_length() if words else 0
+
+
 def state_lines(wanted: Wanted, text: Text, found: FaultPlaces) -> List[str]:
     """The test that failed with the variables at that moment; or the last statement that began, with the variables before it; and
-    the open calls."""
+    the active calls."""
     if found.test is not None:
         lines = test_lines(shown(wanted.source), text, found.test)
         return lines + caller_lines(wanted, text, found.frames[1:])
@@ -184,7 +194,7 @@ def state_lines(wanted: Wanted, text: Text, found: FaultPlaces) -> List[str]:
 
 
 def caller_lines(wanted: Wanted, text: Text, frames: List[Frame]) -> List[str]:
-    """The calls around, a line each; equal ones behind each other are counted."""
+    """The calls around, a line each; equal ones in a row are counted."""
     file = title(wanted.source)
     told = [f'called in {frame.method} at {text.spelled(file, frame.place)}' for frame in frames]
     lines = []

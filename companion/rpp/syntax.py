@@ -1,5 +1,6 @@
-"""What can be said of a text that leaves the grammar, or that has a byte with which no token begins: a sentence for each of the usual
-mistakes, what to write in its place, and, where that is a text, the edits that write it.
+"""What is wrong with a text that leaves the grammar, or that has a byte with which no token begins.
+
+There is a sentence for each of the usual mistakes, what to write instead, and, if that is a text, the edits that write it.
 
     hint = syntax_hint(text, at)        # where the grammar is left: Hint, with what was expected there
     hint = byte_hint(text, at)          # of the byte at which no token begins, or None"""
@@ -675,9 +676,10 @@ BYTES = {
     '!': Hint('There is no `!`: write the opposite comparison, as `x = 0` for `!x`, and `!=` without a space.'),
     "'": Hint('There are no characters: a character is its number, 104 for `h`.'),
     '"': Hint('There are no strings: keep the numbers of the characters in an `int[]`.', 'Nothing is printed; a comment begins with `//`.'),
-    ':': Hint('There is no single `:`: a call on an object is `x::m(..)`, and a variable is changed by `+=`.'),
+    ':': Hint('There is no single `:`: a call on an object is `x::m(..)`, and a variable is changed by `+=`.',
+              'Blocks are marked by `then`, `else`, `do`, `loop`, and locals are declared as `local int x = 0`.'),
     '#': Hint('A comment must begin with `//`.', '', (), 'Write `//`'),
-    '~': Hint('There is no `~`: `0 - x - 1` turns all bits.'),
+    '~': Hint('There is no `~`: `0 - x - 1` inverts all bits.'),
     '@': Hint('There is no `@`.', 'Leave it out.'),
     '?': Hint('There is no `?`: write an `if`.'),
     '$': Hint('There is no `$`: a variable is its name.', 'Leave it out.'),

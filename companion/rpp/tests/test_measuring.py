@@ -29,8 +29,8 @@ class MeasuringTest(Case):
         return json.loads(done.stdout)['rows']
 
     def test_cost_and_statements(self):
-        # local 1 + 1 + 1, from 1, its first round 3 + 1 + 3; and each further round 2 + 2 + 3 + 1 + 3
-        # the statements are local, from, skip, and 3 in each further round
+        # local 1 + 1 + 1, from 1, its first iteration 3 + 1 + 3; and each further iteration 2 + 2 + 3 + 1 + 3
+        # the statements are local, from, skip, and 3 in each further iteration
         for row in self.rows(TOTAL, 'n=0..4', '--results', 'sum'):
             n = row['n']
             self.assertEqual((row['cost'], row['statements'], row['end']), (11 + 11 * n, 3 + 3 * n, 'done'))

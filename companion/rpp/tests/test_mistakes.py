@@ -136,7 +136,7 @@ class Pages(Case):
 
 
 class Directions(Case):
-    """A fault in a body that runs backward is told in the words of that direction."""
+    """A fault in a body that runs backward is explained in the words of that direction."""
 
     def test_each(self):
         for text, said in {
@@ -146,6 +146,12 @@ class Directions(Case):
                     '`i` must be equal to its initial value `0` at its `local`',
                 'class P C c method main() new C c uncall f() method f() delete C c class C int x':
                     '`c` must be nil before this `delete` is undone, and it holds #2',
+                'class P C c method main() uncall f() method f() new C c class C int x':
+                    '`c` must not be nil before this `new` is undone.',
+                'class P int[] a method main() uncall f() method f() a[0] += 1':
+                    '`a` must not be nil on this way back.',
+                'class P C c method main() new C c call c::set() uncall f() method f() new C c class C int x method set() x += 3':
+                    '`x` of #2 must be 0 or nil before this `new` is undone, and it is 3.',
                 'class P int x method main() x += 5 uncall f() method f() from x = 0 do x += 1 loop skip until x = 2':
                     'On this way back, the condition `x = 2` must be true'}.items():
             done = self.rpp('run', self.write('text.rpp', text + '\n'))

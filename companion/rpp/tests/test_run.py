@@ -41,7 +41,7 @@ class Runs(Case):
 
     @staticmethod
     def report(printed):
-        """The report alone, without the steps or the cost behind it, each array of ints in a line."""
+        """Only the report, without the steps or the cost after it, each array of ints in a line."""
         lines = re.match(r'(?:.*\n)*?live \d+\n', printed)[0]
         fold = lambda found: f'{found[1]}: {" ".join(re.findall("= (.*)", found[2]))}\n'
         return re.sub(r'^(#\d+ int\[.*)\n((?:  \[.*\n)+)', fold, lines, flags=re.M)
@@ -77,10 +77,14 @@ class Runs(Case):
         self.assertIn('it had not ended after 1,000 steps', done.stdout)
         self.assertIn('--steps 10000', done.stdout)
 
-    def test_want_of_room_names_more(self):
+    def test_a_full_heap_or_too_many_calls_names_more(self):
         done = self.rpp('run', LIST, '--heap', '1')
         self.assertEqual(done.returncode, 5)
         self.assertIn('The run had --heap 1; a larger one is --heap 5.', done.stdout)
+        for length, said in {100000: 'The run had --heap 12; a larger one is --heap 17.', 1048574: 'a larger one is --heap 20.',
+                             1048575: 'No heap is large enough: the largest, --heap 20, has 1,048,576 words.'}.items():
+            source = self.write('large.rpp', f'class P int[] a method main() new int[{length}] a')
+            self.assertIn(said, self.rpp('run', source).stdout)
         source = self.write('bad.rpp', FAULTS[-1][0])
         self.assertIn('The run had --depth 64; more is --depth 1024.', self.rpp('run', source).stdout)
         self.assertIn('The run had the most calls, --depth 8192.', self.rpp('run', source, '--depth', '8192').stdout)
