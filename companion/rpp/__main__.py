@@ -1,7 +1,7 @@
 """The command `rpp`: finds the module of the first word, and hands it the others.
 
 A command is a line of COMMANDS. Its module has a function `main(words) -> status` and is loaded when the command is called;
-a function `parser()` beside it tells completion and `rpp help` the words.
+a function `parser()` next to it gives completion and `rpp help` the words.
 """
 import importlib
 import os
@@ -27,13 +27,13 @@ COMMANDS = {
     'fmt': Command('fmt', 'lay sources out in place'),
     'debug': Command('debug', 'go both ways along a run, by a prompt or a script'),
     'film': Command('film', 'one page that shows a run both ways'),
-    'side': Command('side', 'a source beside its inverse'),
+    'side': Command('side', 'a source next to its inverse'),
     'inverse': Command('inverse', 'the program that undoes a source'),
     'list': Command('listing', 'the cells of the compiled program, with the statement of each'),
     'heap': Command('heap', 'the memory of a run as a picture'),
     'picture': Command('picture', 'the store at a position, as a figure for a paper'),
     'state': Command('state', 'a start state with an input, for `rooplpp run`'),
-    'test': Command('testing', 'judge programs by what their comments expect, or an exercise expects'),
+    'test': Command('testing', 'check programs by what their comments expect, or an exercise expects'),
     'stat': Command('measuring', 'what runs take over a range of inputs, as a table or a plot'),
     'kernel': Command('kernel', 'ROOPL++ in Jupyter notebooks'),
     'lsp': Command('lsp', 'the language server, over standard input'),
@@ -53,7 +53,7 @@ def usage() -> str:
         '',
         'usage: rpp COMMAND WORDS ..',
         '', *rows, '',
-        '`rpp help COMMAND` tells its words, `rpp help 16` what refusal or fault 16 is, and `rpp help if` what a statement does.',
+        '`rpp help COMMAND` lists its options, `rpp help 16` explains refusal or fault 16, and `rpp help if` a statement.',
         f'Every command takes `{COLOUR} WHEN`: {", ".join(WHEN)}. A source that is named - is standard input.', ''])
 
 
@@ -102,7 +102,7 @@ def run_command(words: List[str]) -> int:
         print(text if text.startswith('rpp:') else f'rpp: {text}', file=sys.stderr)
         return 126 if isinstance(wrong, NoProgram) else WRONG_WORDS
     except BrokenPipeError:
-        # Who reads the output has enough of it: as a filter does, end without a word.
+        # The reader of the output has enough of it: as a filter does, end without a word.
         os.dup2(os.open(os.devnull, os.O_WRONLY), sys.stdout.fileno())
         return 141
     except OSError as wrong:

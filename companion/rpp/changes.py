@@ -16,7 +16,7 @@ PART = re.compile(rf'\.({NAME})|(\[\d+\])')
 
 
 def value_of(moment: Moment, path: str) -> Optional[str]:
-    """The value of NAME, #K, and of fields and elements behind them: `list.head.data`, `#4.next`, `row[2]`."""
+    """The value of NAME, #K, and of fields and elements reached from them: `list.head.data`, `#4.next`, `row[2]`."""
     found = PATH.match(path.replace(' ', ''))
     if not found:
         return None
@@ -33,8 +33,8 @@ def thing_of(moment: Moment, value: Optional[str]) -> Optional[Thing]:
 
 
 def changes(before: Moment, after: Moment, number: Optional[int] = None) -> List[str]:
-    """What differs, a line each: variables where the same body stands, and objects. The fields of the present object, where
-    its number is given, are told once, as variables."""
+    """What differs, a line each: variables if both are in the same body, and objects. The fields of the current object, if
+    its number is given, are listed once, as variables."""
     same_body = before.point.depth == after.point.depth and before.point.depth is not None
     lines = changed_variables(before, after) if same_body else []
     told = number if same_body else None

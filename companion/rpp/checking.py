@@ -7,7 +7,7 @@ from .messages import page_path, read_answer, refusal
 from .program import Killed, NoProgram, OutOfTime, Program
 from .rules import PAGE
 
-# (a text at every limit is judged in a tenth of this)
+# (a text at every limit is checked in a tenth of this)
 SECONDS = 20.0
 
 

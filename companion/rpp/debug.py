@@ -57,7 +57,7 @@ class SourcePrompt(Prompt):
         self.moved(self.session.previous)
 
     def do_finish(self, _arg: str) -> None:
-        """finish: on until the present call has ended."""
+        """finish: on until the current call has ended."""
         self.moved(self.session.finish)
 
     def do_leave_back(self, _arg: str) -> None:
@@ -75,7 +75,7 @@ class SourcePrompt(Prompt):
         self.moved(lambda: self.session.go(wanted))
 
     def do_break(self, arg: str) -> None:
-        """break [LINE]: stop at this line, or at the next one with a statement; without LINE, the breakpoints that stand."""
+        """break [LINE]: stop at this line, or at the next one with a statement; without LINE, lists the breakpoints."""
         if not arg:
             stand = [f'breakpoint {each.number} at line {each.line}' for each in self.session.breakpoints]
             self.say(stand or ['there are no breakpoints'])
@@ -119,11 +119,11 @@ class SourcePrompt(Prompt):
         self.say(show.object_lines(self.session.moment))
 
     def do_where(self, _arg: str) -> None:
-        """where: the open calls, the innermost first."""
+        """where: the active calls, the innermost first."""
         self.say(show.stack_lines(self.session))
 
     def do_list(self, arg: str) -> None:
-        """list [LINE]: the source around this line, or around where the session stands."""
+        """list [LINE]: the source around this line, or around the current statement."""
         point = self.session.point
         here = self.session.outline.line_of(point.place) if not point.at_end else self.session.run.text.line_count
         self.say(show.listing_lines(self.session, number_of(arg, here)))

@@ -1,6 +1,6 @@
 """A debug adapter: an editor steps through a run of the program, forward and backward.
 
-Where the run stands and what is there is what the program said. Nothing can be changed: a run is what its text and its
+Where the run is and what is there is what the program printed. Nothing can be changed: a run is what its text and its
 input make it."""
 import os
 import sys
@@ -32,7 +32,7 @@ CAPABILITIES = {
     'supportsRestartRequest': True,
     'supportsTerminateRequest': True,
 }
-# What an editor is told of a stop: the protocol's reason, and the text that is shown beside it.
+# What an editor gets for a stop: the protocol's reason, and the text that is shown next to it.
 REASONS = {
     'step': ('step', ''),
     'break': ('breakpoint', ''),
@@ -188,7 +188,7 @@ class Adapter:
     # ---- moves
 
     def heed(self, _: str):
-        """Ends a long search where a pause is wanted."""
+        """Ends a long search if a pause is asked for."""
         if self.is_pausing:
             raise Interrupted()
 
@@ -201,7 +201,7 @@ class Adapter:
         self.is_pausing = False
 
     def move(self, action: Callable[[], Stop]):
-        """Moves in a thread of its own, so that `pause` is heard, and tells where the run stands then."""
+        """Moves in a thread of its own, so that `pause` is heard, and reports where the run is then."""
         if self.mover is not None:
             self.mover.join()
         self.is_moving, self.is_pausing = True, False
@@ -241,7 +241,7 @@ class Adapter:
         self.event('stopped', **body)
 
     def standing(self) -> Session:
-        """The session, which has to stand."""
+        """The session, which must have stopped."""
         if self.session is None:
             raise Declined('no run was begun')
         if self.is_moving:
@@ -315,7 +315,7 @@ class Adapter:
         return {'breakpoints': [{'verified': True} for _ in self.watched]}
 
     def place_of(self, wanted) -> Optional[int]:
-        """The place of a breakpoint: of the first statement that begins on the line, behind the column, or later."""
+        """The place of a breakpoint: of the first statement that begins on the line, after the column, or later."""
         begin = self.counting.offset(self.session.run.text, wanted['line'], wanted.get('column'))
         return statement_on(self.statements, begin) if begin is not None else None
 
@@ -338,13 +338,13 @@ class Adapter:
     def set_exception_breakpoints(self, _):
         return {'breakpoints': []}
 
-    # ---- what stands there
+    # ---- what is there
 
     def threads(self, _):
         return {'threads': [{'id': THREAD, 'name': 'the run'}]}
 
     def stage(self) -> Scene:
-        """What can be shown here; made when it is first asked for behind a move."""
+        """What can be shown here; made when it is first asked for after a move."""
         session = self.standing()
         if self.scene is None:
             self.scene = Scene(session, self.statements, self.counting)

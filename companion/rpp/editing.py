@@ -1,4 +1,4 @@
-"""What an editor asks about a text, in bytes: what stands at a place, what can stand there, its outline, its folds."""
+"""What an editor asks about a text, in bytes: what is at a place, what can be written there, its outline, its folds."""
 from typing import Dict, Iterator, List, NamedTuple, Optional, Tuple
 
 from .forms import FORMS, SNIPPETS, Form, form_of
@@ -11,7 +11,7 @@ INVERSE_SIGNS = {'+=': '-=', '-=': '+='}
 
 
 class Item(NamedTuple):
-    """A completion: its label, its kind, what is shown behind it, and the text that is put in, where it is another."""
+    """A completion: its label, its kind, what is shown after it, and the text that is put in, if that is another."""
 
     label: str
     kind: str
@@ -51,7 +51,7 @@ class Analysis:
         return self.names.class_at(self.source.tokens[declaration.name_at].at)
 
     def remark(self, declaration: Declaration) -> str:
-        """The comment that the author put above a class or method, or behind a variable."""
+        """The comment that the author put above a class or method, or after a variable."""
         begin = self.source.tokens[declaration.name_at].at
         if isinstance(declaration, Variable):
             return self._remark_behind(begin)
@@ -72,7 +72,7 @@ class Analysis:
     def words_of(self, comment: Token) -> str:
         return self.source.text[comment.at + 2 : comment.end].decode('utf-8', 'replace').strip()
 
-    # ---- what stands at a place
+    # ---- what is at a place
 
     def statement_of(self, at: int) -> Optional[Statement]:
         """The statement one of whose own words is this token."""
@@ -116,7 +116,7 @@ class Analysis:
         return [each for each in made if each.name]
 
     def end_of(self, method: Method) -> int:
-        """The byte behind the last token of a method."""
+        """The byte after the last token of a method."""
         return self.source.tokens[method.last].end
 
     def folds(self) -> Iterator[Tuple[str, int, int]]:
@@ -145,10 +145,10 @@ class Analysis:
                 yield 'comment', run[0].at, each.at
 
     def is_alone(self, comment: Token) -> bool:
-        """Whether a comment stands on a line of its own."""
+        """Whether a comment is on a line of its own."""
         return not self.source.text[self.source.text.rfind(b'\n', 0, comment.at) + 1 : comment.at].strip()
 
-    # ---- what can stand at a place
+    # ---- what can be written at a place
 
     def completions(self, at: int) -> List[Item]:
         if any(each.at < at <= each.end for each in self.source.comments):
@@ -219,7 +219,7 @@ class Analysis:
         return self.names.classes.get(variable.base)
 
     def _closing(self, at: int, written: str = '') -> List[Item]:
-        """The word that the innermost open construct at this byte lacks; without the word that is already written."""
+        """The word that is missing from the innermost open construct at this byte, without the word that is already written."""
         inner = self.innermost(at)
         if inner is None:
             return []
@@ -244,7 +244,7 @@ class Analysis:
         return found
 
     def _reach(self, each: Statement) -> int:
-        """Up to where an unfinished statement can go on: the token behind it."""
+        """Up to where an unfinished statement can go on: the token after it."""
         tokens = self.source.tokens
         return tokens[each.last + 1].at if each.last + 1 < len(tokens) else len(self.source.text)
 
@@ -283,7 +283,7 @@ def is_type_word(word: str) -> bool:
 
 
 def in_head(words: List[str]) -> bool:
-    """Whether the last of these words stands between the parentheses of a method's head."""
+    """Whether the last of these words is between the parentheses of a method's head."""
     for number in range(len(words) - 1, 1, -1):
         if words[number] == '(':
             return words[number - 2] == 'method'

@@ -1,5 +1,5 @@
-"""Where the run of a source stopped with a fault: the statement in whose code the machine stopped, as `run` tells it (`from
-A`), and the last statement that began, as `trace` tells it. They differ if a test at the end of a statement fails."""
+"""Where the run of a source stopped with a fault: the statement in whose code the machine stopped, as `run` prints it (`from
+A`), and the last statement that began, as `trace` prints it. They differ if a test at the end of a statement fails."""
 from typing import List, NamedTuple, Optional, Tuple
 
 from .failing import FailedTest, failed_test
@@ -82,7 +82,7 @@ def why_not(reason: str) -> str:
 
 
 def machine_place(program: Program, source: str, bounds: Tuple[int, int], steps: int, inputs: Optional[str]) -> Optional[int]:
-    """The place that `run` tells of the compiled program, begun with the same input."""
+    """The place that `run` prints for the compiled program, begun with the same input."""
     with program.folder() as folder:
         image, start = folder.name('image'), '-'
         if read_answer(program.call('compile', source, image)).kind != 'done':

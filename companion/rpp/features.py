@@ -1,4 +1,4 @@
-"""What an editor shows of a text beside its names: colours of names, the parameters of a call, lenses, and the declarations of a
+"""What an editor shows of a text besides its names: colours of names, the parameters of a call, lenses, and the declarations of a
 folder. All in bytes and tokens; the language server says it in the words of its protocol."""
 import os
 from typing import Dict, Iterator, List, NamedTuple, Optional, Tuple

@@ -16,14 +16,14 @@ MOST_POINTS = 2000
 CHUNK = 500
 FILES = ['film.css', 'film.js']
 WORDS = ('The arrow keys left and right go one statement, with shift over calls; home and end, the slider and the picture of '
-         'the open calls above it go anywhere. A statement that is being undone has another colour.')
+         'the active calls above it go anywhere. A statement that is being undone has another colour.')
 SCRIPT = '''const film = RooplFilm.show(document.querySelector('main'), {data},
   {{keys: document, start: Number(location.hash.slice(1)), onmove: index => history.replaceState(null, '', '#' + index)}});
 '''
 
 
 class Directions:
-    """Tells, point by point, whether the body in which a statement stands runs backward: it does where an odd number of
+    """Says, point by point, whether the body of a statement runs backward: it does if an odd number of
     the calls open round it are written `uncall`."""
 
     def __init__(self, outline: Outline):
@@ -42,7 +42,7 @@ class Directions:
 
 
 class Film:
-    """The data of film.js: each object that stands at several positions is written once."""
+    """The data of film.js: each object that occurs at several positions is written once."""
 
     def __init__(self, text: Text):
         self.directions = Directions(Outline(text, []))
@@ -51,7 +51,7 @@ class Film:
         self.positions: List[Dict[str, Any]] = []
 
     def add(self, moment: Moment) -> None:
-        """Adds the position behind the last one."""
+        """Adds the position after the last one."""
         point = moment.point
         position = {'place': point.place, 'depth': point.depth or 0,
                     'uncalled': self.directions.uncalled(point.place, point.depth),
@@ -61,7 +61,7 @@ class Film:
         self.positions.append(position)
 
     def number(self, thing: Thing) -> int:
-        """The index of an object as it stands now."""
+        """The index of an object as it is now."""
         if thing not in self.numbers:
             self.numbers[thing] = len(self.objects)
             self.objects.append({'name': f'#{thing.number}', 'head': thing.head, 'count': thing.count, 'cells': thing.cells})
@@ -103,7 +103,7 @@ def film_data(run: SourceRun, most: int) -> Tuple[Dict[str, Any], str]:
     moments, lacking = moments_of(run, most)
     for moment in moments:
         film.add(moment)
-    # (a fault is told where a move beyond was tried)
+    # (a fault is reported where a move beyond was tried)
     if moments and run.last and run.last.fault and run.last.position == moments[-1].point.position:
         film.positions[-1]['note'] = fault_note(run.last.fault)
     return {'source': as_text(run.text.content), 'name': title(run.source),

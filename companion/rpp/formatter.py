@@ -1,7 +1,7 @@
 """Lays out a source text: the tokens and comments stay, indentation, spaces and blank lines are set.
 
-The author's line breaks between statements are kept. A statement that stands on one line stays on one line; the words
-of one that does not begin lines of their own, and its blocks stand two spaces in. A text that the grammar does not
+The author's line breaks between statements are kept. A statement that is on one line stays on one line; the words
+of one that is not begin lines of their own, and its blocks are indented by two spaces. A text that the grammar does not
 derive is left as it is."""
 from itertools import chain, zip_longest
 from typing import Dict, List, NamedTuple, Optional, Tuple
@@ -14,7 +14,7 @@ _NO_SPACE_BEHIND = frozenset(['(', '[', '::'])
 
 
 class Spot(NamedTuple):
-    """How a token begins: always on a new line or where the author broke the line, how far in, behind which gap."""
+    """How a token begins: always on a new line or where the author broke the line, how far in, after which gap."""
 
     is_first: bool
     level: int
@@ -54,7 +54,7 @@ class _Layout:
         return b'\n' in self.source.text[tokens[first].at : tokens[last].end]
 
     def block(self, block: List[Statement], level: int, is_broken: bool):
-        """The statements of a block; `is_broken` where the block does not stand on the line of its head."""
+        """The statements of a block; `is_broken` if the block is not on the line of its head."""
         before_is_long = is_broken
         for number, each in enumerate(block):
             is_long = self.line_breaks(each.first, each.last)
@@ -77,7 +77,7 @@ class _Layout:
             self.block(block, level + (not self.is_flat(each, block)), is_long)
 
     def is_flat(self, each: Statement, block: List[Statement]) -> bool:
-        """Whether the author let one local stand below another, and not further in."""
+        """Whether the author wrote one local below another, and not further in."""
         if each.variable is None or len(block) != 1 or block[0].variable is None:
             return False
         text, tokens = self.source.text, self.source.tokens
@@ -128,7 +128,7 @@ class _Writer:
             self.lines.append('')
 
     def between(self, begin: int, end: int) -> int:
-        """How many line feeds stand between two bytes."""
+        """How many line feeds are between two bytes."""
         return self.source.text.count(b'\n', begin, end)
 
     # ---- comments
@@ -156,7 +156,7 @@ class _Writer:
         return text.decode('utf-8', 'surrogateescape').rstrip()
 
     def first_of_head(self, before: List[Token], at: Optional[int]) -> int:
-        """Which of these comments is the first that belongs to the class or method behind them."""
+        """Which of these comments is the first that belongs to the class or method after them."""
         begin = self.source.tokens[at].at if at is not None else len(self.source.text)
         number = len(before)
         while number and self.between(before[number - 1].end, begin) <= 1:
@@ -165,7 +165,7 @@ class _Writer:
         return number
 
     def comment_level(self, before: List[Token], number: int, at: Optional[int], spot: Spot) -> int:
-        """How far in a comment on a line of its own stands: as what is behind it, or as the block that ends there."""
+        """How far in a comment on a line of its own is: as what follows it, or as the block that ends there."""
         if not spot.has_blank:
             is_closer = at is not None and self.source.tokens[at].kind == 'keyword' and self.is_closer(at)
             return spot.level + is_closer
@@ -179,7 +179,7 @@ class _Writer:
     # ---- tokens
 
     def token(self, at: int, token: Token, end: int):
-        """A token behind what ends at `end`: on a new line, or behind a gap."""
+        """A token after what ends at `end`: on a new line, or after a gap."""
         spot = self.layout.spots.get(at)
         feeds = self.between(end, token.at)
         if spot is not None and (spot.is_first or feeds or not self.line):

@@ -44,7 +44,7 @@ class Statements:
         return sorted(each for each in self.by_place if first <= each < last)
 
     def parted(self, moment: Moment) -> Tuple[List[Pair], List[Pair]]:
-        """The fields of the present object, and the parameters and locals, of a moment."""
+        """The fields of the current object, and the parameters and locals, of a moment."""
         every = list(moment.variables)
         names = self.visible.get(moment.point.place, []) if moment.point.place is not None else []
         cut = len(every) - len(names)
@@ -54,5 +54,5 @@ class Statements:
 
 
 def statement_on(statements: Statements, first: int) -> Optional[int]:
-    """The place of the first statement that begins at this byte or behind it."""
+    """The place of the first statement that begins at this byte or after it."""
     return min((each for each in statements.by_place if each >= first), default=None)

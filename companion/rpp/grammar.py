@@ -75,7 +75,7 @@ class _Reader:
         return self.sees(*kinds) and bool(self.take(*kinds))
 
     def within(self, what: str, *parts):
-        """Reads parts of something that is open meanwhile; a part is a token, or what reads one."""
+        """Reads parts of something that is open until its last part; a part is a token, or what reads one."""
         if len(self.open) >= DEEPEST:
             raise _TooDeep
         self.open.append(Open(what, self.at))

@@ -34,14 +34,14 @@ class Moment(NamedTuple):
 
 
 class ImageRun:
-    """The run of the image of a source, over a heap of an order and so many open calls."""
+    """The run of the image of a source, over a heap of an order and so many active calls."""
 
     def __init__(self, program: Program, source: str, folder: Folder, depth: int):
         self.program, self.source, self.folder, self.depth = program, source, folder, depth
         self.order = 0
         self.text = Text.read(source)
         if self.text.content.startswith(b'RPPI'):
-            raise Unfit(f'{source} is an image; name its source, which tells classes and variables')
+            raise Unfit(f'{source} is an image; name its source, which has the classes and variables')
         self.image = folder.name('image')
         self.called('compile', source, self.image)
         self.called('list', self.image, folder.name('listing'))
@@ -67,7 +67,7 @@ class ImageRun:
         for line in lines:
             found = INPUT.match(line)
             if not found or found[1] not in self.inputs:
-                raise Unfit(f'{line.strip()}: the input wants NAME = NUMBER, with an int field of the main object')
+                raise Unfit(f'{line.strip()}: an input must be NAME = NUMBER, with an int field of the main object')
             at = 16 + 8 * cells + 4 * (self.inputs[found[1]] - 40)
             struct.pack_into('<I', image, at, int(found[2]) & 0xffffffff)
         with open(self.image, 'wb') as file:
@@ -118,7 +118,7 @@ class ImageRun:
 
 
 def smallest_heap(run: ImageRun, given) -> Told:
-    """Runs the image over the heap that is wanted, or over the smallest in which it does not end with HeapFull."""
+    """Runs the image over the heap that is asked for, or over the smallest in which it does not end with HeapFull."""
     for order in ORDERS if given.heap is None else (given.heap,):
         run.order = order
         told = run.run(given.steps)
@@ -186,7 +186,7 @@ def moment_rows(moment: Moment, text: Text) -> List[str]:
     rows += [f'  {block.address:8} {block.words:6} words  {block_words(block)}' for block in memory.blocks]
     lists = [f'order {order}: {" ".join(map(str, found))}' for order, found in memory.lists.items() if found]
     rows.append('  free blocks by order   ' + ('; '.join(lists) or 'none'))
-    rows.append(f'  open calls, a frame of 512 words each from {memory.stack}' if memory.frames else '  no open call')
+    rows.append(f'  active calls, a frame of 512 words each from {memory.stack}' if memory.frames else '  no active call')
     rows += [f'  {frame.address:8}  {frame_words(frame)}' for frame in memory.frames]
     return rows
 

@@ -1,5 +1,5 @@
 """The pictures of `rpp heap`: for each moment the heap as a tree of blocks, with the main object above and the frames of the
-open calls below, and arrows for references."""
+active calls below, and arrows for references."""
 import html
 import textwrap
 from typing import Dict, List, NamedTuple, Optional, Tuple
@@ -10,7 +10,7 @@ from .page import page
 COLUMN, LINE, GAP, ADDRESS, LETTER, WIDEST = 26, 18, 34, 58, 7.8, 62
 FILES = ['heap.css']
 WORDS = ('Each picture shows the main object, the blocks of the heap in the order of their addresses, and the frames of the '
-         'open calls. A column stands for an order k, with blocks of 2^k words; a block that was halved stands left of its '
+         'active calls. A column is for an order k, with blocks of 2^k words; a block that was halved is left of its '
          'halves. An arrow leads to what a reference names, a thin one from a frame to the object on which its method runs, '
          'a dashed one to the next free block of a list.')
 
@@ -50,7 +50,7 @@ class Picture:
         self.top += LINE
         self.blocks = [self.block_row(block) for block in memory.blocks]
         if memory.frames:
-            self.caption(f'open calls: a frame of 512 words each from {memory.stack}')
+            self.caption(f'active calls: a frame of 512 words each from {memory.stack}')
         self.frames = [self.row(frame.address, 'frame', frame_words(frame), frame.variables)._replace(on=frame.on)
                        for frame in memory.frames]
         self.right = self.tree + ADDRESS + 20 + LETTER * max(len(line) for row in self.rows for line in row.lines)
@@ -80,7 +80,7 @@ class Picture:
         parts = [words('heap-caption', 0, top, caption) for top, caption in self.captions]
         parts += self.orders() + self.halved() + [self.drawn_row(row) for row in self.rows] + curves
         return (f'<svg class="heap-picture" width="{width:.0f}" height="{self.top + 4}" role="img" '
-                f'aria-label="the memory, told as text below">{ARROW}{"".join(parts)}</svg>')
+                f'aria-label="the memory, written as text below">{ARROW}{"".join(parts)}</svg>')
 
     def left_of(self, block: Block) -> int:
         return COLUMN * (self.memory.order - order_for(block.words))
@@ -141,7 +141,7 @@ def words(kind: str, left: int, base: int, text: str) -> str:
 
 
 def scale(memory: Memory) -> str:
-    """The whole heap true to scale, a block beside the other."""
+    """The whole heap true to scale, block next to block."""
     whole = 1 << memory.order
     rects = ''.join(f'<rect class="heap-{block.kind}" x="{block.address - memory.base}" y="0" width="{block.words}" height="1"/>'
                     for block in memory.blocks)

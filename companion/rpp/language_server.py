@@ -1,6 +1,6 @@
 """A language server: what the program's `check` says of each open text, and help in writing one.
 
-It judges nothing itself. Whether a text is accepted, also after a rename, is what the program says."""
+It checks nothing itself. Whether a text is accepted, also after a rename, is what the program says."""
 import os
 import pathlib
 import sys
@@ -21,7 +21,7 @@ from .protocol import Broken, Inbox, Outbox
 from .running import run_text
 from .tokens import is_name
 
-# (so many seconds without a message, and a changed text is judged)
+# (so many seconds without a message, and a changed text is checked)
 QUIET = 0.1
 SYMBOL_KINDS = {'class': 5, 'method': 6, 'field': 8}
 ITEM_KINDS = {'class': 7, 'method': 2, 'field': 5, 'variable': 6, 'keyword': 14}
@@ -39,7 +39,7 @@ class Refused(Exception):
 
 
 class Document:
-    """An open text, its places, and what stands in it, found when it is first asked for."""
+    """An open text, its places, and what is in it, found when it is first asked for."""
 
     def __init__(self, text: str, version: Any):
         self.text = text.encode('utf-8', 'replace')
@@ -97,7 +97,7 @@ class Server:
         self.outbox.send({'jsonrpc': '2.0', **body})
 
     def serve(self) -> int:
-        """Answers until `exit` or the end of the stream. A text is judged when no message has come for a moment."""
+        """Answers until `exit` or the end of the stream. A text is checked when no message has come for a moment."""
         quiet_at = 0.0
         while True:
             left = max(0.0, quiet_at - time.monotonic()) if self.waiting else None

@@ -204,7 +204,7 @@ def inverse(source: Source) -> str:
 
 
 class Session(_Session):
-    """A session both ways along a run, as `trace` tells it: it stands before a statement, and moves by step, back, next,
+    """A session both ways along a run, as `trace` prints it: it is before a statement, and moves by step, back, next,
     previous, finish, until, watch, watch_back and go, which give a Stop. `stack()`, `value(path)`, `here` and `moment` look.
     Use it in a `with`, or close it."""
 

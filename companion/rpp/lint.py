@@ -82,7 +82,7 @@ class _Lint:
                 yield self.never(local.name_at, f'The local `{local.name}`')
 
     def is_constructed(self, local: Variable) -> bool:
-        """Whether it is of a `construct`, which makes an object, and so may be there for its heap alone."""
+        """Whether it is of a `construct`, which makes an object, and so may be there only for its use of the heap."""
         return self.source.tokens[local.type_at - 1].text == 'construct'
 
     def never(self, at: int, what: str) -> Remark:

@@ -1,4 +1,4 @@
-"""`rpp list F`: the cells of the compiled program, with the statement of each beside it; F is a source or an image."""
+"""`rpp list F`: the cells of the compiled program, with the statement of each next to it; F is a source or an image."""
 from typing import List, NamedTuple, Optional
 
 from .memory import notes_of

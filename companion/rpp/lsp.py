@@ -1,7 +1,7 @@
 """`rpp lsp`: the language server, over standard input and output, as editors start it.
 
-It judges each open text by the program's `check`, and answers what an editor asks: what a name or a statement is, where
-it is declared and used, what can stand at a place, an outline, folds, a layout, and the edits of a rename."""
+It checks each open text by the program's `check`, and answers what an editor asks. That is: what a name or a statement is, where
+it is declared and used, what can be written at a place, an outline, folds, a layout, and the edits of a rename."""
 import sys
 from typing import List
 

@@ -23,7 +23,7 @@ WATCHED = re.compile(rf'^(?:\$(\d+)|(\d+)|({NAME}))$')
 
 
 class Listing(NamedTuple):
-    """The listing of an image: its instructions, its marks (first cell, cell behind, place of the source), and the cells
+    """The listing of an image: its instructions, its marks (first cell, the cell after the last, place of the source), and the cells
     of its names."""
     code: List[str]
     marks: List[Tuple[int, int, int]]
@@ -63,7 +63,7 @@ class MachinePrompt(Prompt):
         self.standing = run.walk(['step 0'])[0][-1]
 
     def here(self) -> None:
-        """Where the machine stands, its instruction, and its statement."""
+        """Where the machine is, its instruction, and its statement."""
         at = self.standing
         code = self.listing.code[at.pc] if 0 <= at.pc < len(self.listing.code) else 'no cell of the code'
         note = f'  {at.note}' if at.note else ''
@@ -75,7 +75,7 @@ class MachinePrompt(Prompt):
             print(f'at byte {place} of its source; --source F shows the line')
 
     def moved(self, line: str) -> None:
-        """Makes the moves of a line of the program's scripts from where the session stands."""
+        """Makes the moves of a line of the program's scripts from where the session is."""
         self.standing = self.run.walk([f'step {self.standing.position}', line])[0][-1]
         self.here()
 
@@ -93,11 +93,11 @@ class MachinePrompt(Prompt):
         self.here()
 
     def do_until(self, arg: str) -> None:
-        """until PC: on until the machine stands at this cell."""
+        """until PC: on until the machine is at this cell."""
         self.sought([number_of(arg)], back=False)
 
     def do_break(self, arg: str) -> None:
-        """break [PC]: stop at this cell; without PC, the breakpoints that stand."""
+        """break [PC]: stop at this cell; without PC, lists the breakpoints."""
         if arg:
             self.breaks = sorted(set(self.breaks) | {number_of(arg)})
         self.say([f'breakpoints at {", ".join(str(pc) for pc in self.breaks)}' if self.breaks else 'there are no breakpoints'])
@@ -115,7 +115,7 @@ class MachinePrompt(Prompt):
         self.sought(self.breaks, back=True)
 
     def sought(self, cells: List[int], back: bool) -> None:
-        """To the nearest standing at one of the cells, or to the end or the start; looks ever further."""
+        """To the nearest state at one of the cells, or to the end or the start; looks ever further."""
         word, plain = ('backto', 'back') if back else ('to', 'step')
         begin, bound = self.standing.position, FIRST_BOUND
         while True:
@@ -133,7 +133,7 @@ class MachinePrompt(Prompt):
 
     def do_next(self, _arg: str) -> None:
         """next: only sources have it; an image knows no depth of calls."""
-        raise Unfit('next and finish go by open calls, which an image does not tell: debug the source for them')
+        raise Unfit('next and finish need the active calls, which an image does not show: debug the source for them')
 
     do_finish = do_next
 
@@ -180,7 +180,7 @@ class MachinePrompt(Prompt):
         return f'cells {cell} 1', lambda text: int(dict(CELLS.findall(text)).get(cell, 0))
 
     def watched(self, line: str, read: Callable[[str], int], back: bool) -> None:
-        """Moves, window by window, to the first standing where the value is another one."""
+        """Moves, window by window, to the first state where the value is another one."""
         word = 'back 1' if back else 'step 1'
         _, output = self.run.walk([f'step {self.standing.position}', line])
         here = read(output)
@@ -205,7 +205,7 @@ class MachinePrompt(Prompt):
             print(f'{mark}{cell:6d} | {self.listing.code[cell]}')
 
     def do_where(self, _arg: str) -> None:
-        """where: where the machine stands."""
+        """where: where the machine is."""
         self.here()
 
 

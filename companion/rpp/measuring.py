@@ -40,7 +40,7 @@ MEASURES = {
 
 
 class Measured(NamedTuple):
-    """What one run took; what could not be told is None, and `end` says how the run ended."""
+    """What one run took; what is not known is None, and `end` says how the run ended."""
     inputs: Dict[str, int]
     end: str
     values: Dict[str, Optional[float]]
@@ -135,7 +135,7 @@ def in_use(run: SourceRun, program: Program) -> Dict[str, Optional[float]]:
 
 def fullest(run: SourceRun, points, program: Program) -> List[int]:
     """The positions at which most can be in use: before a block is given back, where one was taken since, and the last one.
-    A body that runs backward gives back what is written `new`; a `construct` does both."""
+    A body that runs backward deletes what is written `new`; a `construct` does both."""
     outline = Outline.made(program, run.text)
     words = dict(outline.tokens)
     directions, found, is_fuller = Directions(outline), [points[-1].position], False

@@ -5,7 +5,7 @@ docs/reference/formats.md (state files and notes).
     memory = layout.memory(state_bytes, pc)
     memory.blocks           # the heap's blocks in the order of addresses: free ones, objects, arrays
     memory.main             # the main object, a block too
-    memory.frames           # the frames of the open calls, the outermost first
+    memory.frames           # the frames of the active calls, the outermost first
     memory.lists            # for each order the addresses of its free blocks, as their list has them
 
 A value is a text: a number, `nil`, or `@A` for the object or array at the address A.
@@ -46,8 +46,8 @@ class Block(NamedTuple):
 
 
 class Frame(NamedTuple):
-    """The frame of an open call: its address, the method, the address of the object on which it runs, the place in the
-    source where it stands, and its variables."""
+    """The frame of an active call: its address, the method, the address of the object on which it runs, the place in the
+    source that it is at, and its variables."""
     address: int
     method: str
     on: int
@@ -97,7 +97,7 @@ def signed(word: int) -> int:
 
 
 def order_for(words: int) -> int:
-    """The least order, from 1, whose blocks have room for so many words."""
+    """The least order, from 1, whose blocks hold so many words."""
     return max(1, (words - 1).bit_length())
 
 
@@ -217,8 +217,8 @@ class Reading:
     # ---- the frames
 
     def frames(self) -> List[Frame]:
-        """The frames of the open calls. A frame keeps the way back to the call and its method's first cell; where the call
-        changed the present object, it keeps the one of before."""
+        """The frames of the active calls. A frame keeps the way back to the call and its method's first cell; where the call
+        changed the current object, it keeps the one of before."""
         last = (self.registers[FRAME_REGISTER] - self.stack) // FRAME_WORDS if self.registers[FRAME_REGISTER] else -1
         found, on, cell = [], self.registers[OBJECT_REGISTER], self.pc
         for depth in range(last, -1, -1):

@@ -52,7 +52,7 @@ class Names:
         return next(it for it in owners[-1].methods if it.name == method.name)
 
     def same(self, declaration: Declaration) -> Declaration:
-        """What stands for a declaration and for all that is renamed with it: overriding methods share their slot."""
+        """What represents a declaration and all that is renamed with it: overriding methods share their slot."""
         return self.slot(declaration) if isinstance(declaration, Method) else declaration
 
     # ---- places
@@ -80,7 +80,7 @@ class Names:
         return list(found.values())
 
     def _is_in(self, each: Union[Class, Variable], at: int) -> bool:
-        """Whether a byte is where a class stands or a variable is visible, which may be the end of the text."""
+        """Whether a byte is in a class or where a variable is visible, which may be the end of the text."""
         return each.begins <= at < each.ends or at == each.ends == len(self.source.text)
 
     def variable(self, name: str, at: int) -> Optional[Variable]:
@@ -145,7 +145,7 @@ class Names:
     # ---- questions
 
     def token_at(self, at: int) -> Optional[int]:
-        """The token at a byte; behind the last letter of a name it is still the name."""
+        """The token at a byte; after the last letter of a name it is still the name."""
         found = None
         for number, each in enumerate(self.source.tokens):
             if each.at > at:

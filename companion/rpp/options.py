@@ -50,8 +50,8 @@ def add_run_options(parser) -> None:
 
 
 def input_file(given, folder: Folder) -> Optional[str]:
-    """The file with all that is given as input: the lines of --input, and behind them the words NAME=NUMBER, which stand
-    in the place of lines for the same names."""
+    """The file with all that is given as input: the lines of --input, and after them the words NAME=NUMBER, which replace
+    lines for the same names."""
     words = {}
     for word in given.assignments:
         found = ASSIGNMENT.match(word)

@@ -1,4 +1,4 @@
-"""What stands where in a source: its classes and methods, by the keywords alone, and its statements, by the marks with
+"""What is where in a source: its classes and methods, by the keywords only, and its statements, by the marks with
 which the program notes them in a compiled image.
 
     outline = Outline.made(program, run.text)
@@ -19,7 +19,7 @@ MARK = re.compile(r'^MARK \d+ \d+ (\d+)$', re.M)
 
 
 class Method(NamedTuple):
-    """A method: the class that declares it, its name, the byte of `method`, and the byte behind its last token."""
+    """A method: the class that declares it, its name, the byte of `method`, and the byte after its last token."""
     owner: str
     name: str
     at: int
@@ -31,7 +31,7 @@ class Method(NamedTuple):
 
 
 class Call(NamedTuple):
-    """A call statement as it is written: `receiver` is a variable's name, or '' for the present object; `is_element` says
+    """A call statement as it is written: `receiver` is a variable's name, or '' for the current object; `is_element` says
     that an element of the variable is called."""
     is_uncall: bool
     receiver: str

@@ -48,7 +48,7 @@ def page(title: str, words: str, files: List[str], body: str = '', script: str =
 
 
 def as_script(value: Any) -> str:
-    """Plain data as it stands in a script of a page."""
+    """Plain data as it is written in a script of a page."""
     return json.dumps(value, separators=(',', ':'), ensure_ascii=False).replace('<', '\\u003c')
 
 

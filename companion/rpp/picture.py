@@ -20,7 +20,7 @@ MOST_CALLS = 8
 
 
 def store_at(session: Session, bare: bool = False) -> str:
-    """The SVG of the store where the session stands; `bare` leaves out the caption and the open calls."""
+    """The SVG of the store where the session is; `bare` leaves out the caption and the active calls."""
     moment, statements = session.moment, Statements(session.run.text.content)
     fields, inner = statements.parted(moment)
     frames = session.stack()
@@ -82,7 +82,7 @@ def write_pdf(svg: str, out: str, folder: Folder) -> None:
             if done.returncode:
                 raise Unfit(f'{program} made no PDF: {done.stderr.decode("utf-8", "replace").strip()}')
             return
-    raise Unfit('a PDF wants rsvg-convert or inkscape (Debian: librsvg2-bin, inkscape); name OUT.svg without them')
+    raise Unfit('a PDF needs rsvg-convert or inkscape (Debian: librsvg2-bin, inkscape); name OUT.svg without them')
 
 
 def parser() -> Parser:
@@ -91,7 +91,7 @@ def parser() -> Parser:
     add_run_options(made)
     made.add_argument('--at', type=int, metavar='N', help='the position, as `trace` and `rpp debug` count it; without it the end')
     made.add_argument('--line', type=int, metavar='L', help='the first position at this line')
-    made.add_argument('--bare', action='store_true', help='without the caption and the open calls')
+    made.add_argument('--bare', action='store_true', help='without the caption and the active calls')
     made.add_argument('-o', '--out', metavar='OUT', required=True, help='OUT.svg or OUT.pdf')
     return made
 

@@ -43,7 +43,7 @@ class Text:
 
     @property
     def line_count(self) -> int:
-        """How many lines there are; behind a last line feed no line is counted."""
+        """How many lines there are; after a last line feed no line is counted."""
         return len(self.starts) - (len(self.starts) > 1 and self.starts[-1] == len(self.content))
 
     def within(self, offset: int) -> int:
@@ -51,7 +51,7 @@ class Text:
         return max(0, min(offset, len(self.content)))
 
     def shown(self, offset: int) -> int:
-        """The offset; but for the end of the text the one behind its last token, where there is a line to show."""
+        """The offset; for the end of the text the one after its last token, where there is a line to show."""
         if offset >= len(self.content):
             return len(self.content.rstrip())
         return self.within(offset)

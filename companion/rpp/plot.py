@@ -40,7 +40,7 @@ def ticks(least: float, most: float) -> List[float]:
 
 
 def number(value: float) -> str:
-    """A number as it stands at an axis: no more digits than it needs, and thousands parted."""
+    """A number as it is written at an axis: no more digits than it needs, and thousands parted."""
     return f'{value:,.0f}' if float(value).is_integer() else f'{value:,.6g}'
 
 

@@ -27,9 +27,9 @@ SCRIPT_LIMIT = 65536
 ABORTED = 134
 WHAT_TO_DO = """rpp: there is no built program rooplpp to call. It may be
   - named by the environment variable ROOPLPP_PROGRAM,
-  - unpacked from release/ in a clone, which this tool does where release/ is of the sources that stand there,
+  - unpacked from release/ in a clone, which this tool does if release/ is of the sources that are there,
   - built in a clone, by ./rooplpp check examples/first.rpp (up to an hour the first time),
-  - installed beside this tool, or anywhere on the path."""
+  - installed next to this tool, or anywhere on the path."""
 
 
 class NoProgram(Exception):
@@ -166,11 +166,11 @@ class Program:
 
 
 def candidates():
-    """Where a built program may stand, the likeliest place first."""
+    """Where a built program may be, the likeliest place first."""
     yield BUILT, 'in this clone'
     # (PREFIX/share/rooplpp/rpp is the package of an installation)
     prefix = os.path.dirname(os.path.dirname(os.path.dirname(PACKAGE)))
-    yield os.path.join(prefix, 'bin', 'rooplpp'), 'installed beside this tool'
+    yield os.path.join(prefix, 'bin', 'rooplpp'), 'installed next to this tool'
     for folder in os.environ.get('PATH', '').split(os.pathsep):
         if folder:
             yield os.path.join(os.path.abspath(folder), 'rooplpp'), 'on the path'

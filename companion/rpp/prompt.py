@@ -29,13 +29,13 @@ class Prompt(cmd.Cmd):
             print(line)
 
     def notify(self, text: str) -> None:
-        """Progress of a long search, on a terminal alone."""
+        """Progress of a long search, only on a terminal."""
         if sys.stderr.isatty():
             print(f'\r{text}; ^C ends it ', end='', file=sys.stderr, flush=True)
             self.noted = True
 
     def onecmd(self, line: str) -> bool:
-        """Carries one command out; what goes wrong is told, and the prompt stays."""
+        """Carries one command out; what goes wrong is printed, and the prompt stays."""
         self.noted = False
         try:
             return bool(super().onecmd(line))
@@ -91,7 +91,7 @@ class Prompt(cmd.Cmd):
         return True
 
     def here(self) -> None:
-        """Shows where the session stands."""
+        """Shows where the session is."""
         raise NotImplementedError
 
     def converse(self) -> None:
@@ -108,7 +108,7 @@ class Prompt(cmd.Cmd):
                 print('^C')
 
     def obey(self, lines: List[str]) -> bool:
-        """Carries out the lines of a script, each told behind the prompt; whether one of them ended the session."""
+        """Carries out the lines of a script, each shown after the prompt; whether one of them ended the session."""
         for line in lines:
             line = line.split('//')[0].strip()
             if line:

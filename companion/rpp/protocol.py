@@ -1,4 +1,4 @@
-"""What the language server and the debug adapter share: messages with a head that tells their length."""
+"""What the language server and the debug adapter share: messages with a head that gives their length."""
 import json
 import os
 import queue

@@ -36,7 +36,7 @@ def standing_of(program: Program) -> Standing:
         said = f'released: PROVED.txt of {release.get("rooplpp", "the release")} names this sum'
         return Standing(digest, kit, said + of_others(program, release.get('sources', '').split(' ')[0]))
     if not record:
-        return Standing(digest, kit, 'not known: there is no record beside it, and no PROVED.txt names its sum')
+        return Standing(digest, kit, 'not known: there is no record next to it, and no PROVED.txt names its sum')
     if not is_recorded:
         return Standing(digest, kit, 'no: changed since its record was written, which names another sum')
     return Standing(digest, kit, by_record(program, record))
@@ -56,7 +56,7 @@ def of_others(program: Program, sources: str) -> str:
 
 
 def record_of(program: Program) -> Dict[str, str]:
-    """The lines NAME: value of the record beside a program; empty where there is none."""
+    """The lines NAME: value of the record next to a program; empty where there is none."""
     path = os.path.join(os.path.dirname(program.path), RECORD)
     if not os.path.isfile(path):
         return {}
@@ -66,7 +66,7 @@ def record_of(program: Program) -> Dict[str, str]:
 
 
 def released() -> Dict[str, str]:
-    """What PROVED.txt tells, of the release in a clone or of an installed one: its commit, kit, gate and the program's sum, among
+    """What PROVED.txt says, of the release in a clone or of an installed one: its commit, kit, gate and the program's sum, among
     others; empty where there is none."""
     installed = os.path.join(PACKAGE, 'docs', 'PROVED.txt')
     path = next((each for each in (os.path.join(TOP, 'release', 'PROVED.txt'), installed) if os.path.isfile(each)), None)

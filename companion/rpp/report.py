@@ -70,5 +70,5 @@ def failure_lines(told: Told, file: str) -> List[str]:
     if told.kind == 'memory':
         return [f'{file}: the program answered with status 7: there was not enough memory']
     if told.kind == 'words':
-        return [f'{file}: the program refuses the words of this call, so this companion does not fit it']
+        return [f'{file}: the program refuses the arguments that rpp passed, so this rpp does not fit it']
     return [f'{file}: the program answered with status {told.status}: {told.first_line or "nothing"}']

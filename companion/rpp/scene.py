@@ -1,6 +1,6 @@
-"""What an editor shows of a run while it stands: the open calls, their variables and objects, as the protocol has them.
+"""What an editor shows of a run while it is stopped: the active calls, their variables and objects, as the protocol has them.
 
-Everything is of the position at which the session stood when the scene was made; with the next move it is over."""
+Everything is of the position of the session when the scene was made; with the next move it is over."""
 import os
 from typing import Any, Dict, List, NamedTuple, Optional, Tuple
 
@@ -28,7 +28,7 @@ class Counting(NamedTuple):
         return {'line': at.line + self.line, 'column': at.character + self.column}
 
     def offset(self, text: Text, line: int, column: Optional[int] = None) -> Optional[int]:
-        """The byte of a line, or of a column in it; None behind the last line."""
+        """The byte of a line, or of a column in it; None after the last line."""
         row = line - self.line
         if row >= len(text.starts):
             return None
@@ -55,7 +55,7 @@ class Scene:
         # (at the end of the run no call is open)
         self.frames = session.stack() or [Frame(0, 'the end of the run', -1, session.position, False, 1)]
 
-    # ---- open calls
+    # ---- active calls
 
     def frame(self, number: int) -> Body:
         each = self.frames[number]
@@ -133,8 +133,8 @@ class Scene:
         return {'result': shown.pop('value'), **shown}
 
     def watchable(self, name: str, number: int) -> Body:
-        """The path by which a variable of the present call, or a cell of an object, can be watched."""
+        """The path by which a variable of the current call, or a cell of an object, can be watched."""
         path = self.group(number).path_of(name) if number else name
         is_here = value_of(self.session.moment, path) is not None and not path.lstrip('#').isdigit()
-        told = path if is_here else f'{path} is not of the present call'
+        told = path if is_here else f'{path} is not of the current call'
         return {'dataId': path if is_here else None, 'description': told, 'accessTypes': ['write']}

@@ -1,10 +1,10 @@
 """A session that goes both ways along a run of a source, with no terminal: the prompt of `rpp debug` and the debug adapter
-stand on it. It adds nothing to what `trace` says; positions are the program's.
+use it. It adds nothing to what `trace` says; positions are the program's.
 
     session = Session.begun(program, 'list.rpp', heap=12, depth=64, inputs=None)
     session.break_at(15)           # Breakpoint(number=1, line=15, places=(375,))
-    stop = session.run_on()        # Stop(point, reason, detail); session.point is where it stands
-    session.stack()                # the open calls, innermost first: Frame(depth, method, place, uncalled, number)
+    stop = session.run_on()        # Stop(point, reason, detail); session.point is where it is
+    session.stack()                # the active calls, innermost first: Frame(depth, method, place, uncalled, number)
     session.moment.variables       # what `regs` shows there
     session.value('list.head')     # '#3'; the objects are session.moment.objects
     session.close()
@@ -38,8 +38,8 @@ class Stop(NamedTuple):
 
 
 class Frame(NamedTuple):
-    """An open call: `method` is `Class.name`, `place` the statement at which it stands, `position` where that was begun,
-    `uncalled` whether its body runs backward, `number` that of its object (None where the printed texts do not tell it)."""
+    """An active call: `method` is `Class.name`, `place` the statement at which it is, `position` where that was begun,
+    `uncalled` whether its body runs backward, `number` that of its object (None if the printed texts do not say it)."""
     depth: int
     method: str
     place: int
@@ -128,7 +128,7 @@ class Session(Closing):
         return self._by_depth(depth) if depth else self.step()
 
     def finish(self) -> Stop:
-        """On to the first statement behind the present call."""
+        """On to the first statement after the current call."""
         depth = self.point.depth
         return self._by_depth(depth - 1) if depth else self.step()
 
@@ -178,7 +178,7 @@ class Session(Closing):
         return found or self._opener_by_sites(position, depth)
 
     def stack(self) -> List[Frame]:
-        """The open calls, the innermost first; at the end of the run none."""
+        """The active calls, the innermost first; at the end of the run none."""
         point = self.point
         if point.at_end:
             return []
@@ -229,7 +229,7 @@ class Session(Closing):
     # How the moves search
 
     def _stand(self, point: Point, reason: str, wanted: Optional[int] = None) -> Stop:
-        """Stands at the point; where the run ended before what was wanted, the reason is its end."""
+        """Stops at the point; if the run ended before what was asked for, the reason is its end."""
         self.position = point.position
         if wanted is not None and point.position < wanted:
             reason = 'end' if point.at_end else 'fault' if point.fault else reason
@@ -243,7 +243,7 @@ class Session(Closing):
         return self.run.last if self.run.last and point.position == self.run.last.position else point
 
     def _guarded(self, move: Callable[[], Stop], wanted: Optional[int]) -> Stop:
-        """Makes the move; where the program finds no memory for it, or ^C ends it, says so and stands where it can."""
+        """Makes the move; where the program finds no memory for it, or ^C ends it, says so and stops where it can."""
         try:
             return move()
         except (Interrupted, KeyboardInterrupt):
@@ -298,8 +298,8 @@ class Session(Closing):
         return stop._replace(reason='break') if hit else stop
 
     def _scan(self, fits: Callable[[Point], bool], depth: int, back: bool = False) -> Stop:
-        """On or back to the first point that fits: point by point in a window, and then by the places of the statements of
-        all bodies that are open and no deeper, and of breakpoints, at one of which it is."""
+        """On or back to the first point that fits. It looks point by point in a window, and then at the statements of all
+        bodies that are active and no deeper, and at breakpoints: the point is at one of these."""
         places = self._places_above(depth) if self.point.depth else self.outline.places
         count = self._window(self.position)
         first = max(0, self.position - count) if back else self.position + 1
@@ -376,7 +376,7 @@ class Session(Closing):
         def changed(moment: Moment) -> str:
             if number is None and not path.startswith('#'):
                 if moment.point.depth is None or moment.point.depth < depth:
-                    return f'the call in which {path} stands {"begins here" if back else "has ended"}'
+                    return f'the call that has {path} {"begins here" if back else "has ended"}'
                 if moment.point.depth > depth:
                     return ''
             value = value_of(moment, path)
@@ -387,7 +387,7 @@ class Session(Closing):
         return changed
 
     def _owner(self, path: str) -> Optional[int]:
-        """The number of the present object where the path begins with one of its fields."""
+        """The number of the current object where the path begins with one of its fields."""
         name = path.split('.')[0].split('[')[0]
         frames = self.stack()
         number = frames[0].number if frames else 1

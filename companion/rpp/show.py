@@ -1,4 +1,4 @@
-"""What the prompt shows: a stop with its source line, the stack, objects, listings. Texts alone, with no terminal."""
+"""What the prompt shows: a stop with its source line, the stack, objects, listings. Only texts, with no terminal."""
 from typing import List, Optional
 
 from .changes import changes, thing_of, value_of
@@ -38,7 +38,7 @@ def framed(frame: Frame) -> str:
 
 
 def stop_lines(session: Session, stop: Stop, before: Optional[Moment], failing: Optional[Failing] = None) -> List[str]:
-    """Where the session stands, its source line, why it stopped, and what changed on the way. `failing` is the statement in whose
+    """Where the session is, its source line, why it stopped, and what changed on the way. `failing` is the statement in whose
     code the machine stops with a fault, if that is known."""
     frames = session.stack()
     frame = frames[0] if frames else None
@@ -55,7 +55,7 @@ def stop_lines(session: Session, stop: Stop, before: Optional[Moment], failing: 
 
 
 def fault_lines(session: Session, stop: Stop, failing: Optional[Failing]) -> List[str]:
-    """The fault behind this statement, and where it came if that is at the end of another one."""
+    """The fault after this statement, and where it came if that is at the end of another one."""
     number, name = stop.point.fault
     lines = [f'{paint("wrong", f"fault {number} {name}")}: the run goes no further']
     place, test = failing or Failing(None, None)
@@ -85,7 +85,7 @@ def reason_lines(session: Session, stop: Stop) -> List[str]:
 
 
 def stack_lines(session: Session) -> List[str]:
-    """The open calls, the innermost first."""
+    """The active calls, the innermost first."""
     frames = session.stack()
     if not frames:
         return ['no call is open']
@@ -127,7 +127,7 @@ def object_lines(moment: Moment) -> List[str]:
 
 
 def listing_lines(session: Session, line: int, around: int = 5) -> List[str]:
-    """Lines of the source, the one where the session stands with `>`, those with breakpoints with `*`."""
+    """Lines of the source: the current one with `>`, those with breakpoints with `*`."""
     text, point = session.run.text, session.point
     here = text.place(point.place).line if not point.at_end else 0
     breaks = {each.line for each in session.breakpoints}
@@ -139,7 +139,7 @@ def listing_lines(session: Session, line: int, around: int = 5) -> List[str]:
 
 
 def history_lines(session: Session, count: int) -> List[str]:
-    """The statements that led here, the last one below; deeper calls stand further in."""
+    """The statements that led here, the last one below; deeper calls are indented further."""
     first = max(0, session.position - count)
     file = title(session.run.source)
     lines = []

@@ -1,4 +1,4 @@
-"""`rpp side F [-o OUT.html]`: a program beside its inverse, both laid out, with the lines that belong together. Both texts
+"""`rpp side F [-o OUT.html]`: a program next to its inverse, both laid out, with the lines that belong together. Both texts
 are what `show-inverse` wrote: of the program, and of its inverse again."""
 import re
 from itertools import zip_longest
@@ -151,7 +151,7 @@ def side_page(name: str, texts: Tuple[str, str]) -> str:
 
 
 def parser() -> Parser:
-    made = Parser(prog='rpp side', description='Shows a program beside its inverse.')
+    made = Parser(prog='rpp side', description='Shows a program next to its inverse.')
     add_source(made)
     made.add_argument('-o', '--out', metavar='OUT.html', help='writes a page in the place of the text')
     return made

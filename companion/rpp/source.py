@@ -1,7 +1,7 @@
 """A tolerant parser of source texts: classes, methods, statements and the names in them, also while a text is being
 written.
 
-It judges nothing: what a text lacks is passed over, and `is_whole` tells whether anything was. Whether a text is
+It checks nothing: what is missing from a text is passed over, and `is_whole` says whether anything was. Whether a text is
 accepted is what the program's `check` says. What ends in `_at`, and `first` and `last`, are numbers of tokens."""
 from dataclasses import dataclass, field
 from typing import List, Optional, Tuple
@@ -17,7 +17,7 @@ CONSTRUCTS = {'if': ('then', 'else', 'fi'), 'from': ('do', 'loop', 'until')}
 
 @dataclass
 class Variable:
-    """A field, a parameter or a local: its type in words, where type and name stand, and where it is visible."""
+    """A field, a parameter or a local: its type in words, where type and name are, and where it is visible."""
 
     kind: str
     base: str
@@ -148,7 +148,7 @@ class _Parser:
         return None
 
     def named(self, at: Optional[int], first: int) -> Tuple[str, int]:
-        """A name and its token; where there is none, the token in front of it stands for it."""
+        """A name and its token; where there is none, the token in front of it takes its place."""
         return ('', first) if at is None else (self.tokens[at].text, at)
 
     def begin_of(self, at: int) -> int:
@@ -189,7 +189,7 @@ class _Parser:
         return made
 
     def variable(self, kind: str) -> Optional[Variable]:
-        """A type and a name; None, and nothing taken, where they do not stand here."""
+        """A type and a name; None, and nothing taken, if they are not here."""
         width = 3 if self.word(1) == '[' and self.word(2) == ']' else 1
         if not (self.word() == 'int' or self.kind() == 'name') or self.kind(width) != 'name':
             return None
@@ -294,7 +294,7 @@ class _Parser:
         head, middle, end = CONSTRUCTS[made.form]
         self.expression(made)
         self.closer(made, head)
-        # (where the middle word is lacking, the last one ends the first block too)
+        # (where the middle word is missing, the last one ends the first block too)
         self.awaited.append(end)
         self.inner_block(made, middle)
         self.awaited.pop()

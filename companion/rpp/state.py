@@ -64,8 +64,8 @@ def with_numbers(state: bytes, cells: Dict[str, int], numbers: Dict[str, int]) -
 
 def parser() -> Parser:
     made = Parser(prog='rpp state', description=__doc__.split(':', 1)[1].strip(),
-                    epilog='The state fits runs of this image with the same --heap and --depth alone. Of the commands of '
-                           'the program, `run` alone takes a state: `debug` and `profile` begin with the loaded memory.')
+                    epilog='The state fits only runs of this image with the same --heap and --depth. Among the commands of '
+                           'the program, only `run` takes a state: `debug` and `profile` begin with the loaded memory.')
     made.add_argument('image', metavar='IMG', type=readable)
     made.add_argument('input', metavar='INPUT', type=readable)
     made.add_argument('-o', '--out', metavar='STATE', required=True)

@@ -1,4 +1,4 @@
-"""The store at a position of a run as an SVG for papers: open calls and variables at the left, objects in columns by how many
+"""The store at a position of a run as an SVG for papers: active calls and variables at the left, objects in columns by how many
 references lead to them, and arrows.
 
     Store('Stack.push', calls, variables, objects, own=1, changed={...}).picture(caption='stack.rpp, position 12')
@@ -46,8 +46,8 @@ class Place(NamedTuple):
 
 
 class Store:
-    """The boxes of a moment. `calls` are the open calls around the innermost one, the outermost first; `own` is the number of
-    the present object; `changed` has pairs of an object's number, or None, and a name."""
+    """The boxes of a moment. `calls` are the active calls around the innermost one, the outermost first; `own` is the number of
+    the current object; `changed` has pairs of an object's number, or None, and a name."""
 
     def __init__(self, title: str, calls: List[str], variables: List[Row], objects: Dict[int, Thing], own: Optional[int],
                  changed: Set[Tuple[Optional[int], str]]):

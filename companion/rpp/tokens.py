@@ -49,7 +49,7 @@ def cut(text: bytes) -> Tuple[List[Token], List[Token]]:
 
 
 def words(text: bytes) -> List[bytes]:
-    """The texts of the tokens alone, which takes less time."""
+    """Only the texts of the tokens, which takes less time."""
     return [each.group() for each in _WORD.finditer(text) if each.lastindex is None]
 
 

@@ -1,4 +1,4 @@
-"""A run as the program tells it: of a source by `trace`, of an image by `debug`. Nothing here computes a run: positions,
+"""A run as the program reports it: of a source by `trace`, of an image by `debug`. Nothing here computes a run: positions,
 places, depths and values are those that the program printed.
 
     with SourceRun(program, 'list.rpp', heap=12, depth=64, inputs=None) as run:
@@ -70,9 +70,9 @@ class Thing(NamedTuple):
 
 
 class Moment(NamedTuple):
-    """A point with what `regs` and `cells` say there: the variables in their order (fields of the present object, then
-    parameters, then locals from the outermost in), and the live objects by their numbers: all whose numbers are up to 2000,
-    and of later ones those to which references lead from what is shown. A value is a number, `nil` or `#K`, as printed."""
+    """A point with what `regs` and `cells` print there: the variables in their order (fields of the current object, then
+    parameters, then locals from the outermost in), and the live objects by their numbers. These are all whose numbers are up
+    to 2000, and those later ones that are reachable from what is shown. A value is a number, `nil` or `#K`, as printed."""
     point: Point
     variables: Tuple[Tuple[str, str], ...]
     objects: Dict[int, Thing]
@@ -147,7 +147,7 @@ class SourceRun(Closing):
         return [self._moments[each] for each in range(first, first + count) if each in self._moments]
 
     def looked(self, lines: List[str]) -> Moment:
-        """What stands after the last move of these lines, with what they showed there."""
+        """The point after the last move of these lines, with what they showed there."""
         return self._walk(lines)[-1]
 
     def seek(self, position: int, place: int, limit: int) -> Point:
@@ -196,7 +196,7 @@ class SourceRun(Closing):
         return position in self._moments or self._is_past(position)
 
     def _missing(self, first: int, count: int, kept: Dict) -> List[int]:
-        """The positions that are wanted, not kept, and not known to lie past the end."""
+        """The positions that are asked for, not kept, and not known to lie past the end."""
         return [each for each in range(first, first + count) if each not in kept and not self._is_past(each)]
 
     def _is_past(self, position: int) -> bool:
@@ -209,7 +209,7 @@ class SourceRun(Closing):
         return self._folder.name('input')
 
     def _walk(self, lines: List[str]) -> List[Moment]:
-        """Carries the lines out, in as few calls as scripts allow, and gives what stood after each move."""
+        """Carries the lines out, in as few calls as scripts allow, and gives the point after each move."""
         walked: List[Moment] = []
         for script in scripts(lines):
             if walked:
@@ -260,7 +260,7 @@ def unknown_names(moment: Moment) -> Set[int]:
 
 
 def scripts(lines: List[str]) -> List[List[str]]:
-    """The lines parted, before moves alone, into scripts of allowed length."""
+    """The lines parted, only before moves, into scripts of allowed length."""
     parts: List[List[str]] = [[]]
     size = 0
     for line in lines:
@@ -274,7 +274,7 @@ def scripts(lines: List[str]) -> List[List[str]]:
 
 
 def looked_at(script: List[str]) -> List[bool]:
-    """For each move of a script whether `regs` stands behind it."""
+    """For each move of a script whether `regs` follows it."""
     looked: List[bool] = []
     for line in script:
         if line == 'regs':
@@ -285,7 +285,7 @@ def looked_at(script: List[str]) -> List[bool]:
 
 
 def read_moments(output: str) -> List[Moment]:
-    """What stood after each move of a script of `trace`."""
+    """The point after each move of a script of `trace`."""
     moments: List[Moment] = []
     variables: List[Tuple[str, str]] = []
     things: Dict[int, Thing] = {}
@@ -313,7 +313,7 @@ def source_point(at) -> Point:
 
 
 class Standing(NamedTuple):
-    """Where a machine stands: steps made, place, branch register, direction; `note` is `start`, or `end` with the stop."""
+    """Where a machine is: steps made, place, branch register, direction; `note` is `start`, or `end` with the stop."""
     position: int
     pc: int
     br: int
@@ -335,7 +335,7 @@ class MachineRun(Closing):
         self._folder.__exit__()
 
     def walk(self, lines: List[str]) -> Tuple[List[Standing], str]:
-        """Carries the lines out from the start by one call: where the machine stood after each move, and all the text."""
+        """Carries the lines out from the start by one call: where the machine was after each move, and all the text."""
         path = self._folder.write('script', '\n'.join(lines) + '\n')
         answer = self.program.call('debug', self.image, *self.bounds, path)
         if answer.status != 0:

@@ -6,7 +6,7 @@ const { spawn } = require('child_process');
 const LANGUAGE = 'rpp';
 const command = () => vscode.workspace.getConfiguration('rpp').get('command') || 'rpp';
 
-// The messages of a language server: requests wait for their answers, all else is told to `heard`.
+// The messages of a language server: requests wait for their answers, all else goes to `heard`.
 class Connection {
   constructor(heard, ended) {
     this.heard = heard;

@@ -1,4 +1,4 @@
-/* The film of a run: the program with the statement that comes next, the store as boxes and arrows, the open calls, and a
+/* The film of a run: the program with the statement that comes next, the store as boxes and arrows, the active calls, and a
  * slider over all positions of the run. It needs film.css and nothing else. Called so:
  *
  *   const film = RooplFilm.show(element, data, options);   draws into the element, whose content it replaces
@@ -16,7 +16,7 @@
  *     variables   a list of [name, value] as `regs` prints them; a value is a text: '7', 'nil' or '#3'
  *     objects     a list of {name: '#3', head: 'Node', count: 1, cells: [[name, value], ..]} as `cells` prints them;
  *                 in the place of an object may stand a number, which is its index in data.objects
- *     note        what the program says there beside the place, as 'fault 3 Delocal' (may be missing)
+ *     note        what the program says there besides the place, as 'fault 3 Delocal' (may be missing)
  *   objects     the objects that positions name by their index (may be missing)
  * options (may be missing):
  *   start       the index that is shown first
@@ -254,7 +254,7 @@ globalThis.RooplFilm = (() => {
       return this.positions[index].variables.slice(fields);
     }
 
-    /* The open calls at a position, the innermost first: the index of the statement in each, and its object. */
+    /* The active calls at a position, the innermost first: the index of the statement in each, and its object. */
     calls(index) {
       const calls = [];
       let at = index;
@@ -297,7 +297,7 @@ globalThis.RooplFilm = (() => {
     return made;
   }
 
-  /* The boxes of a position: its open calls with their variables, and its objects and arrays. */
+  /* The boxes of a position: its active calls with their variables, and its objects and arrays. */
   function boxesOf(run, index) {
     const calls = run.calls(index).slice(0, 1 + OUTER_FRAMES);
     const frames = calls.map((call, outer) => frameBox(run, call, outer)).filter((box, outer) => outer === 0 || box.rows.length);

@@ -63,7 +63,7 @@ class Browser:
         shutil.rmtree(self.folder, ignore_errors=True)
 
     def call(self, method: str, **words) -> Dict[str, Any]:
-        """Calls a method of the protocol, and gives its result; events that come meanwhile are kept."""
+        """Calls a method of the protocol, and gives its result; events that come before it are kept."""
         self.last += 1
         message = {'id': self.last, 'method': method, 'params': words}
         if self.session:
@@ -93,7 +93,7 @@ class Browser:
         return [each['params'] for each in self.events if each['method'] == event]
 
     def open(self, path: str, mark: str = '') -> None:
-        """Opens a file, with a mark behind its address, and waits until it is there."""
+        """Opens a file, with a mark after its address, and waits until it is there."""
         self.call('Page.navigate', url='about:blank')
         self.events = []
         self.call('Page.navigate', url=f'file://{os.path.abspath(path)}{mark}')
@@ -121,7 +121,7 @@ class Browser:
                       modifiers=8 if shift else 0)
 
     def resize(self, width: int, height: int, dark: bool = False, scale: float = 1) -> None:
-        """Gives the page a size, and the colours that its reader wants."""
+        """Gives the page a size, and the colours that its reader prefers."""
         self.call('Emulation.setDeviceMetricsOverride', width=width, height=height, deviceScaleFactor=scale, mobile=False)
         self.call('Emulation.setEmulatedMedia', features=[{'name': 'prefers-color-scheme', 'value': 'dark' if dark else 'light'}])
 

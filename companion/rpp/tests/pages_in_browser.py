@@ -189,7 +189,7 @@ class FilmPage(PageTest):
         self.is_alone(path)
 
     def test_film_in_a_page_of_others(self):
-        """Without `keys` a film hears those inside it alone, and `remove` ends it."""
+        """Without `keys` a film hears only those inside it, and `remove` ends it."""
         self.opened(film, [self.written('turns.rpp', TURNS.encode())])
         self.browser.value(f'''film.remove(), document.body.innerHTML = '<textarea>ab</textarea><div id="here"></div>',
             globalThis.moves = [],

@@ -98,7 +98,7 @@ class Scripts(Case):
         self.assertIn('changed: y: 0 -> 6\n', printed)
         self.assertIn('this statement changes y: 0 -> 6\n', printed)
         self.assertIn('changed: n: 6 -> 3\n', printed)
-        self.assertIn('the call in which n stands has ended\n', printed)
+        self.assertIn('the call that has n has ended\n', printed)
         self.assertIn('there is no zz here\n', printed)
 
     def test_objects_and_calls_on_elements(self):

@@ -1,5 +1,5 @@
 """The exercises of the course, docs/learn/exercises: each is a text that the program accepts and that is not yet solved; the
-solution of examples/solutions solves it; and a wrong solution is told why."""
+solution of examples/solutions solves it; and the answer to a wrong solution says why."""
 import os
 import re
 import unittest
@@ -18,7 +18,7 @@ Edits = Tuple[Tuple[str, str], ...]
 
 class Solved(NamedTuple):
     """How an exercise is solved, and how it is not: the file of the solutions page and the edits that make it the solution (of a
-    question, which has no file, the edits of the exercise); and an edit of the solution that is wrong, with words that tell why."""
+    question, which has no file, the edits of the exercise); and an edit of the solution that is wrong, with words that say why."""
     file: str
     edits: Edits
     wrong: Edits

@@ -1,4 +1,4 @@
-"""What the language server shows beside names: quick fixes, colours, signatures, lenses, symbols of a folder, warnings; and how long an
+"""What the language server shows besides names: quick fixes, colours, signatures, lenses, symbols of a folder, warnings; and how long an
 answer takes after a keystroke."""
 import glob
 import json

@@ -1,4 +1,4 @@
-"""`rpp film`, but for its page in a browser, which tests/test-pages tries. Expected values are worked out by hand."""
+"""`rpp film`, except its page in a browser, which tests/test-pages tries. Expected values are worked out by hand."""
 import os
 import re
 import unittest
@@ -24,7 +24,7 @@ method down()
   x += 4
   uncall up()
 '''
-# the line, the open calls, whether it is undone, and x before it
+# the line, the active calls, whether it is undone, and x before it
 TURNS_POINTS = [
     (4, 1, False, 0), (5, 1, False, 5), (10, 2, False, 5), (11, 2, False, 6), (6, 1, False, 8), (11, 2, True, 8),
     (10, 2, True, 6), (7, 1, False, 5), (14, 2, True, 5), (10, 3, False, 5), (11, 3, False, 6), (13, 2, True, 8),

@@ -1,4 +1,4 @@
-"""`rpp heap`: the memory by docs/reference/machine.md and the book of free blocks by docs/reference/language.md, worked out by hand; the frames
+"""`rpp heap`: the memory by docs/reference/machine.md and the free lists by docs/reference/language.md, worked out by hand; the frames
 against what `trace` says at the same statement."""
 import re
 import unittest
@@ -29,9 +29,9 @@ class HeapTest(Folder):
         before, middle, after = self.moments(b'class P int x method main() x += 5', '--heap', '1')
         self.assertEqual(before, [
             'before the run, 0 steps', '  main object  @40 P, count 1: x=0', '  heap of 2 words from 46, 0 taken  [..]',
-            '        46      2 words  free, order 1', '  free blocks by order   order 1: 46', '  no open call'])
+            '        46      2 words  free, order 1', '  free blocks by order   order 1: 46', '  no active call'])
         self.assertEqual(after[1:], ['  main object  @40 P, count 1: x=5'] + before[2:])
-        self.assertEqual(middle[-2:], ['  open calls, a frame of 512 words each from 48', '        48  P::main on @40'])
+        self.assertEqual(middle[-2:], ['  active calls, a frame of 512 words each from 48', '        48  P::main on @40'])
 
     def test_blocks_that_stay_apart(self):
         *_, after = self.moments(APART, '--heap', '2')
@@ -56,10 +56,10 @@ class HeapTest(Folder):
             '  heap of 32 words from 64, 16 taken  [................################]',
             '        64     16 words  free, order 4', '        80      4 words  P2, count 1: f=0 g=0',
             '        84      4 words  P0[2], count 1: nil @80', '        88      8 words  int[3], count 1: 0 7 0',
-            '  free blocks by order   order 4: 64', '  no open call'])
+            '  free blocks by order   order 4: 64', '  no active call'])
 
     def test_array_as_long_as_the_address_of_a_table(self):
-        # (the tables stand at 43 and 45; an array of 43 elements has that number in its first word)
+        # (the tables are at 43 and 45; an array of 43 elements has that number in its first word)
         *_, after = self.moments(b'class P int[] a method main() new int[43] a class Q method q() skip', '--heap', '7')
         self.assertTrue(any('int[43], count 1:' in row for row in after), after)
 

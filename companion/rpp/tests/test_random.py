@@ -35,8 +35,8 @@ class Maker:
         if kind == 'swap':
             return f'{indent}{" <=> ".join(self.random.sample(names, 2))}\n'
         if kind == 'call' and level:
-            target = f'{"shelf::" if self.random.random() < 0.3 else ""}m{level - 1}()'
-            return f'{indent}{self.random.choice(["call", "uncall"])} {target.replace("shelf::m", "shelf::s")}\n'
+            target = f'{"rack::" if self.random.random() < 0.3 else ""}m{level - 1}()'
+            return f'{indent}{self.random.choice(["call", "uncall"])} {target.replace("rack::m", "rack::s")}\n'
         if kind == 'if':
             return (f'{indent}if {names[0]} < 4 then\n{self.block(names[1:], inner, deep - 1, level)}{indent}else\n'
                     f'{self.block(names[1:], inner, deep - 1, level)}{indent}fi {names[0]} < 4\n') if len(names) > 3 else \
@@ -54,20 +54,20 @@ class Maker:
             return (f'{indent}local int {name} = 0\n{indent}from {name} = 0 do\n{body}{inner}{name} += 1\n{indent}loop skip\n'
                     f'{indent}until {name} = 2\n{indent}delocal int {name} = 2\n')
         if kind == 'object':
-            return (f'{indent}construct Shelf {name}\n{inner}call {name}::s0()\n{inner}uncall {name}::s0()\n'
+            return (f'{indent}construct Rack {name}\n{inner}call {name}::s0()\n{inner}uncall {name}::s0()\n'
                     f'{indent}destruct {name}\n')
         if kind == 'array':
-            return f'{indent}call shelves[{self.random.randrange(2)}]::s0()\n'
+            return f'{indent}call racks[{self.random.randrange(2)}]::s0()\n'
         return self.update(names, indent)
 
     def program(self) -> str:
         fields = ['a', 'b', 'c', 'd', 'e']
-        text = 'class P\n' + ''.join(f'  int {name}\n' for name in fields) + '  Shelf shelf\n  Shelf[] shelves\n'
-        text += 'method main()\n  new Shelf shelf\n  new Shelf[2] shelves\n  new Shelf shelves[0]\n  new Shelf shelves[1]\n'
+        text = 'class P\n' + ''.join(f'  int {name}\n' for name in fields) + '  Rack rack\n  Rack[] racks\n'
+        text += 'method main()\n  new Rack rack\n  new Rack[2] racks\n  new Rack racks[0]\n  new Rack racks[1]\n'
         text += '  d += 6\n' + ''.join(self.statement(fields, '  ', 3, 3) for _ in range(5))
         for level in range(3):
             text += f'method m{level}()\n{self.block(fields, "  ", 2, level)}'
-        text += 'class Shelf\n  int held\n  int kept\n'
+        text += 'class Rack\n  int held\n  int kept\n'
         for level in range(3):
             text += f'method s{level}()\n  held += {level + 1}\n'
             text += f'  call s{level - 1}()\n  kept ^= held\n' if level else ''
@@ -91,7 +91,7 @@ class Positions(Case):
         return count
 
     def printed(self, output: str):
-        """Of each position that `trace` printed: its number, its place, its depth, and what `regs` and `cells` say."""
+        """For each position that `trace` printed: its number, its place, its depth, and what `regs` and `cells` say."""
         found = re.findall(r'^at (\d+) (?:place (\d+) depth (\d+)|end)[^\n]*\n((?:[^a\n].*\n|a =.*\n|a[^t\n].*\n)*)', output, re.M)
         return [(position, place, depth, body) for position, place, depth, body in found]
 

@@ -241,7 +241,7 @@ method fill(int v)
 """
 
     def labels(self, first='', second='', hole=0):
-        """What can stand in a hole of the text, the other one being filled."""
+        """What can fill a hole of the text, the other one being filled."""
         parts = self.TEXT.split('{}')
         written = [first, second]
         before = parts[0] + written[0] + (parts[1] + written[1] if hole else '')

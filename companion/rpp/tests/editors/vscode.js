@@ -1,5 +1,6 @@
-// Reads editors/vscode as Visual Studio Code would, over a small stand-in for its module `vscode`: `node vscode.js`, with $RPP_TOP
-// the repository and $RPP_FOLDER a folder to write in. It writes a line `ok NAME` or `FAILED NAME: why` for each trial into `said`.
+// Reads editors/vscode as Visual Studio Code would, over a small substitute for its module `vscode`. It is called as
+// `node vscode.js`, with $RPP_TOP the repository and $RPP_FOLDER a folder to write in. It writes a line `ok NAME` or
+// `FAILED NAME: why` for each trial into `said`.
 'use strict';
 const assert = require('assert');
 const fs = require('fs');
@@ -81,11 +82,11 @@ async function manifest() {
 
 async function diagnostics() {
   events.open(text('a.rpp', 1, wrong));
-  assert(await until(() => told.has('file:///a.rpp')), 'nothing was told');
+  assert(await until(() => told.has('file:///a.rpp')), 'no message came');
   const [it] = told.get('file:///a.rpp');
   assert.deepStrictEqual([it.range.start.line, it.range.start.character, it.severity, it.code.value], [4, 2, 0, 16]);
   events.change({ document: text('a.rpp', 2, wrong.replace('x += x', 'x  += 2')) });
-  assert(await until(() => told.get('file:///a.rpp').length === 0), 'the change was not judged');
+  assert(await until(() => told.get('file:///a.rpp').length === 0), 'the change was not checked');
 }
 
 async function answers() {
@@ -109,7 +110,7 @@ async function more() {
   const place = new Position(4, 9);
   const document = text('c.rpp', 1, content);
   events.open(document);
-  assert(await until(() => told.has('file:///c.rpp')), 'nothing was told');
+  assert(await until(() => told.has('file:///c.rpp')), 'no message came');
   const help = await provided.registerSignatureHelpProvider.provideSignatureHelp(document, place);
   assert.strictEqual(help.signatures[0].given[0], 'f(int n)');
   const tokens = await provided.registerDocumentSemanticTokensProvider.provideDocumentSemanticTokens(document);
@@ -142,7 +143,7 @@ async function restarting() {
   const document = text('b.rpp', 1, wrong);
   vscode.workspace.textDocuments = [document];
   provided['rpp.restart']();
-  assert(await until(() => (told.get('file:///b.rpp') || []).length === 1), 'nothing was told');
+  assert(await until(() => (told.get('file:///b.rpp') || []).length === 1), 'no message came');
 }
 
 (async () => {
