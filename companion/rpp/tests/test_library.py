@@ -47,12 +47,12 @@ class LibraryTest(Case):
         done = self.python(code % names, os.path.join(TOP, 'companion'))
         self.assertEqual((done.stdout, done.stderr), ('5 []\n', ''))
 
-    def test_citation_is_of_a_version(self):
+    def test_citation_is_of_the_newest_version(self):
         with open(os.path.join(TOP, 'CITATION.cff'), encoding='utf-8') as file:
             told = dict(re.findall(r'^([a-z-]+): (\S.*)$', file.read(), re.M))
         with open(os.path.join(TOP, 'CHANGELOG.md'), encoding='utf-8') as file:
             versions = dict(re.findall(r'^## (\d\S*) \((.*)\)$', file.read(), re.M))
-        self.assertEqual(versions.get(told['version']), told['date-released'])
+        self.assertEqual((told['version'], told['date-released']), next(iter(versions.items())))
         self.assertEqual((told['cff-version'], told['type']), ('1.2.0', 'software'))
 
     def test_values(self):
