@@ -8,12 +8,12 @@ use Rattle.command_line.specs.rpp_probes.Tally.{Watch}
 use Rattle.command_line.specs.command_plan.Plans.{Planned, code_of}
 use Rattle.command_line.specs.Lines.{Asked}
 use Rattle.rpp_command.specs.Plans.{IsPlan}
-use Rattle.rpp_command.specs.Answers.{Leaves, CarriesOut}
+use Rattle.rpp_command.specs.Told.{Leaves, CarriesOutTold}
 
 pub carries_out : (line : Asked) (probes kept : List Watch) (told mid after : Option Texts) (old new : Option (List ℕ))
     (p : Planned) → (count made : ℕ) → count ≡ 0 → IsPlan line probes kept count made told p → mid ≡ told
     → Appends old new p.text → Leaves mid after p.writing
-    → CarriesOut line probes kept told after (code_of p.verdict) old new
+    → CarriesOutTold line probes kept told after (code_of p.verdict) old new
 carries_out line probes kept told mid after old new p count made none is same said left = record {
   plan = p;
   made = made;

@@ -2,19 +2,15 @@
 use Rattle.std.proofs.Common.{◌≡◌, refl, ℕ, ◌≤◌, List, None, Some, inl, inr, IsSomeAnd, subst}
 use Rattle.std.specs.Io.KnownBytes.{Keeps}
 use Rattle.std.specs.declared.option.Option.{Option}
-use Rattle.std.proofs.lemmas.Bool.Decides.{nat_tests}
-use Rattle.std.proofs.Common.{arith}
 use Rattle.command_line.specs.rpp_ports.Ports.{Texts, Rose}
 use Rattle.command_line.specs.rpp_probes.Tally.{Watch}
 use Rattle.command_line.specs.command_plan.Plans.{Planned, Written}
 use Rattle.command_line.specs.command_plan.declared.status.Broken.{Broken}
 use Rattle.command_line.specs.command_plan.declared.status.Broken.TheVariants.{Outside, NoMemory}
 use Rattle.command_line.specs.Lines.{Asked, Turn, Profile}
+use Rattle.rpp_command.proofs.Fetched.{rose_before}
 use Rattle.rpp_command.specs.Plans.{IsPlan, LeavesProbes}
-use Rattle.rpp_command.specs.Answers.{LeavesUnwritten, BreaksOff, EndsEarly}
-
-rose_before : (before mid now : ℕ) → before ≤ mid → Rose mid now → Rose before now
-rose_before before mid now h rose = grind (arith, nat_tests)
+use Rattle.rpp_command.specs.Told.{LeavesUnwritten, BreaksOff, EndsEarly}
 
 -- another rise of the file store's count is as good
 
@@ -61,7 +57,7 @@ keeps_same : (written : Option (List ℕ)) → Keeps written written
 keeps_same None = tt
 keeps_same (Some xs) = refl
 
-leaves_same : (line : Asked) (probes : List Watch) (told : Option Texts) → LeavesProbes line probes probes told
+pub leaves_same : (line : Asked) (probes : List Watch) (told : Option Texts) → LeavesProbes line probes probes told
 unfolding LeavesProbes
 leaves_same (Turn file heap deep steps input) probes told = inl refl
 leaves_same (Profile file heap deep steps) probes told = inl refl

@@ -1,14 +1,24 @@
 // The top call.
-ghost use Rattle.std.specs.Prelude.{◌≡◌, ◌≢◌, false, ◌⊎◌, ◌≤◌, ◌<◌, OnOk, map, string_bytes, IfOk, IfErr, IfSome, IsErrOf, IsTrue};
+ghost use Rattle.std.specs.Prelude.{◌≡◌, ◌≢◌, Some, false, ◌⊎◌, ◌≤◌, ◌<◌, OnOk, map, string_bytes, IfOk, IfErr, IfSome, IsErrOf, IsTrue};
 ghost use Rattle.command_line.specs.rpp_ports.Ports.{Rose};
 ghost use Rattle.command_line.specs.Lines.{asked, line_of, HasShortNumbers};
-ghost use Rattle.command_line.specs.command_plan.Plans.{GivesPlan, code_of};
+ghost use Rattle.command_line.specs.command_plan.Plans.{GivesPlan, code_of, planned};
+ghost use Rattle.command_line.specs.command_plan.Statuses.{served_status};
+ghost use Rattle.command_line.specs.command_plan.declared.plan.NoPlan.TheVariants.{NoMemory};
 ghost use Rattle.rpp_command.specs.Plans.{IsPlan, LeavesProbes};
 ghost use Rattle.command_line.specs.command_plan.Files.{OnlyReads, Unreadable, UnreadCause, LacksOne};
 ghost use Rattle.rpp_command.specs.Causes.{KeepsButTarget, files_of, needed, target, target_of, tell, tells};
-ghost use Rattle.rpp_command.specs.Answers.{CarriesOut, Answers, EndsEarly};
+ghost use Rattle.rpp_command.specs.Answers.{Answers};
+ghost use Rattle.rpp_command.specs.Serving.{PlansRead, StopsPlan};
+ghost use Rattle.rpp_command.specs.Places.{placed};
+ghost use Rattle.rpp_command.specs.Held.{held_texts};
+ghost use Rattle.rpp_command.specs.Told.{CarriesOutTold, AnswersTold, EndsEarly};
 
+use crate::fetching::fetch;
 use crate::finish::{finish, say};
+use crate::held_shelf::HeldShelf;
+use crate::placing::{place_images, place_input, place_states};
+use crate::reading::wanted_files;
 use cluster_commands::cluster;
 use command_line::{Line, read_words};
 use command_plan::{Broken, NoPlan, Plan, Room, Sizes, Verdict, status_of};
@@ -32,9 +42,19 @@ pub fn rooplpp<S: Shelf, K: Sink, P: Probes>(
     out: &mut K,
     probes: &mut P,
 ) -> u8
-    // The whole result.
-    ensures answer { result ≢ 2 → result ≢ 7 →
-        Answers (line_of (map string_bytes words.now)) (P.watches probes.old) (P.watches probes.new)
+    // All that is asked of the outside, and the status. The files of the line are read, each once and
+    // in order, up to the first that fails. The plan is one of the texts that they gave. Then its file
+    // is written once, if it has one, and its text is put once. Nothing else is asked.
+    ensures answer { Answers (line_of (map string_bytes words.now)) (P.watches probes.old)
+        (P.watches probes.new) (Rose (S.faults shelf.old) (S.faults shelf.new))
+        (record { texts = S.texts shelf.old; calls = S.events shelf.old })
+        (record { texts = S.texts shelf.new; calls = S.events shelf.new })
+        (record { bytes = K.written out.old; puts = K.puts out.old })
+        (record { bytes = K.written out.new; puts = K.puts out.new }) result }
+
+    // The result, if the texts of the file store and the bytes of the sink are known.
+    ensures told { result ≢ 2 → result ≢ 7 →
+        AnswersTold (line_of (map string_bytes words.now)) (P.watches probes.old) (P.watches probes.new)
         (S.texts shelf.old) (S.texts shelf.new) result (K.written out.old) (K.written out.new) }
 
     // 1 comes exactly if the words are no line.
@@ -114,9 +134,16 @@ fn serve<S: Shelf, K: Sink, P: Probes, L: Ledger>(
     requires parts { blank.parts ≡ L.parts }
     requires has_a_part { 0 < L.parts }
     ensures carried { IfOk result (λ verdict.
-        CarriesOut (asked line.now) (P.watches probes.old) (P.watches probes.new)
+        CarriesOutTold (asked line.now) (P.watches probes.old) (P.watches probes.new)
         (S.texts shelf.old) (S.texts shelf.new) (code_of verdict) (K.written out.old)
         (K.written out.new)) }
+    ensures answers { Answers (Some (asked line.now)) (P.watches probes.old) (P.watches probes.new)
+        (Rose (S.faults shelf.old) (S.faults shelf.new))
+        (record { texts = S.texts shelf.old; calls = S.events shelf.old })
+        (record { texts = S.texts shelf.new; calls = S.events shelf.new })
+        (record { bytes = K.written out.old; puts = K.puts out.old })
+        (record { bytes = K.written out.new; puts = K.puts out.new })
+        (served_status (Some result)) }
     ensures outside { IsErrOf result Broken.Outside
         → Unreadable (S.texts shelf.old) (files_of (asked line.now))
         (Rose (S.faults shelf.old) (S.faults shelf.new)
@@ -135,12 +162,14 @@ fn serve<S: Shelf, K: Sink, P: Probes, L: Ledger>(
     ensures probes { tells (asked line.now) ≡ false → probes.new ≡ probes.old }
 {
     let mut steps = Steps::<L>::new(blank);
-    let plan = match plan_line(alloc, line, shelf, probes, &mut steps) {
+    let plan = match plan_files(alloc, line, shelf, probes, &mut steps) {
         Ok(plan) => plan,
         Err(NoPlan::NoMemory) => return Err(Broken::NoMemory),
         Err(NoPlan::Unread { text }) => {
-            say(out, text.as_str())?;
-            return Err(Broken::Outside);
+            match say(out, text.as_str()) {
+                Ok(()) => return Err(Broken::Outside),
+                Err(broken) => return Err(broken),
+            }
         }
     };
     match finish(alloc, shelf, out, &plan) {
@@ -149,9 +178,9 @@ fn serve<S: Shelf, K: Sink, P: Probes, L: Ledger>(
     }
 }
 
-// The plan of a line.
-#[tactic(auto, unfolding(crate::specs::Plans::IsPlan, crate::specs::Plans::LeavesProbes, crate::specs::Causes::files_of, crate::specs::Causes::tells))]
-fn plan_line<S: Shelf, P: Probes, L: Ledger>(
+// The plan of a line. Its files are read first, each once and in order. What makes the plan sees
+// their texts, and nothing of the outside.
+fn plan_files<S: Shelf, P: Probes, L: Ledger>(
     alloc: Global,
     line: &Line,
     shelf: &mut S,
@@ -162,6 +191,13 @@ fn plan_line<S: Shelf, P: Probes, L: Ledger>(
     ensures plan { GivesPlan (S.texts shelf.old)
         (IsPlan (asked line.now) (P.watches probes.old) (P.watches probes.new) counter.old
         counter.new) result }
+    ensures planned { IfOk result (λ plan. PlansRead (asked line.now) (P.watches probes.old)
+        (P.watches probes.new) counter.old counter.new (S.texts shelf.old) (S.events shelf.old)
+        (S.events shelf.new) (planned plan)) }
+    ensures stops { IfErr result (StopsPlan (asked line.now) (P.watches probes.old)
+        (P.watches probes.new) (Rose (S.faults shelf.old) (S.faults shelf.new))
+        (record { texts = S.texts shelf.old; calls = S.events shelf.old })
+        (record { texts = S.texts shelf.new; calls = S.events shelf.new })) }
     ensures reads { OnlyReads (S.texts shelf.old) (S.texts shelf.new) (S.faults shelf.old)
         (S.faults shelf.new) (files_of (asked line.now)) result }
     ensures untold { IfErr result (UnreadCause (P.watches probes.new ≡ P.watches probes.old)) }
@@ -169,51 +205,110 @@ fn plan_line<S: Shelf, P: Probes, L: Ledger>(
         (P.watches probes.new) (S.texts shelf.old)) }
     ensures probes { tells (asked line.now) ≡ false → probes.new ≡ probes.old }
 {
+    let files = match wanted_files(alloc, line) {
+        Ok(files) => files,
+        Err(_error) => return Err(NoPlan::NoMemory),
+    };
+    let texts = match fetch(alloc, shelf, &files, "") {
+        Ok(texts) => texts,
+        Err(stop) => return Err(stop),
+    };
+    let mut held = HeldShelf::new(alloc, texts);
+    plan_held(alloc, line, &mut held, probes, counter)
+}
+
+// The plan of a line of texts that were all read. So nothing but want of memory can stop it.
+fn plan_held<P: Probes, L: Ledger>(
+    alloc: Global,
+    line: &Line,
+    held: &mut HeldShelf,
+    probes: &mut P,
+    counter: &mut Steps<L>,
+) -> Result<Plan, NoPlan>
+    requires numbers { HasShortNumbers (asked line.now) }
+    requires whole { ¬ LacksOne (held_texts held.old) (files_of (placed (asked line.now))) }
+    ensures plan { IfOk result (λ plan. IsPlan (placed (asked line.now)) (P.watches probes.old)
+        (P.watches probes.new) counter.old counter.new (Some (held_texts held.old)) (planned plan)) }
+    ensures memory { IfErr result (λ stop. stop ≡ NoMemory) }
+    ensures short { IfErr result (λ _. LeavesProbes (placed (asked line.now))
+        (P.watches probes.old) (P.watches probes.new) (Some (held_texts held.old))) }
+    ensures probes { tells (asked line.now) ≡ false → probes.new ≡ probes.old }
+{
+    match plan_line(alloc, line, held, probes, counter) {
+        Ok(plan) => Ok(plan),
+        Err(NoPlan::NoMemory) => Err(NoPlan::NoMemory),
+        Err(NoPlan::Unread { text: _text }) => unreachable!(),
+    }
+}
+
+// The plan of a line whose files have the names of their places.
+#[tactic(auto, unfolding(crate::specs::Plans::IsPlan, crate::specs::Plans::LeavesProbes, crate::specs::Causes::files_of, crate::specs::Causes::tells, crate::specs::Places::placed))]
+fn plan_line<S: Shelf, P: Probes, L: Ledger>(
+    alloc: Global,
+    line: &Line,
+    shelf: &mut S,
+    probes: &mut P,
+    counter: &mut Steps<L>,
+) -> Result<Plan, NoPlan>
+    requires { HasShortNumbers (asked line.now) }
+    ensures plan { GivesPlan (S.texts shelf.old)
+        (IsPlan (placed (asked line.now)) (P.watches probes.old) (P.watches probes.new) counter.old
+        counter.new) result }
+    ensures reads { OnlyReads (S.texts shelf.old) (S.texts shelf.new) (S.faults shelf.old)
+        (S.faults shelf.new) (files_of (placed (asked line.now))) result }
+    ensures short { IfErr result (λ _. LeavesProbes (placed (asked line.now)) (P.watches probes.old)
+        (P.watches probes.new) (S.texts shelf.old)) }
+    ensures probes { tells (asked line.now) ≡ false → probes.new ≡ probes.old }
+{
     match line {
-        Line::Check { file } => check(alloc, shelf, file.as_str()),
-        Line::Compile { file, image } => compile_file(alloc, shelf, file.as_str(), image.as_str()),
-        Line::Asm { text, image } => asm(alloc, shelf, text.as_str(), image.as_str()),
-        Line::List { image, text } => list(alloc, shelf, image.as_str(), text.as_str()),
-        Line::Flip { image, flipped } => flip(alloc, shelf, image.as_str(), flipped.as_str()),
-        Line::ShowInverse { file, out } => {
-            show_inverse(alloc, shelf, file.as_str(), out.as_str())
-        }
+        Line::Check { file: _ } => check(alloc, shelf, ""),
+        Line::Compile { file: _, image } => compile_file(alloc, shelf, "", image.as_str()),
+        Line::Asm { text: _, image } => asm(alloc, shelf, "", image.as_str()),
+        Line::List { image: _, text } => list(alloc, shelf, "", text.as_str()),
+        Line::Flip { image: _, flipped } => flip(alloc, shelf, "", flipped.as_str()),
+        Line::ShowInverse { file: _, out } => show_inverse(alloc, shelf, "", out.as_str()),
         Line::Generate { seed, size, out } => generate(alloc, shelf, *seed, *size, out.as_str()),
         Line::Cluster {
-            script,
+            script: _,
             cells,
             images,
-        } => cluster(alloc, shelf, script.as_str(), *cells, images),
+        } => {
+            let images = place_images(alloc, images, "a")?;
+            cluster(alloc, shelf, "", *cells, &images)
+        }
         Line::Run {
-            image,
+            image: _,
             heap,
             deep,
             steps,
             states,
-        } => run(
-            alloc,
-            shelf,
-            image.as_str(),
-            states,
-            Sizes {
-                room: Room {
-                    heap: *heap,
-                    deep: *deep,
+        } => {
+            let states = place_states(alloc, states)?;
+            run(
+                alloc,
+                shelf,
+                "",
+                &states,
+                Sizes {
+                    room: Room {
+                        heap: *heap,
+                        deep: *deep,
+                    },
+                    bound: *steps,
                 },
-                bound: *steps,
-            },
-            counter,
-        ),
+                counter,
+            )
+        }
         Line::Debug {
-            image,
+            image: _,
             heap,
             deep,
-            script,
+            script: _,
         } => debug(
             alloc,
             shelf,
-            image.as_str(),
-            script.as_str(),
+            "",
+            "a",
             Room {
                 heap: *heap,
                 deep: *deep,
@@ -221,72 +316,81 @@ fn plan_line<S: Shelf, P: Probes, L: Ledger>(
             counter,
         ),
         Line::Trace {
-            file,
+            file: _,
             heap,
             deep,
-            script,
+            script: _,
             input,
-        } => trace(
-            alloc,
-            shelf,
-            file.as_str(),
-            script.as_str(),
-            input,
-            Room {
-                heap: *heap,
-                deep: *deep,
-            },
-        ),
+        } => {
+            let input = place_input(alloc, input, "aa")?;
+            trace(
+                alloc,
+                shelf,
+                "",
+                "a",
+                &input,
+                Room {
+                    heap: *heap,
+                    deep: *deep,
+                },
+            )
+        }
         Line::Go {
-            file,
+            file: _,
             heap,
             deep,
             steps,
             input,
-        } => go(
-            alloc,
-            shelf,
-            file.as_str(),
-            input,
-            Sizes {
-                room: Room {
-                    heap: *heap,
-                    deep: *deep,
+        } => {
+            let input = place_input(alloc, input, "a")?;
+            go(
+                alloc,
+                shelf,
+                "",
+                &input,
+                Sizes {
+                    room: Room {
+                        heap: *heap,
+                        deep: *deep,
+                    },
+                    bound: *steps,
                 },
-                bound: *steps,
-            },
-            counter,
-        ),
+                counter,
+            )
+        }
         Line::Turn {
-            file,
+            file: _,
             heap,
             deep,
             steps,
             input,
-        } => turn(
-            alloc,
-            shelf,
-            file.as_str(),
-            input,
-            Sizes {
-                room: Room {
-                    heap: *heap,
-                    deep: *deep,
+        } => {
+            let input = place_input(alloc, input, "a")?;
+            turn(
+                alloc,
+                shelf,
+                "",
+                &input,
+                Sizes {
+                    room: Room {
+                        heap: *heap,
+                        deep: *deep,
+                    },
+                    bound: *steps,
                 },
-                bound: *steps,
-            },
-            probes,
-            counter,
-        ),
+                probes,
+                counter,
+            )
+        }
         Line::Profile {
-            file,
+            file: _,
             heap,
             deep,
             steps,
         } => profile(
             alloc,
             shelf,
-            file.as_str(),
+            "",
             Sizes {
                 room: Room {
                     heap: *heap,
@@ -298,45 +402,51 @@ fn plan_line<S: Shelf, P: Probes, L: Ledger>(
             counter,
         ),
         Line::Wrap {
-            file,
+            file: _,
             heap,
             deep,
             steps,
             names,
             input,
-        } => wrap(
-            alloc,
-            shelf,
-            file.as_str(),
-            names.as_str(),
-            input,
-            Sizes {
-                room: Room {
-                    heap: *heap,
-                    deep: *deep,
+        } => {
+            let input = place_input(alloc, input, "a")?;
+            wrap(
+                alloc,
+                shelf,
+                "",
+                names.as_str(),
+                &input,
+                Sizes {
+                    room: Room {
+                        heap: *heap,
+                        deep: *deep,
+                    },
+                    bound: *steps,
                 },
-                bound: *steps,
-            },
-            counter,
-        ),
+                counter,
+            )
+        }
         Line::Explain {
-            file,
+            file: _,
             heap,
             deep,
             fuel,
             input,
-        } => explain(
-            alloc,
-            shelf,
-            file.as_str(),
-            input,
-            Sizes {
-                room: Room {
-                    heap: *heap,
-                    deep: *deep,
+        } => {
+            let input = place_input(alloc, input, "a")?;
+            explain(
+                alloc,
+                shelf,
+                "",
+                &input,
+                Sizes {
+                    room: Room {
+                        heap: *heap,
+                        deep: *deep,
+                    },
+                    bound: *fuel,
                 },
-                bound: *fuel,
-            },
-        ),
+            )
+        }
     }
 }
