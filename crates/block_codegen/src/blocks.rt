@@ -11,13 +11,12 @@ ghost use Rattle.block_codegen.specs.Pieces.{StatementStands, StandsIn, HaveMark
 
 use crate::objects::{making_piece, object_var};
 use crate::plain::plain_piece;
-use branch_codegen::{from_code, if_code};
 use code_scope::Scope;
 use paired_code::{Piece, empty, marked, seq};
 use rpp_tree::place_of;
 use rpp_tree::tree::{Block, Stmt};
 use rpp_words::NoMemory;
-use statement_codegen::{construct_code, local_code};
+use statement_codegen::{construct_code, from_code, if_code, local_code};
 use std::alloc::Global;
 
 /// The code of a block in this scope: the code of its statements, one after the other, with a mark

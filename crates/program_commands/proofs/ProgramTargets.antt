@@ -9,13 +9,12 @@ use Rattle.image_inverter.specs.pisa_isa.declared.machine.Stop.TheVariants.{Fini
 use Rattle.roopl_judge.specs.rpp_ports.Ports.{Texts}
 use Rattle.roopl_judge.specs.rpp_words.declared.input.FieldWord.{FieldWord}
 use Rattle.roopl_judge.specs.pisa_loader.declared.error.LoadError.{LoadError}
-use Rattle.program_commands.specs.Inputs.{given_input}
-use Rattle.roopl_judge.specs.class_table.Refusal.{Refusal}
+use Rattle.run_settings.specs.Inputs.{given_input}
 use Rattle.roopl_judge.specs.command_plan.Plans.{Planned, WritesOnly}
 use Rattle.roopl_judge.specs.rpp_probes.Tally.{Watch}
-use Rattle.program_commands.specs.ProgramPlans.{OfProgram, WritesImage, IsCheckPlan, IsCompilePlan, ChecksFile}
+use Rattle.program_commands.specs.ProgramPlans.{WritesImage, IsCheckPlan, IsCompilePlan, ChecksFile}
 use Rattle.program_commands.specs.ProgramPlans.{CompilesFile, ReportsStop, RunsImage}
-use Rattle.program_commands.specs.RunPlans.{RefusesInput, RefusesSizes, RefusesRun, IsGoPlan, IsTurnPlan, IsProfilePlan}
+use Rattle.program_commands.specs.RunPlans.{IsGoPlan, IsTurnPlan, IsProfilePlan}
 use Rattle.program_commands.specs.RunPlans.{GoesOn, TurnsFile, ProfilesFile}
 use Rattle.store_report.specs.roopl_semantics.Run.{Run, Done as OverWith, Fault, More}
 use Rattle.store_report.specs.roopl_semantics.Store.{State}
@@ -24,6 +23,7 @@ use Rattle.roopl_judge.specs.pisa_loader.Limiting.{limits_refusal}
 use Rattle.store_report.specs.source_meaning.declared.whole.TheConstants.{MOST_OPEN}
 use Rattle.program_commands.specs.Explained.{explained, IsExplainedInput, IsExplainedWithin, IsExplainPlan, Explains}
 use Rattle.roopl_judge.proofs.command_plan_laws.Writes.{along}
+use Rattle.run_settings.proofs.RefusedRuns.{judged_writes, refused_writes}
 
 stop_writes : (turns : Bool) (why : Stop) (program : Source) (limits : Limits) (input : List FieldWord)
     (first : List ℕ) (spent steps : ℕ) (p : Planned)
@@ -35,28 +35,6 @@ stop_writes turns Bound program limits input first spent steps p h = along p _ N
 stop_writes turns Returned program limits input first spent steps p h = absurd h
 stop_writes turns (BadAddress a) program limits input first spent steps p h = absurd h
 stop_writes turns (OffCode a) program limits input first spent steps p h = absurd h
-
--- what holds for the plans that P allows holds for all plans of a text: a refusal writes nothing
-pub judged_writes : (judgement : Result Source Refusal) (P : Source → Planned → Type 0) (name : Option (List ℕ))
-    (p : Planned) → ((program : Source) (q : Planned) → P program q → WritesOnly q name) → OfProgram P judgement p
-    → WritesOnly p name
-judged_writes (Err refusal) P name p f h = along p _ name h (inl refl)
-judged_writes (Ok program) P name p f h = f program p h
-
-input_refused_writes : (input : Result (List FieldWord) LoadError) (p : Planned) → RefusesInput input p
-    → WritesOnly p None
-input_refused_writes (Err e) p h = along p _ None h (inl refl)
-input_refused_writes (Ok input) p h = absurd h
-
-sizes_refused_writes : (refusal : Option LoadError) (given : List ℕ) (program : Source) (p : Planned)
-    → RefusesSizes refusal given program p → WritesOnly p None
-sizes_refused_writes (Some e) given program p h = along p _ None h (inl refl)
-sizes_refused_writes None given program p h = input_refused_writes (given_input program given) p h
-
-pub refused_writes : (text given : List ℕ) (heap deep : ℕ) (p : Planned) → RefusesRun text given heap deep p
-    → WritesOnly p None
-refused_writes text given heap deep p g =
-    judged_writes g.judgement _ None p (λ program q h. sizes_refused_writes _ given program q h) g.plan
 
 image_writes : (turns : Bool) (count counted : ℕ) (program : Source) (limits : Limits) (input : List FieldWord)
     (steps : ℕ) (p : Planned) → RunsImage turns count counted program limits input steps p → WritesOnly p None

@@ -21,8 +21,8 @@ use Rattle.roopl_judge.specs.command_plan.declared.plan.Verdict.TheVariants.{Don
 use Rattle.roopl_judge.specs.command_plan.Plans.{Planned, prints, WithText, WithInput}
 use Rattle.roopl_judge.specs.command_plan.Texts.{load_line}
 use Rattle.roopl_judge.specs.pisa_scripts.Stops.{fault_line}
-use Rattle.program_commands.specs.Inputs.{given_input}
-use Rattle.program_commands.specs.ProgramPlans.{IsJudgedPlan}
+use Rattle.run_settings.specs.Inputs.{given_input}
+use Rattle.run_settings.specs.Runnable.{IsJudgedPlan}
 
 -- the line on what a run costs
 abbrev pub cost_line : ℕ → List ℕ

@@ -12,10 +12,9 @@ pub use Rattle.store_report.specs.meaning_points
 pub use Rattle.store_report.specs as store_report
 pub use Rattle.roopl_judge.specs.command_plan
 pub use Rattle.roopl_judge.specs as roopl_judge
+pub use Rattle.run_settings.specs as run_settings
 pub mod ProgramPlans
 pub mod GoRun
-pub mod Inputs
 pub mod Explained
 pub mod RunPlans
 pub mod ToldShort
-pub mod Readied

@@ -1,7 +1,6 @@
 -- The plans of `check` and `compile`, and what a run of a program reports.
-use Rattle.std.specs.Prelude.{◌≡◌, ℕ, ◌+◌, ◌≤◌, ◌<◌, Bool, true, false, List, ◌++◌, length, Result}
-use Rattle.std.specs.Prelude.{Ok}
-use Rattle.std.specs.Prelude.{Err, codes}
+use Rattle.std.specs.Prelude.{◌≡◌, ℕ, ◌+◌, ◌≤◌, ◌<◌, Bool, true, false, List, ◌++◌, length, Ok}
+use Rattle.std.specs.Prelude.{codes}
 use Rattle.std.specs.declared.option.Option.{Option}
 use Rattle.std.specs.Fmt.{decimal}
 use Rattle.roopl_judge.specs.rpp_words.declared.input.FieldWord.{FieldWord}
@@ -9,7 +8,6 @@ use Rattle.roopl_judge.specs.rpp_words.declared.input.Limits.{Limits}
 use Rattle.roopl_judge.specs.rpp_tree.declared.limits.TheConstants.{MOST_BYTES}
 use Rattle.roopl_judge.specs.rpp_tree.Tree.{Source}
 use Rattle.roopl_judge.specs.rpp_ports.Ports.{Texts}
-use Rattle.roopl_judge.specs.class_table.Refusal.{Refusal}
 use Rattle.program_codegen.specs.Notes.{AreNotes}
 use Rattle.image_inverter.specs.pisa_isa.declared.machine.Stop.{Stop}
 use Rattle.image_inverter.specs.pisa_isa.declared.machine.Stop.TheVariants.{Finished, Trap, Bound as AtBound}
@@ -24,10 +22,9 @@ use Rattle.store_report.specs.roopl_semantics.Store.{State}
 use Rattle.store_report.specs.roopl_semantics.Source.{GivesDone, GivesFault, starting}
 use Rattle.store_report.specs.roopl_semantics.Report.{report}
 use Rattle.store_report.specs.roopl_semantics.StandsFor.{StandsFor, EndsAt, run_of, enough_steps}
-use Rattle.roopl_judge.specs.Judged.{IsJudged}
-use Rattle.roopl_judge.specs.command_plan.Refusals.{refused_line}
+use Rattle.run_settings.specs.Runnable.{IsJudgedPlan}
 use Rattle.roopl_judge.specs.rpp_words.Texts.{line_end}
-use Rattle.roopl_judge.specs.command_plan.declared.plan.Verdict.TheVariants.{Done, SourceRefused, Trapped}
+use Rattle.roopl_judge.specs.command_plan.declared.plan.Verdict.TheVariants.{Done, Trapped}
 use Rattle.roopl_judge.specs.command_plan.declared.plan.Verdict.TheVariants.{Bound}
 use Rattle.roopl_judge.specs.command_plan.Plans.{Planned, prints, writes, WithText}
 use Rattle.roopl_judge.specs.command_plan.Texts.{steps_line, bound_lines, cells_line}
@@ -118,17 +115,6 @@ pub record RunsImage (turns : Bool) (count counted : ℕ) (program : Source) (li
       (loaded image.statics limits input) steps p
   pub once : let end : End = run_of image limits input steps in
       counted ≡ count + (end.spent + steps_back turns end.why end.spent)
-
--- the first refusal of a text is reported, or P holds for the program that it is
-abbrev pub OfProgram : (P : Source → Planned → Type 0) → Result Source Refusal → Planned → Type 0
-OfProgram P (Err refusal) p = p ≡ prints SourceRefused (refused_line refusal)
-OfProgram P (Ok program) p = P program p
-
--- the text is checked, and the plan is that of the result
-pub record IsJudgedPlan (text : List ℕ) (P : Source → Planned → Type 0) (p : Planned) : Type 0 where
-  pub judgement : Result Source Refusal
-  pub judged : IsJudged text judgement
-  pub plan : OfProgram P judgement p
 
 abbrev pub IsCheckPlan : (text : List ℕ) → Planned → Type 0
 IsCheckPlan text p = IsJudgedPlan text (λ program p. p ≡ prints Done (codes "accepted" ++ line_end))

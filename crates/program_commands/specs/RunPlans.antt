@@ -1,12 +1,10 @@
 -- The plans of the commands that run a program: `go`, `turn` and `profile`. For probes that watch,
 -- `before` is the list as it is passed, and `after` as it is left; so `count` and `counted` are the
 -- counter of machine steps.
-use Rattle.std.specs.Prelude.{◌≡◌, ◌⊎◌, ℕ, Bool, true, false, List, [], ◌++◌, None, Some, Result}
-use Rattle.std.specs.Prelude.{Ok, Err, map}
+use Rattle.std.specs.Prelude.{◌≡◌, ◌⊎◌, ℕ, true, false, List, [], ◌++◌, map}
 use Rattle.std.specs.declared.option.Option.{Option}
 use Rattle.roopl_judge.specs.rpp_words.declared.input.FieldWord.{FieldWord}
 use Rattle.roopl_judge.specs.rpp_words.declared.input.Limits.{Limits}
-use Rattle.roopl_judge.specs.rpp_words.declared.input.TheConstants.{MOST_DEEP}
 use Rattle.roopl_judge.specs.rpp_tree.declared.limits.TheConstants.{MOST_BYTES}
 use Rattle.roopl_judge.specs.rpp_tree.Tree.{Source}
 use Rattle.roopl_judge.specs.rpp_ports.Ports.{Texts}
@@ -21,48 +19,10 @@ use Rattle.image_inverter.specs.pisa_isa.Machine.{State}
 use Rattle.image_inverter.specs.pisa_isa.Loaded.{loaded_state}
 use Rattle.image_inverter.specs.pisa_isa.Runs.{End, started}
 use Rattle.store_report.specs.pisa_machine.Told.{counted_steps}
-use Rattle.roopl_judge.specs.pisa_loader.Limiting.{limits_refusal}
-use Rattle.roopl_judge.specs.pisa_loader.declared.error.LoadError.{LoadError}
 use Rattle.store_report.specs.roopl_semantics.StandsFor.{run_of}
-use Rattle.roopl_judge.specs.Judged.{IsJudged}
-use Rattle.roopl_judge.specs.command_plan.declared.plan.Verdict.TheVariants.{InputRefused}
-use Rattle.roopl_judge.specs.command_plan.Plans.{Planned, prints, WithText, WithInput}
-use Rattle.roopl_judge.specs.command_plan.Texts.{load_line}
-use Rattle.program_commands.specs.Inputs.{given_input}
-use Rattle.program_commands.specs.ProgramPlans.{IsJudgedPlan, RunsImage}
-
--- the plan reports the refusal of an input
-abbrev pub RefusesInput : Result (List FieldWord) LoadError → Planned → Type 0
-RefusesInput (Err e) p = p ≡ prints InputRefused (load_line e)
-RefusesInput (Ok input) p = ⊥
-
--- or, before it, that of the sizes of the memory
-abbrev pub RefusesSizes : Option LoadError → (given : List ℕ) → Source → Planned → Type 0
-RefusesSizes (Some e) given program p = p ≡ prints InputRefused (load_line e)
-RefusesSizes None given program p = RefusesInput (given_input program given) p
-
--- the plan reports the first refusal of a text that is to be run: of the text, of the sizes, of the
--- input
-abbrev pub RefusesRun : (text given : List ℕ) → (heap deep : ℕ) → Planned → Type 0
-RefusesRun text given heap deep p =
-    IsJudgedPlan text (RefusesSizes (limits_refusal heap deep MOST_DEEP) given) p
-
--- nothing of it is refused: the text is this program, which is run with these sizes on this input
-pub record CanRun (text given : List ℕ) (heap deep : ℕ) (program : Source) (limits : Limits)
-    (input : List FieldWord) : Type 0 where
-  pub judged : IsJudged text (Ok program)
-  pub sizes : limits_refusal heap deep MOST_DEEP ≡ None
-  pub limits_are : limits ≡ record { heap = heap; deep = deep }
-  pub input_is : given_input program given ≡ Ok input
-
--- a text can be run, and P holds for its run
-pub record RunsTo (text given : List ℕ) (heap deep : ℕ)
-    (P : Source → Limits → List FieldWord → Type 0) : Type 0 where
-  pub program : Source
-  pub limits : Limits
-  pub input : List FieldWord
-  pub can_run : CanRun text given heap deep program limits input
-  pub run : P program limits input
+use Rattle.roopl_judge.specs.command_plan.Plans.{Planned, WithText, WithInput}
+use Rattle.run_settings.specs.Runnable.{RefusesRun, RunsTo}
+use Rattle.program_commands.specs.ProgramPlans.{RunsImage}
 
 -- the plan of `go` of a text on an input
 abbrev pub IsGoPlan : (count counted : ℕ) → (text given : List ℕ) → (heap deep steps : ℕ)

@@ -11,10 +11,9 @@ ghost use Rattle.roopl_judge.specs.pisa_loader.declared.input.TheConstants.{MOST
 ghost use Rattle.roopl_judge.specs.command_plan.Plans.{planned, prints, GivesPlan};
 ghost use Rattle.roopl_judge.specs.command_plan.Files.{OnlyReads, source, input_files};
 ghost use Rattle.roopl_judge.specs.pisa_scripts.Stops.{fault_line as line_of_fault};
-ghost use Rattle.program_commands.specs.Inputs.{given_input};
+ghost use Rattle.run_settings.specs.Inputs.{given_input};
 ghost use Rattle.program_commands.specs.Explained.{cost_line, explained, Tells, IsExplainedInput, IsExplainedWithin, IsExplainPlan, Explains};
 
-use crate::settable::input_fields;
 use class_table::Checked;
 use command_plan::{
     NoPlan, Plan, Sizes, Verdict, fault_line, load_line, read_given, refuse_source,
@@ -23,6 +22,7 @@ use pisa_loader::{LoadError, check_limits, read_input};
 use roopl_judge::{SourceError, judge};
 use rpp_ports::Shelf;
 use rpp_words::{Input, Limits, NoMemory};
+use run_settings::input_fields;
 use source_meaning::{MOST_OPEN, Outcome, Store, interpret};
 use std::alloc::{AllocError, Global};
 use store_report::report_store;

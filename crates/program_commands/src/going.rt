@@ -12,8 +12,6 @@ ghost use Rattle.program_commands.specs.RunPlans.{IsGoPlan, GoesOn};
 ghost use Rattle.program_commands.specs.GoRun.{IsLoaded, HasRun};
 ghost use Rattle.roopl_judge.specs.command_plan.Files.{OnlyReads, UnreadCause, source, input_files};
 
-use crate::readying::ready;
-use crate::setting::{Ready, RunSetting};
 use class_table::Checked;
 use command_plan::{
     NoPlan, Plan, Sizes, Verdict, read_given, report_bound, report_fault, with_steps,
@@ -25,6 +23,7 @@ use program_codegen::compile;
 use rpp_ports::Shelf;
 use rpp_tree::MOST_TOKENS;
 use rpp_words::NoMemory;
+use run_settings::{Ready, RunSetting, ready};
 use std::alloc::Global;
 use std::sync::ledger::Ledger;
 use store_report::report;

@@ -1,6 +1,6 @@
 //! The commands on programs: `check`, `compile`, `explain`, `go`, `turn` and `profile`. Each reads
 //! its files and makes a plan; the top call carries it out. Other commands that run a program may
-//! use `ready`, which checks what it is run with.
+//! use `compiled_image`, and `input_fields` of run_settings.
 #![tactic(auto)]
 
 mod checking;
@@ -8,9 +8,6 @@ mod compiling;
 mod explaining;
 mod going;
 mod profiling;
-mod readying;
-mod settable;
-mod setting;
 mod turning;
 
 pub use checking::check;
@@ -18,7 +15,5 @@ pub use compiling::compile_file;
 pub use explaining::explain;
 pub use going::{compiled_image, go};
 pub use profiling::profile;
-pub use readying::ready;
-pub use settable::input_fields;
-pub use setting::{Ready, RunSetting};
+pub use run_settings::input_fields;
 pub use turning::turn;

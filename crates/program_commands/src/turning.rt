@@ -17,8 +17,6 @@ ghost use Rattle.image_inverter.specs.pisa_isa.Flipped.{flipped};
 ghost use Rattle.image_inverter.specs.pisa_isa.Runs.{started};
 
 use crate::going::{loaded_program, report_run};
-use crate::readying::ready;
-use crate::setting::{Ready, RunSetting};
 use command_plan::{NoPlan, Plan, Sizes, Verdict, read_given, with_steps};
 use image_inverter::flip;
 use pisa_isa::Stop;
@@ -26,6 +24,7 @@ use pisa_machine::{Machine, RunEnd, Steps};
 use rpp_ports::Shelf;
 use rpp_probes::Probes;
 use rpp_words::NoMemory;
+use run_settings::{Ready, RunSetting, ready};
 use std::alloc::{AllocError, Global};
 use std::sync::ledger::Ledger;
 use store_report::report;

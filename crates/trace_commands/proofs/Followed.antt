@@ -1,10 +1,10 @@
 -- What a script prints from the start of a run on.
 use Rattle.std.proofs.Common.{◌≡◌, ◌∙◌, sym, ap, List, Some}
-use Rattle.program_commands.specs.rpp_words.declared.input.FieldWord.{FieldWord}
-use Rattle.program_commands.specs.rpp_words.declared.input.Limits.{Limits}
-use Rattle.program_commands.specs.rpp_tree.declared.tree.Program.{Program}
-use Rattle.program_commands.specs.rpp_tree.Views.{source_of}
-use Rattle.program_commands.specs.roopl_semantics.Report.{Text}
+use Rattle.run_settings.specs.rpp_words.declared.input.FieldWord.{FieldWord}
+use Rattle.run_settings.specs.rpp_words.declared.input.Limits.{Limits}
+use Rattle.run_settings.specs.rpp_tree.declared.tree.Program.{Program}
+use Rattle.run_settings.specs.rpp_tree.Views.{source_of}
+use Rattle.run_settings.specs.roopl_semantics.Report.{Text}
 use Rattle.image_commands.specs.two_way_debugger.declared.command.Command.{Command}
 use Rattle.source_debugger.specs.declared.running.TheConstants.{MOST_COST}
 use Rattle.source_debugger.specs.Shown.{told}

@@ -2,17 +2,17 @@
 use Rattle.std.proofs.Common.{ℕ, List, None, Ok, Err, inl, inr, refl}
 use Rattle.std.specs.declared.option.Option.{Option}
 use Rattle.std.specs.Prelude.{Result}
-use Rattle.program_commands.specs.rpp_words.declared.input.FieldWord.{FieldWord}
-use Rattle.program_commands.specs.rpp_words.declared.input.Limits.{Limits}
-use Rattle.program_commands.specs.rpp_tree.Tree.{Source}
-use Rattle.program_commands.specs.rpp_ports.Ports.{Texts}
+use Rattle.run_settings.specs.rpp_words.declared.input.FieldWord.{FieldWord}
+use Rattle.run_settings.specs.rpp_words.declared.input.Limits.{Limits}
+use Rattle.run_settings.specs.rpp_tree.Tree.{Source}
+use Rattle.run_settings.specs.rpp_ports.Ports.{Texts}
 use Rattle.image_commands.specs.two_way_debugger.declared.command.Command.{Command}
 use Rattle.image_commands.specs.two_way_debugger.declared.error.ScriptError.{ScriptError}
 use Rattle.image_commands.specs.two_way_debugger.declared.error.ScriptError.TheVariants.{BadCommand, NoMemory}
 use Rattle.image_commands.specs.two_way_debugger.Scripts.{script_of}
-use Rattle.program_commands.specs.command_plan.Plans.{Planned, WritesOnly}
-use Rattle.program_commands.proofs.command_plan_laws.Writes.{along}
-use Rattle.program_commands.proofs.ProgramTargets.{refused_writes}
+use Rattle.run_settings.specs.command_plan.Plans.{Planned, WritesOnly}
+use Rattle.run_settings.proofs.command_plan_laws.Writes.{along}
+use Rattle.run_settings.proofs.RefusedRuns.{refused_writes}
 use Rattle.trace_commands.specs.TracePlans.{IsScriptPlan, IsTracePlan, Traces}
 
 script_writes : (read : Result (List Command) ScriptError) (program : Source) (limits : Limits) (input : List FieldWord)

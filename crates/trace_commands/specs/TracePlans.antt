@@ -1,23 +1,23 @@
 -- The plan of `trace`.
 use Rattle.std.specs.Prelude.{◌≡◌, ◌⊎◌, ℕ, List, Some, Result, Ok, Err}
 use Rattle.std.specs.declared.option.Option.{Option}
-use Rattle.program_commands.specs.rpp_words.declared.input.FieldWord.{FieldWord}
-use Rattle.program_commands.specs.rpp_words.declared.input.Limits.{Limits}
-use Rattle.program_commands.specs.rpp_tree.declared.limits.TheConstants.{MOST_BYTES}
-use Rattle.program_commands.specs.rpp_tree.Tree.{Source}
-use Rattle.program_commands.specs.rpp_ports.Ports.{Texts}
-use Rattle.program_commands.specs.meaning_points.Trail.{trail}
+use Rattle.run_settings.specs.rpp_words.declared.input.FieldWord.{FieldWord}
+use Rattle.run_settings.specs.rpp_words.declared.input.Limits.{Limits}
+use Rattle.run_settings.specs.rpp_tree.declared.limits.TheConstants.{MOST_BYTES}
+use Rattle.run_settings.specs.rpp_tree.Tree.{Source}
+use Rattle.run_settings.specs.rpp_ports.Ports.{Texts}
+use Rattle.source_debugger.specs.meaning_points.Trail.{trail}
 use Rattle.image_commands.specs.two_way_debugger.declared.command.Command.{Command}
-use Rattle.program_commands.specs.pisa_scripts.declared.lines.TheConstants.{MOST_SCRIPT}
+use Rattle.run_settings.specs.pisa_scripts.declared.lines.TheConstants.{MOST_SCRIPT}
 use Rattle.image_commands.specs.two_way_debugger.declared.error.ScriptError.{ScriptError}
 use Rattle.image_commands.specs.two_way_debugger.declared.error.ScriptError.TheVariants.{BadCommand}
 use Rattle.image_commands.specs.two_way_debugger.declared.error.ScriptError.TheVariants as script
 use Rattle.image_commands.specs.two_way_debugger.Scripts.{script_of}
 use Rattle.source_debugger.specs.Shown.{told}
-use Rattle.program_commands.specs.command_plan.declared.plan.Verdict.TheVariants.{Done, InputRefused}
-use Rattle.program_commands.specs.command_plan.Plans.{Planned, prints, WithText, WithInput}
-use Rattle.program_commands.specs.command_plan.Texts.{bad_command_line}
-use Rattle.program_commands.specs.RunPlans.{RefusesRun, RunsTo}
+use Rattle.run_settings.specs.command_plan.declared.plan.Verdict.TheVariants.{Done, InputRefused}
+use Rattle.run_settings.specs.command_plan.Plans.{Planned, prints, WithText, WithInput}
+use Rattle.run_settings.specs.command_plan.Texts.{bad_command_line}
+use Rattle.run_settings.specs.Runnable.{RefusesRun, RunsTo}
 
 -- the commands print this text along the run from its start on: there is fuel with which the run is
 -- known as far as they go

@@ -21,8 +21,8 @@ use Rattle.program_commands.specs.pisa_loader.InputLines.{is_field}
 use Rattle.program_commands.specs.roopl_semantics.Source.{main_fields, is_int_type, is_int_field}
 use Rattle.program_commands.specs.store_report.Ascii.{HasAsciiName as HasAsciiVar}
 use Rattle.program_commands.proofs.store_report_laws.Names.{ascii_main_fields}
-use Rattle.program_commands.specs.Inputs.{fields_from, input_fields}
-use Rattle.program_commands.proofs.ValidInput.{int_field}
+use Rattle.program_commands.specs.run_settings.Inputs.{fields_from, input_fields}
+use Rattle.program_commands.proofs.run_settings_laws.ValidInput.{int_field}
 use Rattle.wrap_commands.specs.declared.error.NamesError.{NamesError}
 use Rattle.wrap_commands.specs.declared.error.NamesError.TheVariants.{UnknownResult}
 use Rattle.wrap_commands.specs.WrapNames.{field_of_name, with_result, results_from, results_of}

@@ -17,7 +17,7 @@ use Rattle.program_commands.specs.pisa_loader.declared.error.LoadError.{LoadErro
 use Rattle.program_commands.specs.pisa_loader.declared.input.InputField.{InputField}
 use Rattle.program_commands.specs.command_plan.Plans.{Planned, WritesOnly}
 use Rattle.program_commands.proofs.command_plan_laws.Writes.{along}
-use Rattle.program_commands.specs.Inputs.{input_fields, given_input}
+use Rattle.program_commands.specs.run_settings.Inputs.{input_fields, given_input}
 use Rattle.wrap_commands.specs.declared.error.NamesError.{NamesError}
 use Rattle.wrap_commands.specs.declared.error.NamesError.TheVariants.{UnknownResult, NoMemory}
 use Rattle.wrap_commands.specs.WrapNames.{results_of}

@@ -28,7 +28,7 @@ use Rattle.refine_wrap.specs.bennett_wrap.Wrapped.{Wrapped, begun_on, with_zeros
 use Rattle.refine_wrap.specs.Programs.{EndsAsSource, EndsDone, IsStatic, field_cell, enough_wrapped, wrapped_run}
 use Rattle.refine_wrap.proofs.IntFields.{int_fields}
 use Rattle.refine_wrap.proofs.Told.{wrapped_programs_follow}
-use Rattle.program_commands.proofs.ValidInput.{field_fits}
+use Rattle.program_commands.proofs.run_settings_laws.ValidInput.{field_fits}
 use Rattle.program_commands.specs.command_plan.declared.plan.Verdict.TheVariants.{Done}
 use Rattle.program_commands.specs.command_plan.Plans.{Planned, prints}
 use Rattle.program_commands.specs.command_plan.Texts.{steps_line}

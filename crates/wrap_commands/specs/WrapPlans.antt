@@ -28,8 +28,9 @@ use Rattle.program_commands.specs.roopl_judge.Judged.{IsJudged}
 use Rattle.program_commands.specs.command_plan.declared.plan.Verdict.TheVariants.{Done, Bound, InputRefused}
 use Rattle.program_commands.specs.command_plan.Plans.{Planned, prints, WithText, WithInput}
 use Rattle.program_commands.specs.command_plan.Texts.{load_line, steps_line, bound_lines}
-use Rattle.program_commands.specs.Inputs.{input_fields, given_input}
-use Rattle.program_commands.specs.ProgramPlans.{OfProgram, ReportsFault}
+use Rattle.program_commands.specs.run_settings.Inputs.{input_fields, given_input}
+use Rattle.program_commands.specs.run_settings.Runnable.{OfProgram}
+use Rattle.program_commands.specs.ProgramPlans.{ReportsFault}
 use Rattle.wrap_commands.specs.declared.error.NamesError.{NamesError}
 use Rattle.wrap_commands.specs.declared.error.NamesError.TheVariants.{UnknownResult, NoMemory}
 use Rattle.wrap_commands.specs.WrapNames.{result_cells, results_of}

@@ -7,7 +7,7 @@ ghost use Rattle.program_commands.specs.pisa_loader.Limiting.{limits_refusal};
 ghost use Rattle.program_commands.specs.pisa_loader.declared.input.TheConstants.{MOST_INPUT};
 ghost use Rattle.program_commands.specs.command_plan.Files.{OnlyReads, UnreadCause, source, input_files};
 ghost use Rattle.program_commands.specs.command_plan.Plans.{planned, GivesPlan};
-ghost use Rattle.program_commands.specs.Inputs.{input_fields as fields_of, given_input};
+ghost use Rattle.program_commands.specs.run_settings.Inputs.{input_fields as fields_of, given_input};
 ghost use Rattle.wrap_commands.specs.WrapNames.{results_of};
 ghost use Rattle.wrap_commands.specs.WrapPlans.{AreResults, IsGivenPlan, IsNamedPlan, IsSizedPlan, IsWrapPlan, WrapsFile};
 

@@ -7,7 +7,7 @@ use Rattle.program_commands.specs.pisa_loader.Limiting.{IsInputOf}
 use Rattle.refine_wrap.specs.bennett_wrap.Wrapped.{Wrapped}
 use Rattle.program_commands.specs.command_plan.Plans.{planned}
 use Rattle.program_commands.proofs.Turned.{weaken}
-use Rattle.program_commands.proofs.ValidInput.{input_fits}
+use Rattle.program_commands.proofs.run_settings_laws.ValidInput.{input_fits}
 use Rattle.wrap_commands.specs.WrapNames.{HasLowNumber, result_cells}
 use Rattle.wrap_commands.proofs.Wrapping.{low_numbers, has_wrapped, wraps_image}
 use Rattle.wrap_commands.proofs.running.run_wrapped.Goals as goal

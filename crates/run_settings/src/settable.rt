@@ -1,8 +1,8 @@
 // The fields that an input may set.
 ghost use Rattle.std.specs.Prelude.{◌≡◌, ◌≤◌, length, IfOk};
 ghost use Rattle.roopl_judge.specs.rpp_tree.Views.{source_of};
-ghost use Rattle.store_report.specs.roopl_semantics.Source.{is_int_type};
-ghost use Rattle.program_commands.specs.Inputs.{fields_from, input_fields as fields_of};
+ghost use Rattle.roopl_semantics.specs.Source.{is_int_type};
+ghost use Rattle.run_settings.specs.Inputs.{fields_from, input_fields as fields_of};
 
 use class_table::Checked;
 use pisa_loader::InputField;

@@ -5,8 +5,8 @@ use Rattle.roopl_judge.specs.rpp_words.declared.input.Limits.{Limits}
 use Rattle.roopl_judge.specs.rpp_tree.Tree.{Source}
 use Rattle.roopl_judge.specs.rpp_tree.Views.{source_of}
 use Rattle.roopl_judge.specs.command_plan.Plans.{Planned, planned}
-use Rattle.program_commands.specs.declared.setting.Ready.{Ready}
-use Rattle.program_commands.specs.declared.setting.Ready.TheVariants.{Refused, Runs}
+use Rattle.run_settings.specs.declared.setting.Ready.{Ready}
+use Rattle.run_settings.specs.declared.setting.Ready.TheVariants.{Refused, Runs}
 
 -- a plan refuses them as R says, or there is a run of so many steps, and C holds for its program,
 -- sizes and input

@@ -6,7 +6,7 @@ use Rattle.roopl_judge.specs.rpp_tree.Tree.{Source}
 use Rattle.roopl_judge.specs.pisa_loader.declared.error.LoadError.{LoadError}
 use Rattle.roopl_judge.specs.pisa_loader.declared.input.InputField.{InputField}
 use Rattle.roopl_judge.specs.pisa_loader.InputLines.{input_of}
-use Rattle.store_report.specs.roopl_semantics.Source.{main_fields, is_int_type}
+use Rattle.roopl_semantics.specs.Source.{main_fields, is_int_type}
 
 -- the int fields of these, the first of which has this number
 abbrev pub fields_from : ℕ → List Var → List InputField

@@ -6,9 +6,9 @@ ghost use Rattle.roopl_judge.specs.rpp_tree.declared.limits.TheConstants.{MOST_B
 ghost use Rattle.roopl_judge.specs.rpp_words.Limits.{IsLimits};
 ghost use Rattle.roopl_judge.specs.pisa_loader.Limiting.{limits_refusal};
 ghost use Rattle.roopl_judge.specs.pisa_loader.declared.input.TheConstants.{MOST_INPUT};
-ghost use Rattle.program_commands.specs.Inputs.{given_input};
-ghost use Rattle.program_commands.specs.Readied.{IsReadied};
-ghost use Rattle.program_commands.specs.RunPlans.{RefusesInput, RefusesSizes, RefusesRun, CanRun};
+ghost use Rattle.run_settings.specs.Inputs.{given_input};
+ghost use Rattle.run_settings.specs.Readied.{IsReadied};
+ghost use Rattle.run_settings.specs.Runnable.{RefusesInput, RefusesSizes, RefusesRun, CanRun};
 
 use crate::settable::input_fields;
 use crate::setting::{Ready, RunSetting};

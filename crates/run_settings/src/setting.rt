@@ -2,7 +2,7 @@
 ghost use Rattle.std.specs.Prelude.{◌<◌, ◌^◌};
 ghost use Rattle.roopl_judge.specs.rpp_tree.Views.{source_of};
 ghost use Rattle.roopl_judge.specs.rpp_words.Limits.{IsLimits};
-ghost use Rattle.store_report.specs.roopl_semantics.Source.{IsValid};
+ghost use Rattle.roopl_semantics.specs.Source.{IsValid};
 
 use class_table::Checked;
 use command_plan::Plan;

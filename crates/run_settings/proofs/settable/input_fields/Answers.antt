@@ -2,9 +2,9 @@ use Rattle.std.proofs.Common.{◌≡◌, List, subst}
 use Rattle.std.specs.Prelude.{IfOk}
 use Rattle.roopl_judge.specs.rpp_tree.declared.tree.Var.{Var}
 use Rattle.roopl_judge.specs.rpp_tree.Views.{source_of}
-use Rattle.store_report.proofs.roopl_semantics_laws.MainPlace.{fields_read}
-use Rattle.program_commands.specs.Inputs.{fields_from}
-use Rattle.program_commands.proofs.settable.input_fields.Goals as goal
+use Rattle.roopl_semantics.proofs.MainPlace.{fields_read}
+use Rattle.run_settings.specs.Inputs.{fields_from}
+use Rattle.run_settings.proofs.settable.input_fields.Goals as goal
 
 pub returns-clause-fields : goal.returns-clause-fields
 returns-clause-fields c =

@@ -10,11 +10,11 @@ use Rattle.roopl_judge.specs.rpp_words.declared.input.FieldWord.{FieldWord}
 use Rattle.roopl_judge.specs.rpp_words.declared.input.TheConstants.{HEADER_WORDS}
 use Rattle.roopl_judge.specs.rpp_tree.declared.tree.Var.{Var}
 use Rattle.roopl_judge.specs.rpp_tree.Tree.{Source}
-use Rattle.image_inverter.specs.pisa_isa.Image.{Segments}
+use Rattle.roopl_semantics.specs.pisa_isa.Image.{Segments}
 use Rattle.roopl_judge.specs.pisa_loader.InputLines.{is_field, AreInput}
-use Rattle.store_report.specs.roopl_semantics.Layout.{HasStatics, main_statics, tables}
-use Rattle.store_report.specs.roopl_semantics.Source.{main_fields, is_int_type, is_int_field, IsValid}
-use Rattle.program_commands.specs.Inputs.{fields_from, input_fields}
+use Rattle.roopl_semantics.specs.Layout.{HasStatics, main_statics, tables}
+use Rattle.roopl_semantics.specs.Source.{main_fields, is_int_type, is_int_field, IsValid}
+use Rattle.run_settings.specs.Inputs.{fields_from, input_fields}
 
 -- ---- a field that can be set is an int field
 

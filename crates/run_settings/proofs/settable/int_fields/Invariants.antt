@@ -1,6 +1,6 @@
 use Rattle.std.proofs.Common.{◌≡◌, ◌≤◌, ◌++◌, length, drop}
-use Rattle.program_commands.specs.Inputs.{fields_from}
-use Rattle.program_commands.proofs.settable.int_fields.Given as goal
+use Rattle.run_settings.specs.Inputs.{fields_from}
+use Rattle.run_settings.proofs.settable.int_fields.Given as goal
 
 abbrev pub invariant-loop-number : goal.invariant-loop-number
 invariant-loop-number l = record {

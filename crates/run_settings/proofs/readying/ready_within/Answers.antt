@@ -2,8 +2,8 @@ use Rattle.std.proofs.Common.{◌∙◌, List, subst}
 use Rattle.roopl_judge.specs.rpp_tree.Views.{source_of}
 use Rattle.roopl_judge.specs.pisa_loader.declared.input.InputField.{InputField}
 use Rattle.roopl_judge.specs.pisa_loader.InputLines.{AreInput}
-use Rattle.program_commands.proofs.ValidInput.{valid_input}
-use Rattle.program_commands.proofs.readying.ready_within.Goals as goal
+use Rattle.run_settings.proofs.ValidInput.{valid_input}
+use Rattle.run_settings.proofs.readying.ready_within.Goals as goal
 
 pub invariant_of-result-clause-valid : goal.invariant_of-result-clause-valid
 invariant_of-result-clause-valid c =
