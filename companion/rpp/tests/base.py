@@ -11,6 +11,8 @@ EXAMPLES = os.path.join(TOP, 'examples')
 COMMAND = os.path.join(TOP, 'rpp')
 LIST = os.path.join(EXAMPLES, 'list.rpp')
 SUMS = os.path.join(EXAMPLES, 'sums.rpp')
+# After so many seconds a call counts as hanging; on a machine with other work one may take a minute.
+HANGS = 600
 
 
 class Case(unittest.TestCase):
@@ -32,7 +34,7 @@ class Case(unittest.TestCase):
         """What `rpp` with these words does in the test's folder."""
         return subprocess.run([sys.executable, COMMAND, *[str(word) for word in words]], cwd=self.folder, input=stdin,
                               stdout=subprocess.PIPE, stderr=subprocess.PIPE, universal_newlines=True, check=False,
-                              timeout=100, env=dict(os.environ, **(env or {})))
+                              timeout=HANGS, env=dict(os.environ, **(env or {})))
 
     def trace(self, source: str, *lines: str, bounds=(12, 64)) -> str:
         """What the program's own `trace` prints for the lines of a script."""

@@ -7,7 +7,7 @@ from typing import Any, Callable, Dict, List
 from rpp.program import TOP
 from rpp.protocol import Inbox, Outbox
 
-SECONDS = 60
+from .base import HANGS
 
 
 class Client:
@@ -34,7 +34,7 @@ class Client:
             if fits(message):
                 return self.heard.pop(number)
         while True:
-            message = self.inbox.next(SECONDS)
+            message = self.inbox.next(HANGS)
             if not message:
                 raise EOFError('the server ended' if message is None else 'the server says nothing')
             if fits(message):
@@ -44,7 +44,7 @@ class Client:
     def end(self) -> int:
         """Closes its input, and gives the status with which the server ends."""
         self.process.stdin.close()
-        status = self.process.wait(timeout=SECONDS)
+        status = self.process.wait(timeout=HANGS)
         self.process.stdout.close()
         return status
 

@@ -8,7 +8,7 @@ import subprocess
 import sys
 import time
 
-from .base import COMMAND, EXAMPLES, SUMS, Case
+from .base import COMMAND, EXAMPLES, HANGS, SUMS, Case
 
 TWICE = '''class P
   int x
@@ -198,7 +198,7 @@ class Terminal(Case):
         self.session.wait()
         os.close(self.leader)
 
-    def wait_for(self, wanted, seconds=30):
+    def wait_for(self, wanted, seconds=HANGS):
         """Reads on until the text has come; what was read before it is passed over."""
         end = time.monotonic() + seconds
         while wanted not in self.read:
@@ -236,11 +236,11 @@ class Terminal(Case):
         self.wait_for('this is the start')
         self.wait_for('(rpp) ')
         self.type('quit\n')
-        self.assertEqual(self.session.wait(timeout=20), 0)
+        self.assertEqual(self.session.wait(timeout=HANGS), 0)
 
     def test_a_run_is_ended_with_what_is_known(self):
         self.begin('run', self.write('endless.rpp', ENDLESS), '--steps', str(10 ** 17))
         self.wait_for('100,000,000 steps, and it goes on')
         self.type('\x03')
         self.wait_for('steps it had not ended')
-        self.assertEqual(self.session.wait(timeout=20), 130)
+        self.assertEqual(self.session.wait(timeout=HANGS), 130)
