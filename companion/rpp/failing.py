@@ -4,7 +4,7 @@
 of each block of the failing statement, and asks `trace` about that text: its last statement is the `skip` next to the test.
 
     found = failed_test(run, place, 3, False)     # a SourceRun, the byte of the statement, the fault, and the direction
-    found.title                                   # '`a` is 7 after the block, and 5 is wanted'
+    found.title                                   # '`a` is 7 after the block, and must be 5'
     found.moment.variables                        # the variables at the moment of the test
 """
 import os
@@ -30,7 +30,7 @@ class FailedTest(NamedTuple):
 
 
 class Edge(NamedTuple):
-    """An end of a block: where the `skip` stands in the text, which block it is, and whether the block ends there."""
+    """An end of a block: where the `skip` is in the text, which block it is, and whether the block ends there."""
     at: int
     block: int
     is_end: bool
@@ -87,13 +87,13 @@ def told(source: Source, here: Statement, edge: Edge, is_back: bool, moment: Mom
         return FailedTest(at, after, moment)
     if here.form == 'local':
         name = here.variable.name
-        return FailedTest(at, f'`{name}` is {moment.value(name)} {after}, and {value} is wanted', moment)
+        return FailedTest(at, f'`{name}` is {moment.value(name)} {after}, and must be {value}', moment)
     return FailedTest(at, f'`{test}` is {"false" if value == 0 else "true"} {after}', moment)
 
 
 def test_tokens(source: Source, here: Statement, is_back: bool) -> Tokens:
-    """The first and the last token of the test at the end of a statement: the assertion of `fi`, that of `from`, the final value of
-    a local; on the way back the test at the other end."""
+    """The first and the last token of the test at the end of a statement. That is the assertion of `fi` or of `from`, or the final
+    value of a local; on the way back it is the test at the other end."""
     at_head = is_back == (here.form != 'from')
     if here.form == 'local':
         if at_head:

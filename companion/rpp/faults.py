@@ -54,7 +54,7 @@ def find_fault(program: Program, wanted, text: Text) -> FaultPlaces:
 
 
 def failing(session: Session) -> Failing:
-    """The statement in whose code the machine stops with the fault at which a session stands; it is asked for once."""
+    """The statement in whose code the machine stops with the fault of a session; it is asked for once."""
     if session.failing is None:
         run = session.run
         session.failing = of_place(session, machine_place(run.program, run.copy, run.bounds, STEPS, *(run.inputs or [None])))
@@ -62,7 +62,7 @@ def failing(session: Session) -> Failing:
 
 
 def of_place(session: Session, place: Optional[int]) -> Failing:
-    """The statement at this place, where a session stands at its fault."""
+    """The statement at this place, in a session that is at its fault."""
     point = session.point
     if place is None or place == point.place or point.fault is None:
         return Failing(place, None)

@@ -14,7 +14,7 @@ FORWARD = (
     ('  from y < 3 do y += 1 loop x += 10 until y = 9\n',
      '5:8: `y < 3` is true after a round', {'x': '10', 'y': '1'}),
     ('  x += 30\n  local int amount = x\n    amount += 72\n  delocal int amount = x\n',
-     '8:24: `amount` is 102 after the block, and 30 is wanted', {'x': '30', 'y': '0', 'amount': '102'}),
+     '8:24: `amount` is 102 after the block, and must be 30', {'x': '30', 'y': '0', 'amount': '102'}),
     ('  if x = 0 then\n    if y = 0 then y += 7 else skip fi y = 1 // (no)\n  else skip fi x = 0\n',
      '6:39: `y = 1` is false after the `then` block', {'x': '0', 'y': '7'}),
 )
@@ -22,7 +22,7 @@ BACK = (
     ('  y += 5\n  uncall work()\nmethod work()\n  if x = 3 then y += 5 else skip fi y = 5\n',
      '8:6: `x = 3` is false after the `then` block was undone', {'x': '0', 'y': '0'}),
     ('  uncall work()\nmethod work()\n  local int t = 2\n    t += 5\n  delocal int t = 9 + x\n',
-     '7:17: `t` is 4 after the block was undone, and 2 is wanted', {'x': '0', 'y': '0', 't': '4'}),
+     '7:17: `t` is 4 after the block was undone, and must be 2', {'x': '0', 'y': '0', 't': '4'}),
 )
 
 

@@ -130,7 +130,7 @@ class Faults(Case):
     def test_the_test_with_its_variables(self):
         done = self.rpp('run', SUMS, 'a=4', 'b=8')
         self.assertTrue(done.stdout.startswith(f'{SUMS}:8:3: fault 3 Delocal\n'))
-        self.assertIn(f'at that moment:\n{SUMS}:13:21: `sum` is 8 after the block, and 0 is wanted\n', done.stdout)
+        self.assertIn(f'at that moment:\n{SUMS}:13:21: `sum` is 8 after the block, and must be 0\n', done.stdout)
         self.assertIn('  a = -4\n  b = 8\n  total = 12\n  sum = 8\n', done.stdout)
 
     def test_the_last_statement_with_its_variables(self):
