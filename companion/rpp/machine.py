@@ -3,7 +3,7 @@ import re
 import sys
 from typing import Callable, Dict, List, NamedTuple, Optional, Tuple
 
-from .messages import read_answer, refusal
+from .messages import read_answer, refusal, see
 from .options import Unfit
 from .places import Text
 from .program import Program
@@ -231,4 +231,5 @@ def image_refused(image: str, refused: Refused) -> List[str]:
         return failure_lines(told, image)
     rule = refusal(told.number)
     at = f' at byte {told.at}' if told.at is not None else ''
-    return [f'{image}: refused {told.number} {told.name}{at}'] + ([rule.sentence, f'See {rule.link}'] if rule else [])
+    page = see(rule) if rule else ''
+    return [f'{image}: refused {told.number} {told.name}{at}', *([rule.sentence] if rule else []), *([f'See {page}'] if page else [])]

@@ -104,4 +104,4 @@ def see(rule: Rule) -> str:
     path = page_path(page)
     if path is None:
         return ''
-    return rule.link if path.startswith(TOP + os.sep) else f'{path}#{heading}'
+    return rule.link if path == os.path.join(TOP, 'docs', page) else f'{path}#{heading}'

@@ -97,6 +97,8 @@ class LibraryTest(Case):
             said = subprocess.run([sys.executable, script, 'help', '16'], env=dict(os.environ, PYTHONPATH=target), stdout=subprocess.PIPE,
                                   universal_newlines=True, check=False).stdout
             self.assertTrue(said.startswith('refusal 16 SelfUpdate\n'), said)
+            page = re.search(r'^See (.*)#16-selfupdate$', said, re.M)[1]
+            self.assertTrue(page.startswith(target) and os.path.isfile(page), said)
         finally:
             os.environ.pop('ROOPLPP_PROGRAM') if kept is None else os.environ.update(ROOPLPP_PROGRAM=kept)
 
