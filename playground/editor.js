@@ -5,15 +5,6 @@ const STYLES = [['comment', 'comment'], ['keyword.operator', 'operator'], ['keyw
   ['constant.language', 'atom'], ['constant.numeric', 'number'], ['invalid', 'error']];
 const HANG = 2;
 
-function made(name, properties, ...inner) {
-  const it = Object.assign(document.createElement(name), properties);
-  it.append(...inner.filter(part => part !== undefined));
-  return it;
-}
-
-// A sentence with the parts in backquotes as code.
-const withCode = sentence => sentence.split('`').map((part, index) => (index % 2 ? made('code', { textContent: part }) : part));
-
 // A mode of CodeMirror with the patterns of a TextMate grammar.
 function defineMode(name, patterns) {
   const style = scope => STYLES.find(([start]) => scope.startsWith(start))?.[1] ?? null;
@@ -115,6 +106,12 @@ class Editor {
 
   // Shows an element below a line.
   tell(line, element) { this.widget = this.code.addLineWidget(line, element, { coverGutter: false }); }
+
+  // Puts texts in the place of parts of the text, as one change that can be undone.
+  change(parts) {
+    const spots = parts.map(([first, behind, text]) => [text, this.code.posFromIndex(first), this.code.posFromIndex(behind)]);
+    this.code.operation(() => { for (const spot of spots.reverse()) this.code.replaceRange(...spot, '*write'); });
+  }
 
   // Scrolls to a line where it is not in sight; `room` lines below it are to be seen too.
   reveal(line, room = 3) {

@@ -120,7 +120,6 @@ class Failure {
     this.span(keyword, behind);
     this.found = `${name} = ${this.look(name)}`;
     this.wanted = `${name} = ${value ?? text}`;
-    this.slots = { name, value: text, given: this.look(name) };
     const seen = this.values(equals, behind).map(([it, is]) => `${it} is ${is}`);
     this.told = `\`${name}\` is ${this.look(name)}, and must be ${value ?? `\`${text}\``} to be closed${seen.length ? `: ${seen.join(', ')}` : ''}`;
   }
@@ -133,7 +132,6 @@ class Failure {
     const branch = isLoop ? (isEntry ? 'the loop begins' : 'the loop goes round again') : `the ${isSecond ? 'else' : 'then'} block ran`;
     const holds = it => (it ? 'holds' : 'does not hold');
     this.span(first - 1, behind);
-    this.slots = { assertion: text, condition: text };
     this.found = `${seen.map(([name, value]) => `${name} = ${value}`).join(', ') || 'constants'}: ${text} ${holds(!mustHold)}`;
     this.wanted = `${text} ${holds(mustHold)}, since ${branch}`;
     const values = seen.map(([name, value]) => `\`${name}\` is ${value}`).join(', ');

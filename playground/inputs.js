@@ -1,7 +1,7 @@
 // What a run begins with: the int fields of the main object as chips, and the limits of the run.
 'use strict';
 
-const USUAL = { heap: '12', depth: '64', steps: '100000000' }, NARROW = 1180, MOST_CHIPS = 4;
+const NARROW = 1180, MOST_CHIPS = 4;
 const isNumber = value => /^-?\d{1,10}$/.test(value) && Number(value) === (Number(value) | 0);
 
 class Inputs {

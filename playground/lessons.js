@@ -6,7 +6,7 @@ class Lessons {
   constructor(carried, onOpen) {
     Object.assign(this, { carried, onOpen });
     $('pick').onclick = () => this.show();
-    this.showHelp();
+    $('help').onclick = () => $('helping').showModal();
   }
 
   get exercises() { return this.carried.exercises; }
@@ -77,19 +77,6 @@ class Lessons {
   }
 
   task(name) { return this.exercises.find(it => it.name === name); }
-
-  // ---- the help
-
-  // Fills the lists of all refusals and faults.
-  showHelp() {
-    const { refusals, faults } = this.carried.messages;
-    const head = (number, rule) => [made('code', { textContent: `${number} ${rule.name}` }), ...withCode(` ${rule.sentence.replace(/^it /, 'It ')}`)];
-    const row = ([number, rule]) => made('details', {}, made('summary', {}, ...head(number, rule)),
-      ...(rule.fix ? [made('p', {}, made('b', { textContent: 'How to fix it: ' }), ...withCode(rule.fix))] : []));
-    $('all-faults').replaceChildren(...Object.entries(faults).map(row));
-    $('all-refusals').replaceChildren(...Object.entries(refusals).map(row));
-    $('help').onclick = () => $('helping').showModal();
-  }
 }
 
 // Why a program does not meet a rule on its text, or nothing.

@@ -5,12 +5,7 @@ const SOURCE = 'program.rpp', INPUT = 'input.txt', INVERSE = 'inverse.rpp', IMAG
 const VIEWS = ['store', 'output', 'inverse', 'machine'];
 const EDIT_MILLISECONDS = 350, SLOW_MILLISECONDS = 400, IDLE_MILLISECONDS = 150, KEEP_MILLISECONDS = 500, TOAST_MILLISECONDS = 4000, UNDO_MILLISECONDS = 10000;
 const LEAST_SPLIT = 20, MOST_SPLIT = 75, FAULTED = 5, MORE_POSITIONS = 46000;
-// Opened first: a run that is paused in its middle, with objects to be seen.
-const FIRST = { example: 'list', at: 40 };
 const LARGEST = { usual: 1.4, large: 1.9 }, SMALLEST = { usual: 0.7, embedded: 0.6 };
-
-const $ = id => document.getElementById(id);
-const all = selector => [...document.querySelectorAll(selector)];
 
 class Workbench {
   constructor(carried, caller, lessons) {
@@ -18,7 +13,7 @@ class Workbench {
     Object.assign(this, { view: 'store', zoom: 1, isEmbedded: false, exercise: undefined });
     const play = () => this.transport.play(1), keys = { 'Ctrl-Enter': play, 'Cmd-Enter': play, Esc: () => $('transport').focus() };
     this.editor = new Editor($('text'), carried.grammar, keys, isTyped => this.edited(isTyped));
-    this.problems = new Problems(carried.messages, this.editor);
+    this.problems = new Problems(this.editor);
     this.inputs = new Inputs(what => this.changed(what));
     this.transport = new Transport(this);
     const take = text => this.replace({ ...this.setting(), text }, 'The inverse program is in the editor.');
@@ -269,7 +264,8 @@ class Workbench {
 
   async faultOf(run, machine) {
     if (machine.status !== FAULTED) return undefined;
-    return findFault(run, machine, () => this.runImage(), (script, text) => this.trace(script, text));
+    const { heap, depth } = this.inputs.limits, fault = await findFault(run, machine, () => this.runImage(), (script, text) => this.trace(script, text));
+    return { ...fault, message: await faultMessage(fault, run, heap, depth) };
   }
 
   // Walks on along a long run, where the position comes near the last one that is known.

@@ -4,6 +4,7 @@ import base64
 import glob
 import gzip
 import hashlib
+import html
 import importlib
 import json
 import os
@@ -11,6 +12,8 @@ import re
 import shutil
 import subprocess
 import sys
+
+import translate
 
 HERE = os.path.dirname(os.path.realpath(__file__))
 TOP = os.path.dirname(HERE)
@@ -21,11 +24,13 @@ LAYOUT = '/usr/share/nodejs/dagre/dist/dagre.min.js'
 RIGHTS = ('libjs-codemirror', 'node-dagre-layout', 'node-graphlibrary', 'node-lodash')
 # Debian's package uglifyjs.
 MINIFIER = 'uglifyjs'
-# In the order in which they use each other.
-SCRIPTS = ('source.js', 'texts.js', 'grammar.js', 'messages.js', 'sharing.js', 'caller.js', 'run.js', 'failure.js',
-           'faults.js', 'places.js', 'arrows.js', 'store.js', 'editor.js', 'inverse.js', 'listing.js', 'inputs.js',
-           'problems.js', 'output.js', 'transport.js', 'lessons.js', 'figure.js', 'page.js', 'start.js')
+# In the order in which they use each other: what the page begins with, and what it unpacks then.
+FIRST_SCRIPTS = ('common.js', 'sharing.js', 'lessons.js', 'start.js')
+SCRIPTS = ('source.js', 'texts.js', 'messages.js', 'caller.js', 'run.js', 'failure.js', 'faults.js', 'places.js', 'arrows.js', 'store.js',
+           'editor.js', 'inverse.js', 'listing.js', 'inputs.js', 'problems.js', 'output.js', 'transport.js', 'figure.js', 'page.js')
 PAIRS = f'{TOP}/companion/rpp/pages/side.js'
+# What the companion says of refusals and faults, in the order in which these modules use each other.
+RULES = ('tokens', 'source', 'names', 'expressions', 'spelling', 'slots', 'grammar', 'syntax', 'rules', 'fault_slots', 'explain')
 EXERCISES = f'{TOP}/docs/learn/exercises'
 # What the page can check of a run.
 CASES = ('compare', 'back')
@@ -108,29 +113,22 @@ def of_companion(module):
 
 
 def messages():
-    """The companion's tables: for each refusal and fault its name, its sentence and how to fix it."""
-    tables = of_companion('messages')
-    return complete({'refusals': plain(tables.refusals()), 'faults': plain(tables.faults())})
-
-
-def plain(rules):
-    """Rules as plain data: besides the general sentence those with slots, and those of a body that runs backward."""
-    more = {'forms': (), 'back': (), 'fix_back': ''}
-    slots = lambda it: {name: getattr(it, name, none) for name, none in more.items()}
-    return {it.number: {'name': it.name, 'sentence': it.sentence, 'fix': it.fix, **slots(it)} for it in rules.values()}
+    """The companion's rules of refusals and faults, as a script."""
+    tables = of_companion('rules')
+    complete({'refusals': tables.REFUSAL_OF, 'faults': tables.FAULT_OF})
+    return f'const {{ companion, Bytes }} = (() => {{\n{read(f"{HERE}/python.js")}\nreturn {{ companion: {translate.script(RULES)}, Bytes }};\n}})();\n'
 
 
 def complete(tables):
-    """The tables, where they have all that the page shows; else the build fails."""
+    """Fails where the companion has no sentence for a refusal or a fault, or does not say how to fix it."""
     for kind, last in (('refusals', TEXT_REFUSALS), ('faults', FAULTS)):
         rules = tables[kind]
-        missing = [number for number in range(1, last + 1) if not rules.get(number, {}).get('sentence')]
+        missing = [number for number in range(1, last + 1) if number not in rules or not rules[number].sentence]
         if missing:
             raise CannotBuild(f'the companion has no sentences for the {kind} {missing}')
-        lacking = [number for number in range(1, last + 1) if not rules[number]['fix']]
+        lacking = [number for number in range(1, last + 1) if not rules[number].fix]
         if lacking:
             raise CannotBuild(f'the companion does not say how to fix the {kind} {lacking}')
-    return tables
 
 
 def grammar():
@@ -149,10 +147,14 @@ def unpacked(text):
 
 
 def minified(*files):
-    """The texts of scripts, one after the other, without what is there for readers; their own names at the top stay."""
-    done = subprocess.run([MINIFIER, '--mangle'], input='\n'.join(map(read, files)).encode(), stdout=subprocess.PIPE, check=False)
+    return shortened('\n'.join(map(read, files)), ' '.join(files))
+
+
+def shortened(text, what):
+    """A script without what is there for readers; its own names at the top stay."""
+    done = subprocess.run([MINIFIER, '--mangle'], input=text.encode(), stdout=subprocess.PIPE, check=False)
     if done.returncode or not done.stdout:
-        raise CannotBuild(f'{MINIFIER} did not do {" ".join(files)}')
+        raise CannotBuild(f'{MINIFIER} did not do {what}')
     return done.stdout.decode()
 
 
@@ -162,12 +164,15 @@ def missing_packages():
     return [name for name, is_here in files.items() if not is_here]
 
 
-def libraries():
-    """The editor and the layout, as one script that begins with the words of who may use them."""
+def packed_scripts():
+    """The editor, the layout, the companion's rules and the page's own scripts, as one script that begins with the words of who may
+    use the first two."""
     lacking = missing_packages()
     if lacking:
         raise CannotBuild(f'the page is made with Debian\'s packages {" ".join(lacking)}, which are not here')
-    return '\n'.join([rights(), minified(*(f'{EDITOR}/{it}' for it in EDITOR_SCRIPTS)), read(LAYOUT)])
+    own = minified(PAIRS, *(f'{HERE}/{it}' for it in SCRIPTS))
+    parts = [minified(*(f'{EDITOR}/{it}' for it in EDITOR_SCRIPTS)), read(LAYOUT), shortened(messages(), 'the rules of the companion'), own]
+    return '\n'.join([rights(), *parts])
 
 
 def rights():
@@ -183,12 +188,11 @@ def carried(module, made):
         **made,
         'version': version(),
         'module': packed(module),
-        'libraries': packed(libraries().encode()),
+        'scripts': packed(packed_scripts().encode()),
         'worker': minified(f'{HERE}/program.js', f'{HERE}/worker.js'),
         'examples': programs,
         **lessons(programs),
         'grammar': grammar(),
-        'messages': messages(),
         'figure': style(f'{HERE}/store.css'),
     }
 
@@ -202,14 +206,28 @@ def style(*files):
 
 def help_text(module, made):
     text = read(f'{HERE}/help.html')
-    for name, value in {**made, 'version': version(), 'size': len(module), 'sum': hashlib.sha256(module).hexdigest()}.items():
+    tables = of_companion('rules')
+    lists = {'faults': rule_list(tables.FAULTS), 'refusals': rule_list(tables.REFUSALS)}
+    for name, value in {**made, **lists, 'version': version(), 'size': len(module), 'sum': hashlib.sha256(module).hexdigest()}.items():
         text = text.replace(f'{{{name}}}', str(value))
     return text
 
 
+def rule_list(rules):
+    """Refusals or faults for the help, each with its sentence, and how to fix it below."""
+    row = lambda it: f'<details><summary><code>{it.number} {it.name}</code> {marked_up(it.sentence)}</summary>{fixes(it)}</details>'
+    fixes = lambda it: f'<p><b>How to fix it:</b> {marked_up(it.fix)}</p>' if it.fix else ''
+    return '\n'.join(map(row, rules))
+
+
+def marked_up(sentence):
+    """A sentence as HTML, its parts in backquotes as code."""
+    return re.sub('`(.*?)`', r'<code>\1</code>', html.escape(sentence, quote=False))
+
+
 def page(module, made):
     """The page over the bytes of a WebAssembly module of 32-bit addresses."""
-    scripts = minified(PAIRS, *(f'{HERE}/{it}' for it in SCRIPTS))
+    scripts = minified(*(f'{HERE}/{it}' for it in FIRST_SCRIPTS))
     if '</script' in scripts:
         raise CannotBuild('a script would end the element of which it is a part')
     data = json.dumps(carried(module, made), separators=(',', ': ')).replace('</', '<\\/')

@@ -5,8 +5,7 @@ const spaced = name => name.replace(/([a-z])([A-Z])/g, '$1 $2').toLowerCase();
 const caption = text => made('span', { className: 'caption', textContent: `  ${text}` });
 
 class Problems {
-  // `messages` are the companion's: for each refusal and fault its sentence and how to fix it.
-  constructor(messages, editor) { Object.assign(this, { messages, editor }); }
+  constructor(editor) { this.editor = editor; }
 
   tell(kind, ...parts) {
     $('problems').className = kind;
@@ -19,24 +18,39 @@ class Problems {
     this.tell('wrong', made('h2', {}, ...withCode(head), ...(number ? [caption(number)] : [])), ...parts);
   }
 
-  // A message, and how to fix what it says.
-  parts({ sentence, fix }, isSentenceTold = true) {
+  // A message: its sentence, what was expected, and how to fix what it says.
+  parts({ sentence, detail, fix }) {
     const out = made('p', { className: 'out' }, made('b', { textContent: 'How to fix it: ' }), ...withCode(fix));
-    return [...(isSentenceTold ? [made('p', {}, ...withCode(sentence))] : []), ...(fix ? [out] : [])];
+    return [...[sentence, detail].filter(Boolean).map(it => made('p', {}, ...withCode(it))), ...(fix ? [out] : [])];
   }
 
   // Tells a refused text. Gives what is to be spoken.
   refused(answer, text) {
-    const refusal = refusalOf(answer.text), spot = refusal?.place === undefined ? undefined : spotOf(text, refusal.place);
-    const rule = this.messages.refusals[refusal?.number], other = answer.stopped ?? `the program ended with status ${answer.status}`;
-    const words = refusal ? spaced(refusal.name) : other, source = new Source(text);
-    const message = rule && messageOf(rule, spot && refusalSlots(refusal.number, source, refusal.place));
-    const head = spot ? `Line ${spot.line + 1}, column ${spot.column + 1}: ${words}` : words;
-    const open = refusal?.name === 'Syntax' ? openWords(source) : '';
-    if (spot) this.editor.markMistake(spot);
-    this.wrong(head, refusal && `refusal ${refusal.number}`, ...(spot ? [this.lines(text, spot)] : []), ...(message ? this.parts(message) : []),
-      ...(open ? [made('p', { className: 'out' }, ...withCode(`Not ended yet: ${open}.`))] : []));
-    return message ? `${head}. ${message.sentence.replaceAll('`', '')}` : head;
+    const refusal = refusalOf(answer.text), other = answer.stopped ?? `the program ended with status ${answer.status}`;
+    const words = refusal ? spaced(refusal.name) : other;
+    if (refusal?.place === undefined) {
+      this.wrong(words, refusal && `refusal ${refusal.number}`);
+      return words;
+    }
+    const spot = spotOf(text, refusal.place), message = refusalMessage(text, refusal.number, refusal.place);
+    const head = `Line ${spot.line + 1}, column ${spot.column + 1}: ${words}`, isSyntax = refusal.name === 'Syntax';
+    this.editor.markMistake(spot);
+    this.editor.tell(spot.line, made('div', { className: 'told' }, ...withCode(message.sentence), ' ', this.writing(message, text)));
+    this.wrong(head, `refusal ${refusal.number}`, this.lines(text, spot), ...this.parts(message), ...(isSyntax ? this.open(text) : []));
+    return `${head}. ${message.sentence.replaceAll('`', '')}`;
+  }
+
+  // The blocks that are not ended yet.
+  open(text) {
+    const blocks = openBlocks(text).map(([word, line]) => `\`${word}\` of line ${line}`);
+    return blocks.length ? [made('p', { className: 'out' }, ...withCode(`Not ended yet: ${blocks.join(', ')}.`))] : [];
+  }
+
+  // The key that writes what a message says is to be written, where that is a text.
+  writing({ edits, title }, text) {
+    if (!edits.length || !title) return undefined;
+    const index = indexOfByte(text), parts = edits.map(it => [index(it.begin), index(it.end), it.text]);
+    return made('button', { type: 'button', onclick: () => this.editor.change(parts) }, ...withCode(title));
   }
 
   // The line of a mistake between its neighbours, with a caret.
@@ -51,9 +65,9 @@ class Problems {
 
   // Tells that a run could not begin: because of a number in a chip, or of a limit.
   notBegun(answer, bad) {
-    const refusal = refusalOf(answer.text), rule = this.messages.refusals[refusal?.number];
+    const refusal = refusalOf(answer.text), rule = companion.rules.REFUSAL_OF.get(refusal?.number);
     const range = 'it takes a whole number from -2,147,483,648 to 2,147,483,647';
-    const sentence = rule ? messageOf(rule).sentence : ended(answer, '');
+    const sentence = rule ? rule.sentence : ended(answer, '');
     const why = bad ? `The field ${bad[0]} cannot begin with “${bad[1]}”: ${range}.` : sentence;
     this.wrong('The run did not begin', refusal && !bad ? `refusal ${refusal.number} ${refusal.name}` : undefined, made('p', {}, ...withCode(why)));
     return `The run did not begin. ${why}`;
@@ -69,27 +83,22 @@ class Problems {
 
   // Tells a fault, with the line where the program says that it is.
   fault(fault, line, onShow) {
-    const message = this.ofFault(fault), where = line === undefined ? 'The run stops' : `The run stops at line ${line + 1}`;
+    const where = line === undefined ? 'The run stops' : `The run stops at line ${line + 1}`;
     const show = made('button', { type: 'button', textContent: 'Show the stop', onclick: onShow });
     const told = fault.failure ? [made('p', {}, ...withCode(`${fault.failure.told}.`))] : [];
-    this.wrong(`${where}: ${faultTitle(fault)}`, `fault ${fault.number} ${fault.name}`, ...told, ...this.parts(message, !fault.failure),
+    this.wrong(`${where}: ${faultTitle(fault)}`, `fault ${fault.number} ${fault.name}`, ...told, ...this.parts(fault.message),
       made('p', { className: 'out' }, show, ' ', made('span', { className: 'caption', textContent: 'Go back from there to see how it came.' })));
-  }
-
-  ofFault({ number, failure, isUndone }) {
-    const rule = this.messages.faults[number];
-    return rule ? messageOf(rule, failure?.slots, isUndone) : { sentence: '', fix: '' };
   }
 
   // The lines below the line of a fault.
   atPlace(fault) {
-    const { number, name, failure } = fault, title = made('b', {}, ...withCode(faultTitle(fault)));
-    const told = made('div', { className: 'fault-told' }, title, caption(`fault ${number} ${name}`));
+    const { number, name, failure, message } = fault, title = made('b', {}, ...withCode(faultTitle(fault)));
+    const told = made('div', { className: 'told' }, title, caption(`fault ${number} ${name}`));
     if (failure) {
       const row = (term, value) => [made('dt', { textContent: term }), made('dd', { textContent: value })];
       told.append(made('dl', {}, ...row('found', failure.found), ...row('wanted', failure.wanted)));
     } else {
-      told.append(made('div', {}, ...withCode(this.ofFault(fault).sentence)));
+      told.append(made('div', {}, ...withCode(message.sentence)));
     }
     return told;
   }

@@ -18,10 +18,10 @@ async function readyCaller(carried) {
   return caller;
 }
 
-// The editor and the layout, which the page carries packed.
-async function loadLibraries(carried) {
+// The editor, the layout and most of the page's own scripts, which it carries packed.
+async function loadScripts(carried) {
   needs(typeof DecompressionStream === 'function', 'DecompressionStream, by which this page unpacks what it carries');
-  document.head.append(made('script', { textContent: new TextDecoder().decode(await unzipped(carried.libraries)) }));
+  document.head.append(made('script', { textContent: new TextDecoder().decode(await unzipped(carried.scripts)) }));
 }
 
 // The page without runs: the text can be read and written, and the examples can be chosen.
@@ -49,7 +49,7 @@ async function start() {
   for (const key of all('[data-close]')) key.onclick = () => key.closest('dialog').close();
   for (const dialog of all('dialog')) dialog.onclick = event => event.target === dialog && dialog.close();
   try {
-    await loadLibraries(carried);
+    await loadScripts(carried);
     // For the tests of this page.
     globalThis.playground = new Workbench(carried, await readyCaller(carried), lessons);
   } catch (error) {

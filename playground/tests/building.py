@@ -1,30 +1,39 @@
 """What the build takes, and what it refuses: nothing of this needs a browser."""
+import ast
 import contextlib
 import re
 
 import page as pages
+import translate
 from drawn import equal, holds
 
 MODULE_HEAD, MEMORIES, HAS_64_BITS = b'\0asm\1\0\0\0', 5, 4
 
 
 def refuses(what, work):
-    with contextlib.suppress(pages.CannotBuild):
+    with contextlib.suppress(pages.CannotBuild, translate.CannotTranslate):
         work()
         raise AssertionError(f'the build takes {what}')
 
 
 def empty_tables_fail():
     """A build whose tables are empty, or without a rule, fails."""
-    tables = pages.messages()
-    equal((len(tables['faults']) >= 16, len(tables['refusals']) >= 23), (True, True))
+    rules = pages.of_companion('rules')
+    tables = {'refusals': rules.REFUSAL_OF, 'faults': rules.FAULT_OF}
+    pages.complete(tables)
     refuses('no faults', lambda: pages.complete({**tables, 'faults': {}}))
     refuses('no refusals', lambda: pages.complete({**tables, 'refusals': {}}))
     without = {number: rule for number, rule in tables['refusals'].items() if number != 16}
     refuses('tables without refusal 16', lambda: pages.complete({**tables, 'refusals': without}))
-    silent = {**tables['faults'], 3: {**tables['faults'][3], 'sentence': ''}}
+    silent = {**tables['faults'], 3: tables['faults'][3]._replace(sentence='')}
     refuses('a fault without its sentence', lambda: pages.complete({**tables, 'faults': silent}))
     refuses('steps without an example', lambda: pages.lessons({**pages.examples(), 'new': {}}))
+
+
+def what_is_not_translated_fails():
+    """A module of the companion that uses more of Python than what is translated is no part of a page."""
+    for text in ('with open(a) as b:\n    pass', 'def f(*, a):\n    return a', 'a = 2 ** 3', 'from os import path\nb = path', 'a = [b for b in b]'):
+        refuses(repr(text), lambda text=text: translate.Module('module', ['module'], ast.parse(text)).script())
 
 
 def the_page_is_small(text):
@@ -57,5 +66,5 @@ def nothing_is_fetched(text):
     equal(re.findall(r'<(?:script|link|img)[^>]*(?:src|href)=[^>]*>', text), [])
 
 
-TESTS = (empty_tables_fail,)
+TESTS = (empty_tables_fail, what_is_not_translated_fails)
 OF_PAGE = (the_page_is_small, the_module_is_of_32_bits, nothing_is_fetched)

@@ -28,7 +28,7 @@ return [...document.querySelectorAll('.CodeMirror-code > div')].filter(isDrawn).
   kinds: [...row.querySelectorAll('.CodeMirror-linebackground')].map(it => it.className).join(' '),
   sign: row.querySelector('.way-mark')?.textContent ?? '',
   marked: [...row.querySelectorAll('.here-place, .fault-place, .mistake-place')].map(it => it.textContent).join(''),
-  told: row.querySelector('.fault-told')?.innerText ?? '' }));
+  told: row.querySelector('.told')?.innerText ?? '' }));
 '''
 BOXES = IS_DRAWN + '''
 return [...document.querySelectorAll('#store .box')].filter(isDrawn).map(box => {

@@ -88,7 +88,7 @@ def links_lead_back(page):
 
 
 def the_address_keeps_the_text(page):
-    """The address has the text as it was typed last, and what Share gave stays there also while the text before it is packed."""
+    """The address has the text as it was typed last. What Share puts there stays, also if the text before it is still being packed."""
     page.open()
     page.write('class P int x method main()\nx += 1\nx += 2')
     page.rest(KEPT_SECONDS)
