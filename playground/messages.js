@@ -2,7 +2,7 @@
 'use strict';
 
 // The companion's message for a refused text: its sentence, what was expected, how to fix it, and the edits that do.
-const refusalMessage = (text, number, place) => companion.explain.of_refusal(Bytes.of(text), number, place);
+function refusalMessage(text, number, place) { return companion.explain.of_refusal(Bytes.of(text), number, place); }
 
 // The blocks that have no end yet where a text leaves the grammar: the words that open them, with their lines from 1.
 function openBlocks(text) {
