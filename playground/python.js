@@ -24,7 +24,7 @@ class Bytes {
   }
 }
 
-// An object of a translated class. The fields of a record are rows of a name and what makes its value where none is given.
+// An object of a translated class. The fields of a record are rows of a name and what makes its value if none is given.
 class Thing {
   static made(named, ...given) {
     const it = new this();

@@ -113,7 +113,7 @@ class Used(ast.NodeVisitor):
 
 
 class Expressions:
-    """Expressions as JavaScript. `classes` are the names that are classes where the code stands."""
+    """Expressions as JavaScript. `classes` are the names of classes at the code."""
 
     def __init__(self, classes, methods):
         self.classes, self.methods = classes, methods
@@ -257,7 +257,7 @@ class Expressions:
 
     def parameters(self, given):
         if given.kwonlyargs or given.kwarg or given.posonlyargs:
-            fail(given, 'parameters by names alone')
+            fail(given, 'parameters by name only')
         names = [self.of_Name(ast.Name(it.arg)) for it in given.args if it.arg not in ('self', 'cls')]
         for at, default in enumerate(reversed(given.defaults), 1):
             names[-at] += f' = {self.of(default)}'

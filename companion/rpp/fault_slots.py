@@ -11,8 +11,8 @@ from .trace import Moment, Thing
 
 
 class Where(NamedTuple):
-    """A fault: the text, the byte of the statement that fails, what was there before the last statement that began, whether the body
-    runs backward, the bounds of the run, and the moment of the test that fails at the end of the statement."""
+    """A fault: the text, and the byte of the statement that fails. `moment` is what was there before the last statement that began, and
+    `failed` the moment of a test that fails at the end of the statement. `is_back` says whether the body runs backward."""
     text: bytes
     at: int
     moment: Optional[Moment]

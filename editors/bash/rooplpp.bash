@@ -1,5 +1,5 @@
-# Completion of `rooplpp` for bash: commands and files. In a form, F stands for a file and - for another word; the last one is for all
-# words that follow. tools/map writes the forms.
+# Completion of `rooplpp` for bash: commands and files. In a form, F is a file and - another word; the last one is
+# for all words that follow. tools/map writes the forms.
 _rooplpp() {
     local word=${COMP_WORDS[COMP_CWORD]} forms=() form=() at=$((COMP_CWORD - 1))
 # <!-- forms -->

@@ -91,7 +91,7 @@ def a_key_writes_the_fix(page):
 
 
 def faults_are_told_with_names_and_values(page):
-    """A fault is told in the companion's words with the names and values of its statement."""
+    """A fault is explained in the companion's words, with the names and values of its statement."""
     for name, wanted in (('4 NotNil', 'a must be nil before new, and it holds #2.'), ('5 Nil', 'a must not be nil here.'),
                          ('6 Count', 'a must have the only reference to #2, which has 2.'), ('7 NotEmpty', '[0] of #2 must be 0 or nil when it is deleted, and it is 1.'),
                          ('8 HeapFull', 'The heap of 4,096 words must have a free block of 5002 words.'),

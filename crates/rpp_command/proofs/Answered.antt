@@ -1,4 +1,4 @@
--- What a line asks of the outside, from what its parts ask.
+-- What a line asks of files and output, from what its parts ask.
 use Rattle.std.proofs.Common.{◌≡◌, refl, sym, subst, ℕ, List, Some, None, inl, inr, arith, string_bytes}
 use Rattle.std.specs.Prelude.{Result}
 use Rattle.std.specs.declared.option.Option.{Option}

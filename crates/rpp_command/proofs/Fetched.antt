@@ -75,7 +75,7 @@ gave_some told (file ∷ files) [] old new gave = absurd gave
 gave_some told (file ∷ files) (text ∷ texts) old new gave =
     inr (inr (text, gave_some told files texts (read file (Ok text) ∷ old) new gave.1))
 
--- nothing was read, for want of memory
+-- nothing was read, because memory ran out
 pub none_asked : {T : Type 0} (told : Option Texts) (b n : ℕ) (files : List Needed) (old : List Event)
     (r : Result T NoPlan) → IfErr r (λ e. e ≡ NoMemory) → Asks {T = T} told b n files old old r
 none_asked told b n files old (Ok x) h = record { stops = tt }
@@ -112,7 +112,7 @@ then_asked {U} told at b m n file files old mid new text r kept later gave more 
       );
     }
 
--- all files were read, and no memory is all that can stop a call behind that
+-- all files were read, and after that only a lack of memory can stop a call
 pub all_asked : {T : Type 0} (told : Option Texts) (b n : ℕ) (files : List Needed) (old new : List Event)
     (texts : List (List ℕ)) (r : Result T NoPlan) → Gave told files texts old new → IfErr r (λ e. e ≡ NoMemory)
     → Asks {T = T} told b n files old new r

@@ -72,7 +72,7 @@ pub stopped : {T : Type 0} (line : Asked) (probes : List Watch) (b n : ℕ) (she
 stopped line probes b n shelf shelf' NoMemory asks = inl (asks.stops, refl)
 stopped line probes b n shelf shelf' (Unread text) asks = (asks.stops, refl)
 
--- nothing was told of what was not read
+-- no probe observed a step of what was not read
 pub untold : (probes : List Watch) (stop : NoPlan) → UnreadCause (probes ≡ probes) stop
 untold probes NoMemory = tt
 untold probes (Unread text) = refl

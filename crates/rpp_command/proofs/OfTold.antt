@@ -1,4 +1,4 @@
--- A plan of the texts that the files of a line gave is one of the texts that the shelf tells, if it does.
+-- A plan of the texts that the files of a line gave is one of the known texts, if the store's contents are known.
 use Rattle.std.proofs.Common.{Ok, refl, ℕ, ◌≤◌, List, [], ◌∷◌, Some, None, inr, arith}
 use Rattle.std.specs.Prelude.{length, map}
 use Rattle.std.specs.declared.option.Option.{Option}

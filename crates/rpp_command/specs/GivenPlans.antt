@@ -64,7 +64,7 @@ IsPlanOf (Explain file heap deep fuel input) before after count counted (text �
     IsExplainPlan text (input_of given) heap deep fuel p
 IsPlanOf _ before after count counted texts p = ⊥
 
--- what is left of the probes where want of memory keeps the line from a plan of these texts
+-- what is left of the probes if memory runs out before there is a plan of these texts
 unfoldable pub LeavesOf : Asked → (before after : List Watch) → (texts : List (List ℕ)) → Type 0
 LeavesOf (Turn file heap deep steps input) before after (text ∷ given) =
     IsTurnShort before after text (input_of given) heap deep steps

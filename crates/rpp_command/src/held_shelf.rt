@@ -1,4 +1,4 @@
-// Texts that are held in memory, for code that may see them and nothing of the outside.
+// Texts that are held in memory, for code that may see them and no other file.
 ghost use Rattle.std.specs.Prelude.{◌≡◌, []};
 ghost use Rattle.command_line.specs.rpp_ports.Shelves.{shelf_failing};
 

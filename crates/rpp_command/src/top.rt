@@ -41,7 +41,7 @@ pub fn rooplpp<S: Shelf, K: Sink, P: Probes>(
     out: &mut K,
     probes: &mut P,
 ) -> u8
-    // All that is asked of the outside, and the status. The files of the line are read, each once and
+    // All calls to files and output, and the status. The files of the line are read, each once and
     // in order, up to the first that fails. The plan is one of the texts that they gave. Then its file
     // is written once, if it has one, and its text is put once. Nothing else is asked.
     ensures answer { Answers (line_of (map string_bytes words.now)) (P.watches probes.old)
@@ -178,7 +178,7 @@ fn serve<S: Shelf, K: Sink, P: Probes, L: Ledger>(
 }
 
 // The plan of a line. Its files are read first, each once and in order. What makes the plan sees
-// their texts, and nothing of the outside.
+// their texts, and no other file.
 fn plan_files<S: Shelf, P: Probes, L: Ledger>(
     alloc: Global,
     line: &Line,
@@ -216,7 +216,7 @@ fn plan_files<S: Shelf, P: Probes, L: Ledger>(
     plan_held(alloc, line, &mut held, probes, counter)
 }
 
-// The plan of a line of texts that were all read. So nothing but want of memory can stop it.
+// The plan of a line of texts that were all read. So only a lack of memory can stop it.
 fn plan_held<P: Probes, L: Ledger>(
     alloc: Global,
     line: &Line,
