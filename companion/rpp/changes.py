@@ -7,6 +7,7 @@
 import re
 from typing import List, Optional
 
+from .formulas import Formula, Value
 from .tokens import NAME
 from .trace import Moment, Thing
 
@@ -25,6 +26,11 @@ def value_of(moment: Moment, path: str) -> Optional[str]:
         thing = thing_of(moment, value)
         value = dict(thing.cells).get(part[1] or part[2]) if thing else None
     return value
+
+
+def computed(moment: Moment, formula: Formula) -> Value:
+    """What a formula gives of the values of a moment; raises BadFormula where one of them is not there."""
+    return formula.value(lambda path: value_of(moment, path))
 
 
 def thing_of(moment: Moment, value: Optional[str]) -> Optional[Thing]:

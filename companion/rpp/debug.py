@@ -1,9 +1,11 @@
 """`rpp debug F`: goes both ways along a run, by a prompt or a script; F is a source or an image."""
 import sys
-from typing import List
+from typing import List, Tuple
 
 from . import show
+from .changes import thing_of, value_of
 from .faults import failing
+from .formulas import BadFormula, Formula
 from .machine import debug_image
 from .options import Parser, Unfit, add_run_options, add_source, input_file
 from .places import Text
@@ -13,7 +15,7 @@ from .reading import readable, shown, title
 from .report import failure_lines, source_refused
 from .run import Wanted, bounds_refused
 from .session import Session, Stop
-from .trace import Refused
+from .trace import Moment, Refused
 
 IMAGE_MARK = b'RPPI'
 
@@ -28,14 +30,18 @@ class SourcePrompt(Prompt):
     def __init__(self, session: Session, echo: bool):
         super().__init__(echo)
         self.session = session
+        self.chosen = 0
+        self.displays: List[Tuple[int, Formula]] = []
+        self.displayed = 0
         session.notify = self.notify
 
     def moved(self, move) -> None:
         """Makes a move, and shows where it led and what changed."""
         before = self.session.moment
         stop = move()
+        self.chosen = 0
         at_fault = failing(self.session) if stop.reason == 'fault' else None
-        self.say(show.stop_lines(self.session, stop, before, at_fault))
+        self.say(show.stop_lines(self.session, stop, before, at_fault) + self.display_lines())
 
     def here(self) -> None:
         self.say(show.stop_lines(self.session, Stop(self.session.point, 'step'), None))
@@ -75,14 +81,19 @@ class SourcePrompt(Prompt):
         self.moved(lambda: self.session.go(wanted))
 
     def do_break(self, arg: str) -> None:
-        """break [LINE]: stop at this line, or at the next one with a statement; without LINE, lists the breakpoints."""
+        """break [LINE | METHOD] [if EXPR]: stop at this line, or where METHOD begins, if EXPR is not 0; without words, lists the breakpoints."""
         if not arg:
-            stand = [f'breakpoint {each.number} at line {each.line}' for each in self.session.breakpoints]
-            self.say(stand or ['there are no breakpoints'])
+            self.say([show.breakpoint_title(each) for each in self.session.breakpoints] or ['there are no breakpoints'])
             return
-        line = self.statement_line(number_of(arg))
-        made = self.session.break_at(line)
-        self.say([f'breakpoint {made.number} at line {made.line}: {self.session.run.text.line(made.line).strip()}'])
+        where, _, text = (part.strip() for part in arg.partition(' if '))
+        condition = formula_of(text) if text else None
+        if where[0].isdigit():
+            made = self.session.break_at(self.statement_line(number_of(where)), condition)
+        else:
+            made = self.session.break_in(where, condition)
+        if made is None:
+            raise Unfit(f'there is no method {where} with a statement; break takes a line, or a method as Node.append or append')
+        self.say([f'{show.breakpoint_title(made)}: {self.session.run.text.line(made.line).strip()}'])
 
     def do_clear(self, arg: str) -> None:
         """clear [N]: takes breakpoint N away, or all."""
@@ -110,9 +121,70 @@ class SourcePrompt(Prompt):
         self.moved(lambda: (self.session.watch_back if back else self.session.watch)(words[-1]))
 
     def do_print(self, arg: str) -> None:
-        """print [NAME]: all variables; or a value: NAME, #K, or a path as list.head.data and row[2]."""
-        moment = self.session.moment
-        self.say(show.value_lines(moment, arg.replace(' ', '')) if arg else show.variable_lines(moment))
+        """print [EXPR]: all variables; or a value: NAME, #K, a path as list.head.data and row[2], or an expression as row[i] - 2 * n."""
+        moment = self.moment_chosen()
+        self.say(show.value_lines(moment, arg) if arg else show.variable_lines(moment))
+
+    def do_display(self, arg: str) -> None:
+        """display [EXPR]: shows the value of EXPR now and at each stop; without words, all that are shown."""
+        if arg:
+            self.displayed += 1
+            self.displays.append((self.displayed, formula_of(arg)))
+        self.say(self.display_lines()[-1 if arg else 0:] or ['nothing is displayed'])
+
+    def do_undisplay(self, arg: str) -> None:
+        """undisplay [N]: takes display N away, or all."""
+        kept = [each for each in self.displays if arg and each[0] != number_of(arg)]
+        if arg and len(kept) == len(self.displays):
+            raise Unfit(f'there is no display {arg}')
+        self.displays = kept
+
+    def display_lines(self) -> List[str]:
+        return [show.display_line(self.moment_chosen(), *each) for each in self.displays]
+
+    def moment_chosen(self) -> Moment:
+        """The moment of this position, or that at which the call that was chosen began."""
+        return self.session.run.moment(self.session.stack()[self.chosen].position) if self.chosen else self.session.moment
+
+    def do_up(self, _arg: str) -> None:
+        """up: shows the call around this one, with its variables for `print`."""
+        self.choose(self.chosen + 1)
+
+    def do_down(self, _arg: str) -> None:
+        """down: back to the call within this one."""
+        self.choose(self.chosen - 1)
+
+    def do_frame(self, arg: str) -> None:
+        """frame [N]: shows the call with the number N of `where`, with its variables for `print`; without words, the one that is shown."""
+        depths = [frame.depth for frame in self.session.stack()]
+        wanted = number_of(arg) if arg else None
+        if wanted is not None and wanted not in depths:
+            raise Unfit(f'there is no call {wanted}; `where` numbers them')
+        self.choose(depths.index(wanted) if wanted is not None else self.chosen)
+
+    def choose(self, index: int) -> None:
+        frames = self.session.stack()
+        if not frames:
+            raise Unfit('no call is open')
+        if not 0 <= index < len(frames):
+            raise Unfit(f'this is the {"innermost" if index < 0 else "outermost"} call')
+        self.chosen = index
+        self.say(show.frame_lines(self.session, frames[index]))
+
+    def choices(self, words: List[str], text: str) -> List[str]:
+        """Methods for `break`, and variables and objects for what shows a value."""
+        if words == ['break']:
+            methods = self.session.outline.methods
+            return [method.label for method in methods] + sorted({method.name for method in methods})
+        return self.paths(text) if words[0] in ('print', 'display', 'watch', 'break') else []
+
+    def paths(self, text: str) -> List[str]:
+        """The names of variables and objects, or those of the fields of what is before the last dot."""
+        moment, (head, dot, _) = self.moment_chosen(), text.rpartition('.')
+        if not dot:
+            return [*dict.fromkeys(name for name, _ in moment.variables), *(f'#{number}' for number in sorted(moment.objects))]
+        thing = thing_of(moment, value_of(moment, head))
+        return [f'{head}.{label}' for label, _ in thing.cells if label[0] != '['] if thing else []
 
     def do_objects(self, _arg: str) -> None:
         """objects: all live objects and arrays."""
@@ -139,6 +211,13 @@ class SourcePrompt(Prompt):
         if found != line:
             self.say([f'no statement begins at line {line}; the next one with a statement is {found}'])
         return found
+
+
+def formula_of(text: str) -> Formula:
+    try:
+        return Formula(text)
+    except BadFormula as why:
+        raise Unfit(f'{text}: {why}') from None
 
 
 def parser() -> Parser:

@@ -5,7 +5,7 @@
     formula.names                                     # ['sum', 'i']
 
 The operators and their levels are those of the language, and also `*`; words have 32 bits and wrap. An operand is a
-number, `nil`, or a path such as `i`, `list.head.data`, `row[2]` or `row[i + 1]`.
+number, `nil`, or a path such as `i`, `list.head.data`, `#3.next`, `row[2]` or `row[i + 1]`.
 """
 import re
 from typing import Callable, Dict, List, Optional, Tuple, Union
@@ -14,7 +14,7 @@ from .tokens import NAME
 
 Value = Union[int, str]
 Lookup = Callable[[str], Optional[str]]
-TOKEN = re.compile(rf'\s*({NAME}|\d+|&&|\|\||[<>!]=|[-+*^&|<>=()\[\].])')
+TOKEN = re.compile(rf'\s*({NAME}|#?\d+|&&|\|\||[<>!]=|[-+*^&|<>=()\[\].])')
 LEVELS: List[Tuple[str, ...]] = [('||',), ('&&',), ('|',), ('^',), ('&',), ('=', '!='), ('<', '>', '<=', '>='), ('+', '-'), ('*',)]
 WORDS: Dict[str, Callable[[int, int], int]] = {
     '||': lambda a, b: int(a != 0 or b != 0), '&&': lambda a, b: int(a != 0 and b != 0), '|': lambda a, b: a | b,
@@ -112,7 +112,7 @@ class _Reading:
             return word(int(token))
         if token == 'nil':
             return token
-        if not token[0].isalpha():
+        if not token[0].isalpha() and token[0] != '#':
             raise BadFormula(f'`{token}` is no value')
         return self.found(token + self.path())
 

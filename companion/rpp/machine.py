@@ -62,6 +62,9 @@ class MachinePrompt(Prompt):
         self.breaks: List[int] = []
         self.standing = run.walk(['step 0'])[0][-1]
 
+    def choices(self, words: List[str], _text: str) -> List[str]:
+        return list(self.listing.names) if words[0] in ('print', 'watch') else []
+
     def here(self) -> None:
         """Where the machine is, its instruction, and its statement."""
         at = self.standing

@@ -13,6 +13,7 @@ from typing import List, NamedTuple, Optional, Tuple
 from .messages import read_answer
 from .places import TOKEN, Text
 from .program import Program
+from .source import parsed
 
 GAP = re.compile(rb'(?:[ \t\r\n]+|//[^\n]*)+')
 MARK = re.compile(r'^MARK \d+ \d+ (\d+)$', re.M)
@@ -48,6 +49,7 @@ class Outline:
         self.tokens = tokens(text.content)
         self._starts = [at for at, _ in self.tokens]
         self.methods = methods(self.tokens)
+        self.parsed = parsed(text.content)
 
     @classmethod
     def made(cls, program: Program, text: Text) -> 'Outline':
@@ -72,6 +74,20 @@ class Outline:
             return 0, []
         found = self.line_of(behind[0])
         return found, self.places_on(found)
+
+    def methods_named(self, name: str) -> List[Method]:
+        """The methods `Class.name`, or of all classes `name`."""
+        return [method for method in self.methods if name.replace('::', '.') in (method.label, method.name)]
+
+    def entries(self, method: Method) -> List[int]:
+        """The statements with which a body can begin: its first one, and on the way back its last one."""
+        own = next((each for each in self.parsed.methods() if self.parsed.tokens[each.first].at == method.at), None)
+        if own is None or not own.body:
+            return []
+        first, last = own.body[0], own.body[-1]
+        ends = [last.first] + ([last.closing_at - 1] if last.form == 'construct' and last.closing_at else [])
+        places = [self.parsed.tokens[each].at for each in (first.first, *ends)]
+        return sorted({place for place in places if place in self.places})
 
     def places_in(self, method: Method) -> List[int]:
         return [place for place in self.places if method.at <= place < method.end]

@@ -4,6 +4,7 @@ import os
 import sys
 from typing import List, Optional
 
+from .complete import matching
 from .options import Unfit
 from .program import Interrupted, Killed, OutOfTime
 from .trace import Refused
@@ -67,15 +68,30 @@ class Prompt(cmd.Cmd):
         self.fail(f'there is no command {line.split()[0].replace("_", "-")}; `help` names them all')
         return False
 
+    def commands(self) -> List[str]:
+        """The names of the commands, as methods have them."""
+        return [name[3:] for name in dir(self) if name.startswith('do_') and name != 'do_EOF']
+
+    def completenames(self, text: str, *_ignored) -> List[str]:
+        """The commands that begin so, for the key Tab."""
+        return matching(text, [name.replace('_', '-') for name in self.commands()])
+
+    def completedefault(self, text: str, line: str, begin: int, _end: int) -> List[str]:
+        """What a word after a command can be, for the key Tab."""
+        return matching(text, self.choices(self.precmd(line[:begin]).split(), text))
+
+    def choices(self, words: List[str], text: str) -> List[str]:
+        """What can follow these words of a line, in a word that begins with this text."""
+        raise NotImplementedError
+
     def do_help(self, arg: str) -> None:
         """help [COMMAND]: what the commands do."""
-        names = [arg.replace('-', '_')] if arg else [name[3:] for name in dir(self) if name.startswith('do_')]
+        names = [arg.replace('-', '_')] if arg else self.commands()
         for name in names:
             name = self.aliases.get(name, name).replace('-', '_')
             action = getattr(self, f'do_{name}', None)
             if action is None or name == 'EOF':
-                if arg:
-                    self.fail(f'there is no command {arg}')
+                self.fail(f'there is no command {arg}')
                 continue
             short = sorted(each for each, full in self.aliases.items() if full.replace('-', '_') == name)
             self.say([action.__doc__.split('\n')[0].rstrip('.') + (f'  ({", ".join(short)})' if short else '')])
@@ -137,6 +153,8 @@ def remember(prompt: Prompt) -> None:
         import readline
     except ImportError:
         return
+    # (a path and a command with a hyphen are each one word)
+    readline.set_completer_delims(' \t\n()=<>!&|^+*')
     path = os.path.expanduser(HISTORY)
     try:
         readline.read_history_file(path)

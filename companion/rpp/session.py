@@ -3,6 +3,8 @@ use it. It adds nothing to what `trace` says; positions are the program's.
 
     session = Session.begun(program, 'list.rpp', heap=12, depth=64, inputs=None)
     session.break_at(15)           # Breakpoint(number=1, line=15, places=(375,))
+    session.break_at(15, Formula('n > 3'))      # only where this is not 0
+    session.break_in('Node.append')             # where a call of this method begins
     stop = session.run_on()        # Stop(point, reason, detail); session.point is where it is
     session.stack()                # the active calls, innermost first: Frame(depth, method, place, uncalled, number)
     session.moment.variables       # what `regs` shows there
@@ -10,31 +12,43 @@ use it. It adds nothing to what `trace` says; positions are the program's.
     session.close()
 
 The moves (step, back, next, previous, finish, leave_back, until, run_on, run_back, watch, watch_back, go) each give a Stop.
-Its reason is `step`, `break`, `change` (its detail is a sentence on it), `end`, `fault`, `start`, `memory` (the program answered
-with status 7 to a move beyond) or `interrupted`.
+Its reason is `step`, `break`, `change`, `end`, `fault`, `start`, `memory` (the program answered with status 7 to a move beyond) or
+`interrupted`. For `break`, `by` is the number of the breakpoint; for `change`, the detail is a sentence on it.
 """
-from typing import Callable, List, NamedTuple, Optional
+from typing import Callable, List, NamedTuple, Optional, Tuple
 
-from .changes import value_of
+from .changes import computed, value_of
+from .formulas import BadFormula, Formula
 from .outline import Call, Outline
 from .program import Closing, Interrupted, Program
-from .trace import FAR, Moment, Point, Refused, SourceRun
+from .trace import FAR, Moment, Point, Refused, SourceRun, cells_lines
 
 FIRST_BOUND = 100_000
 WINDOW_SECONDS = 1.0
 MOST_ROUNDS = 200
+# the names of objects that are shown with each hit
+MOST_SHOWN = 200
 
 
 class Breakpoint(NamedTuple):
+    """A breakpoint at the statements of a line; or, with a method, where a call of it begins. With a condition it counts only where
+    that is not 0."""
     number: int
     line: int
     places: tuple
+    condition: Optional[Formula] = None
+    method: str = ''
+
+    @property
+    def is_plain(self) -> bool:
+        return self.condition is None and not self.method
 
 
 class Stop(NamedTuple):
     point: Point
     reason: str
     detail: str = ''
+    by: int = 0
 
 
 class Frame(NamedTuple):
@@ -86,13 +100,23 @@ class Session(Closing):
 
     # Breakpoints
 
-    def break_at(self, line: int) -> Optional[Breakpoint]:
+    def break_at(self, line: int, condition: Optional[Formula] = None) -> Optional[Breakpoint]:
         """Sets a breakpoint at the first line from this one on where a statement begins."""
         found, places = self.outline.breakable(line)
+        return self.add_breakpoint(found, places, condition) if places else None
+
+    def break_in(self, name: str, condition: Optional[Formula] = None) -> Optional[Breakpoint]:
+        """Sets a breakpoint where a call of a method begins: `Class.name`, or `name` in all classes."""
+        methods = self.outline.methods_named(name)
+        places = sorted({place for method in methods for place in self.outline.entries(method)})
         if not places:
             return None
+        label = ', '.join(method.label for method in methods)
+        return self.add_breakpoint(self.outline.line_of(places[0]), places, condition, label)
+
+    def add_breakpoint(self, line: int, places: List[int], condition: Optional[Formula], method: str = '') -> Breakpoint:
         self._numbers += 1
-        self.breakpoints.append(Breakpoint(self._numbers, found, tuple(places)))
+        self.breakpoints.append(Breakpoint(self._numbers, line, tuple(places), condition, method))
         return self.breakpoints[-1]
 
     def clear(self, number: int) -> bool:
@@ -149,11 +173,11 @@ class Session(Closing):
 
     def run_on(self) -> Stop:
         """On to the next breakpoint, or to the end."""
-        return self._guarded(lambda: self._seek(self.break_places, back=False), None)
+        return self._guarded(lambda: self._to_breakpoint(back=False), None)
 
     def run_back(self) -> Stop:
         """Back to the last breakpoint, or to the start."""
-        return self._guarded(lambda: self._seek(self.break_places, back=True), None)
+        return self._guarded(lambda: self._to_breakpoint(back=True), None)
 
     def watch(self, path: str) -> Stop:
         """On to the first position where the value has changed."""
@@ -288,14 +312,85 @@ class Session(Closing):
             bound *= 2
             self.notify(f'looked up to position {furthest.position}')
 
+    def _to_breakpoint(self, back: bool) -> Stop:
+        """To the nearest breakpoint that counts. Those that have to be tested are looked at many at once, and ever more."""
+        if all(each.is_plain for each in self.breakpoints):
+            stop = self._seek(self.break_places, back)
+            return self._broken(self.moment) if stop.reason == 'break' else stop
+        begin, bound, count, way = self.position, FIRST_BOUND, 1, -1 if back else 1
+        shown = self._shown()
+        while True:
+            walks = self.run.hits(begin, self.break_places, bound, count, back, shown)
+            ended = [self._is_over(walk, begin, back) for walk in walks]
+            reached = [walk[-1].point.position for walk, is_over in zip(walks, ended) if not is_over]
+            horizon = (max if back else min)(reached) if reached else None
+            found = {moment.point.position: moment for walk, place in zip(walks, self.break_places) for moment in walk
+                     if moment.point.place == place and moment.point.position != begin}
+            for position in sorted(found, reverse=back):
+                if horizon is None or way * position <= way * horizon:
+                    stop = self._broken(found[position])
+                    if stop is not None:
+                        return stop
+            if horizon is None:
+                return self._stand(self.run.point(0), 'start') if back else self._stand(self.run.end(), 'end', FAR)
+            most = self.run.affordable(WINDOW_SECONDS, horizon) // (len(walks) * (1 + len(shown))) + 1
+            begin, bound, count = horizon, min(FAR, 2 * bound), min(most, 4 * count)
+            self.notify(f'looked {"back" if back else "up"} to position {horizon}')
+
+    @staticmethod
+    def _is_over(walk: List[Moment], begin: int, back: bool) -> bool:
+        """Whether a walk has come to the end of the run, or to its start."""
+        positions = [begin, *(moment.point.position for moment in walk)]
+        last = walk[-1].point
+        return last.at_end or last.fault is not None or back and last.position == 0 or positions[-1] == positions[-2]
+
+    def _shown(self) -> List[str]:
+        """The lines that show what the conditions of the breakpoints need at once; what is not shown is asked for later."""
+        formulas = [each.condition for each in self.breakpoints if each.condition]
+        if not formulas:
+            return []
+        return ['regs'] + cells_lines(MOST_SHOWN) * any(set(formula.text) & set('.[#') for formula in formulas)
+
+    def _broken(self, moment: Moment) -> Optional[Stop]:
+        """The stop of the first breakpoint that counts at this moment, where one does."""
+        for each in self.breakpoints:
+            if moment.point.place not in each.places:
+                continue
+            held, why = self._held(each.condition, moment)
+            if held and (not each.method or self._begins(moment.point)):
+                return self._stand(self.run.point(moment.point.position), 'break')._replace(reason='break', detail=why, by=each.number)
+        return None
+
+    def _held(self, condition: Optional[Formula], moment: Moment) -> Tuple[bool, str]:
+        """Whether a condition holds; it is also taken to hold where it has no value, and then with the reason."""
+        if condition is None:
+            return True, ''
+        try:
+            return computed(moment, condition) not in (0, 'nil'), ''
+        except BadFormula:
+            pass
+        try:
+            return computed(self.run.moment(moment.point.position), condition) not in (0, 'nil'), ''
+        except BadFormula as why:
+            return True, f'its condition has no value here: {why}'
+
+    def _begins(self, point: Point) -> bool:
+        """Whether a call begins with this statement."""
+        return point.position == 0 or self.run.point(point.position - 1).depth == point.depth - 1
+
     def _by_depth(self, depth: int) -> Stop:
         """On to the first point that is no deeper, or to a breakpoint."""
         if depth == 0:
             return self.run_on()
-        breaks = set(self.break_places)
-        stop = self._guarded(lambda: self._scan(lambda at: at.depth <= depth or at.place in breaks, depth), None)
-        hit = stop.reason == 'step' and stop.point.depth > depth
-        return stop._replace(reason='break') if hit else stop
+        breaks, hits = set(self.break_places), []
+
+        def fits(at: Point) -> bool:
+            if at.depth <= depth:
+                return True
+            hits[:] = [stop for stop in [self._broken(self.run.moment(at.position)) if at.place in breaks else None] if stop]
+            return bool(hits)
+        stop = self._guarded(lambda: self._scan(fits, depth), None)
+        return hits[0] if hits and stop.reason == 'step' and stop.point.position == hits[0].point.position else stop
 
     def _scan(self, fits: Callable[[Point], bool], depth: int, back: bool = False) -> Stop:
         """On or back to the first point that fits. It looks point by point in a window, and then at the statements of all

@@ -1,14 +1,15 @@
 """What the prompt shows: a stop with its source line, the stack, objects, listings. Only texts, with no terminal."""
 from typing import List, Optional
 
-from .changes import changes, thing_of, value_of
+from .changes import PATH, changes, computed, thing_of, value_of
 from .explain import of_fault
 from .fault_slots import Where
-from .reading import title
 from .faults import Failing, runs_back
+from .formulas import BadFormula, Formula
+from .reading import title
 from .report import caret_lines, message_lines, test_lines
 from .screen import paint
-from .session import Frame, Session, Stop
+from .session import Breakpoint, Frame, Session, Stop
 from .trace import Moment, Thing
 
 ENDINGS = {
@@ -26,8 +27,17 @@ def place_line(session: Session, frame: Optional[Frame]) -> str:
     point = session.point
     if point.at_end or frame is None:
         return f'[{point.position}] the end'
-    file = title(session.run.source)
-    return f'[{point.position}] {paint("where", session.run.text.spelled(file, point.place))} {framed(frame)}'
+    return frame_line(session, frame)
+
+
+def frame_line(session: Session, frame: Frame) -> str:
+    return f'[{frame.position}] {paint("where", session.run.text.spelled(title(session.run.source), frame.place))} {framed(frame)}'
+
+
+def frame_lines(session: Session, frame: Frame) -> List[str]:
+    """A frame that was chosen, its source line, and of which moment its variables are."""
+    lines = [frame_line(session, frame)] + caret_lines(session.run.text, frame.place)
+    return lines if frame.position == session.position else lines + ['its variables are those of the moment when this call began']
 
 
 def framed(frame: Frame) -> str:
@@ -77,11 +87,15 @@ def fault_where(session: Session, stop: Stop, failing: Optional[Failing]) -> Whe
 
 def reason_lines(session: Session, stop: Stop) -> List[str]:
     if stop.reason == 'break':
-        hit = [each for each in session.breakpoints if stop.point.place in each.places]
-        return [f'breakpoint {hit[0].number}'] if hit else []
+        return [f'breakpoint {stop.by}{": " * bool(stop.detail)}{stop.detail}']
     if stop.reason == 'change':
         return [stop.detail]
     return [ENDINGS[stop.reason]] if stop.reason in ENDINGS else []
+
+
+def breakpoint_title(each: Breakpoint) -> str:
+    at = f'in {each.method}' if each.method else f'at line {each.line}'
+    return f'breakpoint {each.number} {at}' + (f' if {each.condition.text}' if each.condition else '')
 
 
 def stack_lines(session: Session) -> List[str]:
@@ -107,14 +121,34 @@ def variable_lines(moment: Moment) -> List[str]:
     return [f'{name} = {value}' for name, value in moment.variables] or ['there are no variables here']
 
 
-def value_lines(moment: Moment, path: str) -> List[str]:
-    """A value by its path, and the object that it refers to."""
+def value_lines(moment: Moment, text: str) -> List[str]:
+    """A value by its path, and the object that it refers to; or the value of an expression."""
+    path = text.replace(' ', '')
+    if not PATH.match(path):
+        return expression_lines(moment, text)
     value = value_of(moment, path)
     if value is None:
         return [f'there is no {path} here']
     lines = [] if path.startswith('#') and path == value else [f'{path} = {value}']
     thing = thing_of(moment, value)
     return lines + (thing_lines(thing) if thing else [] if lines else [f'there is no object {path} here'])
+
+
+def expression_lines(moment: Moment, text: str) -> List[str]:
+    try:
+        value = computed(moment, Formula(text))
+    except BadFormula as why:
+        return [f'{text}: {why}']
+    thing = thing_of(moment, value) if isinstance(value, str) else None
+    return [f'{text} = {value}'] + (thing_lines(thing) if thing else [])
+
+
+def display_line(moment: Moment, number: int, formula: Formula) -> str:
+    """What is shown at each stop."""
+    try:
+        return f'{number}: {formula.text} = {computed(moment, formula)}'
+    except BadFormula as why:
+        return f'{number}: {formula.text}: {why}'
 
 
 def thing_lines(thing: Thing) -> List[str]:

@@ -15,7 +15,7 @@ answer; `Refused.told.kind` is 'memory' where it ended with status 7, out of mem
 import os
 import re
 import time
-from typing import Dict, List, NamedTuple, Optional, Set, Tuple
+from typing import Dict, List, NamedTuple, Optional, Sequence, Set, Tuple
 
 from .messages import Told, read_answer
 from .places import Text
@@ -46,6 +46,10 @@ class Refused(Exception):
 class Fault(NamedTuple):
     number: int
     name: str
+
+    @property
+    def title(self) -> str:
+        return f'fault {self.number} {self.name}'.rstrip()
 
 
 class Point(NamedTuple):
@@ -167,6 +171,15 @@ class SourceRun(Closing):
             lines += [f'back {FAR}', f'step {position}', f'{word} {place} {limit}']
         return [moment.point for moment in self._walk(lines)[2::3]]
 
+    def hits(self, position: int, places: List[int], limit: int, count: int, back: bool, shown: Sequence[str] = ()) -> List[List[Moment]]:
+        """For each of the places, what stands after each of so many searches for it in a row, each within the limit, with what these
+        lines show there."""
+        lines: List[str] = []
+        for place in places:
+            lines += [f'back {FAR}', f'step {position}'] + [f'{"backto" if back else "to"} {place} {limit}', *shown] * count
+        walked = self._walk(lines, keep=not shown)
+        return [walked[at + 2:at + 2 + count] for at in range(0, len(walked), 2 + count)]
+
     def affordable(self, seconds: float, position: int) -> int:
         """About how many lines of a script the program carries out at this position in this time, as it did the last ones;
         farther on they are taken to cost more in proportion, until some were measured there."""
@@ -208,16 +221,17 @@ class SourceRun(Closing):
             out.write(file.read())
         return self._folder.name('input')
 
-    def _walk(self, lines: List[str]) -> List[Moment]:
-        """Carries the lines out, in as few calls as scripts allow, and gives the point after each move."""
+    def _walk(self, lines: List[str], keep: bool = True) -> List[Moment]:
+        """Carries the lines out, in as few calls as scripts allow, and gives the point after each move; states are kept where the
+        lines show all of them."""
         walked: List[Moment] = []
         for script in scripts(lines):
             if walked:
                 script = [f'step {walked[-1].point.position}'] + script
-            walked += self._call(script)[1 if walked else 0:]
+            walked += self._call(script, keep)[1 if walked else 0:]
         return walked
 
-    def _call(self, script: List[str]) -> List[Moment]:
+    def _call(self, script: List[str], keep: bool) -> List[Moment]:
         path = self._folder.write('script', '\n'.join(script) + '\n')
         begin = time.monotonic()
         answer = self.program.call('trace', self.copy, *self.bounds, path, *self.inputs, timeout=self.patience)
@@ -229,7 +243,7 @@ class SourceRun(Closing):
         self._paced_at = moments[-1].point.position if moments else 0
         looked = looked_at(script)
         for move, moment, whole in zip(moves, moments, looked):
-            self._keep(move, moment, whole)
+            self._keep(move, moment, whole and keep)
         return moments
 
     def _keep(self, move: str, moment: Moment, whole: bool) -> None:

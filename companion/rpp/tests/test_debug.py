@@ -47,6 +47,28 @@ method more()
   held += 1
 '''
 
+GROWING = '''class P
+  int x
+  int y
+  Box box
+method main()
+  new Box box
+  from x = 0 do
+    call box::put(x)
+    x += 1
+  loop skip
+  until x = 40
+  uncall twice()
+method twice()
+  y += 1
+  y += 2
+class Box
+  int held
+method put(int n)
+  held += n
+  held += 1
+'''
+
 
 class Scripts(Case):
     def debug(self, text, *commands, words=()):
@@ -90,6 +112,52 @@ class Scripts(Case):
             ('0', '5'), ('6', '8')])
         self.assertIn('breakpoint 1 at line 13: n += k\n', printed)
         self.assertIn('no statement begins at line 10; the next one with a statement is 11\n', printed)
+
+    def test_breakpoints_in_methods_and_conditions(self):
+        printed = self.debug(GROWING, 'break 9 if box.held > 800', 'break put if n = 30', 'break P.twice', 'break', 'c', 'c', 'c',
+                             'c', 'c', 'rc', 'rc', 'rc', 'rc', 'rc')
+        # (held is x (x + 1) / 2 + x + 1 after the call with x: 819 with 39, and 779 with 38)
+        at_put, at_nine, at_twice = ('153', '19'), ('200', '9'), ('202', '15')
+        self.assertEqual([head[:2] for head in self.heads(printed)], [
+            ('0', '6'), at_put, at_nine, at_twice, ('204', ''), ('204', ''), at_twice, at_nine, at_put, ('0', '6'), ('0', '6')])
+        self.assertIn('breakpoint 1 at line 9 if box.held > 800: x += 1\n', printed)
+        self.assertIn('(rpp) break\nbreakpoint 1 at line 9 if box.held > 800\nbreakpoint 2 in Box.put if n = 30\n'
+                      'breakpoint 3 in P.twice\n', printed)
+        self.assertIn('\n   19 |   held += n\n      |   ^^^^\nbreakpoint 2\n', printed)
+
+    def test_a_call_goes_over_what_does_not_hold(self):
+        printed = self.debug(GROWING, 'break put if n = 1', 'step 2', 'next', 'next', 'next', 'next')
+        self.assertEqual([head[:2] for head in self.heads(printed)],
+                         [('0', '6'), ('2', '8'), ('5', '9'), ('6', '10'), ('7', '8'), ('8', '19')])
+
+    def test_conditions_that_are_none(self):
+        printed = self.debug(GROWING, 'break nothing', 'break 9 if x +', 'break 9 if zz', 'continue')
+        self.assertIn('there is no method nothing with a statement', printed)
+        self.assertIn('x +: a value is missing at the end\n', printed)
+        self.assertIn('breakpoint 1: its condition has no value here: there is no zz here\n', printed)
+
+    def test_expressions_and_what_is_displayed(self):
+        printed = self.debug(GROWING, 'display box.held - x', 'break 9', 'c', 'c', 'display x', 'print x * 2 - #2.held', 'print box',
+                             'p x + q', 'undisplay 1', 'display', 'undisplay 7', 'undisplay', 'display', 'step')
+        # (held is 1 after the first call, and 3 after the second)
+        for line in ('1: box.held - x: there is no box.held here', '1: box.held - x = 1', '1: box.held - x = 2', '2: x = 1',
+                     'x * 2 - #2.held = -1', 'x + q: there is no q here', 'there is no display 7', 'nothing is displayed'):
+            self.assertIn(f'\n{line}\n', printed)
+        self.assertIn('(rpp) print box\nbox = #2\n#2 Box count 1\n  held = 3\n', printed)
+        self.assertIn('(rpp) display\n2: x = 1\n', printed)
+
+    def test_the_calls_around(self):
+        printed = self.debug(GROWING, 'break put if n = 2', 'c', 'print', 'up', 'print x', 'up', 'down', 'print n', 'down', 'frame 1',
+                             'display x', 'frame', 'frame 3', 'step', 'print')
+        self.assertIn('(rpp) up\n[12] a.rpp:8:5 in P.main\n    8 |     call box::put(x)\n      |     ^^^^\n'
+                      'its variables are those of the moment when this call began\n(rpp) print x\nx = 2\n'
+                      '(rpp) up\nthis is the outermost call\n'
+                      '(rpp) down\n[13] a.rpp:19:3 in Box.put of #2, depth 2\n   19 |   held += n\n      |   ^^^^\n'
+                      '(rpp) print n\nn = 2\n(rpp) down\nthis is the innermost call\n(rpp) frame 1\n[12] a.rpp:8:5', printed)
+        self.assertIn('(rpp) display x\n1: x = 2\n', printed)
+        self.assertIn('there is no call 3; `where` numbers them\n', printed)
+        # (a move chooses the innermost call again)
+        self.assertIn('(rpp) print\nheld = 5\nn = 2\n', printed)
 
     def test_watches_both_ways(self):
         printed = self.debug(TWICE, 'watch y', 'watch back y', 'step 3', 'watch n',
@@ -237,6 +305,20 @@ class Terminal(Case):
         self.wait_for('(rpp) ')
         self.type('quit\n')
         self.assertEqual(self.session.wait(timeout=HANGS), 0)
+
+    def test_tab_completes_commands_and_names(self):
+        self.begin('debug', self.write('a.rpp', GROWING))
+        self.wait_for('(rpp) ')
+        self.type('break Bo\t\n')
+        self.wait_for('breakpoint 1 in Box.put: held += n')
+        self.type('reverse-c\t\n')
+        self.wait_for('this is the start')
+        self.type('step\n')
+        self.wait_for('(rpp) ')
+        self.type('print bo\t.h\t + 1\n')
+        self.wait_for('box.held + 1 = 1')
+        self.type('quit\n')
+        self.assertEqual(self.session.wait(timeout=20), 0)
 
     def test_a_run_is_ended_with_what_is_known(self):
         self.begin('run', self.write('endless.rpp', ENDLESS), '--steps', str(10 ** 17))
