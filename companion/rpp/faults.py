@@ -66,7 +66,8 @@ def of_place(session: Session, place: Optional[int]) -> Failing:
     point = session.point
     if place is None or place == point.place or point.fault is None:
         return Failing(place, None)
-    return Failing(place, failed_test(session.run, place, point.fault.number, runs_back(session, session.stack(), place)))
+    frames = session.stack()
+    return Failing(place, failed_test(session.run, place, point.fault.number, runs_back(session, frames, place), frames))
 
 
 def runs_back(session: Session, frames: List[Frame], place: int) -> bool:

@@ -25,6 +25,27 @@ BACK = (
      '7:17: `t` is 4 after the block was undone, and must be 2', {'x': '0', 'y': '0', 't': '4'}),
 )
 
+# `self` is the object itself, so the field `x` that moves into `add` is reached by it too
+TOUCHED = '''class P
+  C a
+  C b
+method main()
+  new C a
+  copy C a b
+  call a::hold(b)
+  {} a::begin()
+class C
+  C self
+  int x
+method hold(C other)
+  self <=> other
+method begin()
+  call self::add(x)
+method add(int n)
+  n += 7
+  x += 1
+'''
+
 
 class FailingTests(Case):
     def shown(self, text: str):
@@ -51,6 +72,14 @@ class FailingTests(Case):
 
     def test_on_the_way_back(self):
         self.check(BACK)
+
+    def test_a_field_that_a_call_changed(self):
+        for word, title, value in (('call', '15:18: `x` is 1 after the call, and must be 0', '1'),
+                                   ('uncall', '15:18: `x` is -1 after the call was undone, and must be 0', '-1')):
+            said = self.rpp('run', self.write('bad.rpp', TOUCHED.format(word))).stdout
+            self.assertIn('bad.rpp:15:3: fault 15 Touched\n', said)
+            self.assertIn(f'bad.rpp:{title}\n   15 |   call self::add(x)\n      |                  ^\n  self = nil\n  x = {value}\n', said)
+            self.assertIn('called in P.main at bad.rpp:8:3\n', said)
 
     def test_a_destruct_begins_as_a_statement(self):
         text = '  construct C c\n    call c::set(x)\n  destruct c\nclass C\n  int n\nmethod set(int m)\n  n += 4\n'
