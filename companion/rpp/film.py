@@ -4,13 +4,16 @@ import os
 import sys
 from typing import Any, Dict, List, Optional, Tuple
 
+from .failing import FailedTest
+from .faults import failing
 from .options import Parser, Unfit, add_run_options, add_source, input_file
 from .outline import Outline
 from .page import as_script, page, tell_refused, write_page
 from .places import Text
 from .program import Interrupted, Program
 from .reading import shown, title
-from .trace import Fault, Moment, Refused, SourceRun, Thing
+from .session import Session
+from .trace import Moment, Refused, SourceRun, Thing
 
 MOST_POINTS = 2000
 CHUNK = 500
@@ -57,8 +60,14 @@ class Film:
                     'uncalled': self.directions.uncalled(point.place, point.depth),
                     'variables': moment.variables, 'objects': [self.number(thing) for thing in moment.objects.values()]}
         if point.fault:
-            position['note'] = fault_note(point.fault)
+            position['note'] = point.fault.title
         self.positions.append(position)
+
+    def add_test(self, test: FailedTest, note: str) -> None:
+        """Adds the test that fails after the last position."""
+        self.positions[-1].pop('note', None)
+        self.add(test.moment._replace(point=test.moment.point._replace(place=test.at, fault=None)))
+        self.positions[-1].update(note=f'{note}: {test.title}', end=test.end)
 
     def number(self, thing: Thing) -> int:
         """The index of an object as it is now."""
@@ -105,13 +114,19 @@ def film_data(run: SourceRun, most: int) -> Tuple[Dict[str, Any], str]:
         film.add(moment)
     # (a fault is reported where a move beyond was tried)
     if moments and run.last and run.last.fault and run.last.position == moments[-1].point.position:
-        film.positions[-1]['note'] = fault_note(run.last.fault)
+        film.positions[-1]['note'] = run.last.fault.title
+        test = test_at_end(run)
+        if test is not None:
+            film.add_test(test, run.last.fault.title)
     return {'source': as_text(run.text.content), 'name': title(run.source),
             'positions': film.positions, 'objects': film.objects}, lacking
 
 
-def fault_note(fault: Fault) -> str:
-    return f'fault {fault.number} {fault.name}'.rstrip()
+def test_at_end(run: SourceRun) -> Optional[FailedTest]:
+    """The test at the end of a statement that fails where the run ends."""
+    session = Session(run, Outline.made(run.program, run.text))
+    session.position = run.last.position
+    return failing(session).test
 
 
 def as_text(source: bytes) -> str:
@@ -152,6 +167,8 @@ def main(words: List[str]) -> int:
     except Refused as refused:
         return tell_refused(refused, given.source)
     write_page(out, film_page(data), *filter(None, (given.source, given.input)))
-    count = len(data['positions'])
-    print(f'{out}: the first {count} positions; {lacking}' if lacking else f'{out}: all {count} positions')
+    tests = sum('end' in each for each in data['positions'])
+    count = len(data['positions']) - tests
+    whole = f'all {count} positions, and the test that fails' if tests else f'all {count} positions'
+    print(f'{out}: ' + (f'the first {count} positions; {lacking}' if lacking else whole))
     return 0

@@ -172,8 +172,8 @@ class SourceRun(Closing):
         return [moment.point for moment in self._walk(lines)[2::3]]
 
     def hits(self, position: int, places: List[int], limit: int, count: int, back: bool, shown: Sequence[str] = ()) -> List[List[Moment]]:
-        """For each of the places, what stands after each of so many searches for it in a row, each within the limit, with what these
-        lines show there."""
+        """For each of the places, the moments after so many searches for it in a row, each within the limit, with what these lines show
+        there."""
         lines: List[str] = []
         for place in places:
             lines += [f'back {FAR}', f'step {position}'] + [f'{"backto" if back else "to"} {place} {limit}', *shown] * count

@@ -17,6 +17,7 @@
  *     objects     a list of {name: '#3', head: 'Node', count: 1, cells: [[name, value], ..]} as `cells` prints them;
  *                 in the place of an object may stand a number, which is its index in data.objects
  *     note        what the program says there besides the place, as 'fault 3 Delocal' (may be missing)
+ *     end         the byte after what is marked, if that is no statement but a test that fails (may be missing)
  *   objects     the objects that positions name by their index (may be missing)
  * options (may be missing):
  *   start       the index that is shown first
@@ -130,6 +131,12 @@ globalThis.RooplFilm = (() => {
       }
       const own = this.tokens.slice(first, afterHead(this.tokens, first));
       return {words: own.map(token => token.text), at: own[0].at, end: own[own.length - 1].end};
+    }
+
+    /* The span that a position marks in the text; null at the end of the run. */
+    span(position) {
+      return position.end === undefined ? this.statement(position.place) :
+        {at: this.indexOf(position.place), end: this.indexOf(position.end)};
     }
 
     method(place) {
@@ -645,7 +652,7 @@ globalThis.RooplFilm = (() => {
 
     /* Marks the statement of a position. */
     mark(position, kind) {
-      const span = position.place === null ? null : this.run.program.statement(position.place);
+      const span = this.run.program.span(position);
       const name = kind || (position.note ? 'film-fault' : position.uncalled ? 'film-undone' : 'film-forward');
       for (const line of span ? this.lines.filter(line => line.at < span.end && line.at + line.text.length >= span.at) : []) {
         const from = Math.max(0, span.at - line.at), to = span.end - line.at;

@@ -139,8 +139,21 @@ class FilmPage(PageTest):
             source = f'{EXAMPLES}/{name}.rpp'
             files = [f'{EXAMPLES}/{each}' for each in inputs]
             self.opened(film, [source] + [word for each in files for word in ('--input', each)])
-            self.goes_both_ways(source, traced(source, 12, 64, files), lambda: self.browser.press('ArrowRight'),
+            positions = traced(source, 12, 64, files)
+            if name == 'sums':
+                self.end_at_test(source, positions)
+            self.goes_both_ways(source, positions, lambda: self.browser.press('ArrowRight'),
                                 lambda: self.browser.press('ArrowLeft'))
+
+    @staticmethod
+    def end_at_test(source: str, positions) -> None:
+        """Adds what the film shows last: the test of the `delocal`, after `sum -= a + b`."""
+        place, rows = positions[-1]
+        positions[-1] = (place.split(' fault')[0], rows)
+        with open(source, 'rb') as file:
+            test = file.read().rindex(b'= 0') + 2
+        positions.append((f'at {len(positions)} place {test} depth 1 fault 3 Delocal: `sum` is 8 after the block, and must be 0',
+                          rows.replace('sum = 12', 'sum = 8')))
 
     def test_directions(self):
         self.opened(film, [self.written('turns.rpp', TURNS.encode())])

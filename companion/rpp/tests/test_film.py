@@ -68,8 +68,26 @@ class FilmTest(Folder):
         self.assertGreaterEqual(int(re.search(r'(\d+) positions', done.stdout)[1]), 2 * 99 + 1)
 
     def test_fault_is_noted_at_the_last_position(self):
-        data, _ = self.data(b'class P int x method main() skip if x = 0 then x += 1 else skip fi x = 0')
-        self.assertEqual([each.get('note') for each in data['positions']], [None, None, 'fault 1 Fi'])
+        data, _ = self.data(b'class P int x method main() skip from x = 1 do skip loop skip until x = 1')
+        self.assertEqual([each.get('note') for each in data['positions']], [None, 'fault 2 Loop'])
+
+    def test_a_test_that_fails_is_the_last_position(self):
+        source = b'class P int x method main() skip if x = 0 then x += 1 else skip fi x = 0'
+        data, _ = self.data(source)
+        notes = [None, None, None, 'fault 1 Fi: `x = 0` is false after the `then` block']
+        self.assertEqual([each.get('note') for each in data['positions']], notes)
+        last = data['positions'][-1]
+        self.assertEqual(source[last['place']:last['end']], b'x = 0')
+        self.assertEqual((last['place'], dict(last['variables']), last['depth']), (len(source) - 5, {'x': '1'}, 1))
+        done = self.rpp('film', self.written('bad.rpp', source))
+        self.assertEqual(done.stdout, f'{self.folder}/bad.html: all 3 positions, and the test that fails\n')
+
+    def test_a_test_that_fails_in_an_uncalled_body(self):
+        data, text = self.data(b'class P int x method main() uncall w() method w()\nlocal int t = 2 t += 5 delocal int t = 9 + x')
+        last = data['positions'][-1]
+        self.assertEqual(last['note'], 'fault 3 Delocal: `t` is 4 after the block was undone, and must be 2')
+        self.assertEqual((text.place(last['place']), last['uncalled'], last['depth']), ((2, 15), True, 2))
+        self.assertEqual(dict(last['variables']), {'x': '0', 't': '4'})
 
     def test_objects_are_written_once(self):
         data, _ = self.data(b'class P Q q int x method main() new Q q x += 1 x += 1 delete Q q class Q int f method m() skip')
