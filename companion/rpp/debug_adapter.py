@@ -5,11 +5,12 @@ input make it."""
 import os
 import sys
 import threading
-from typing import Any, Callable, Dict, List, Optional
+from typing import Any, Callable, Dict, List, Optional, Sequence
 
 from .checking import first_refusal, message_of, spoken
 from .explain import of_fault, of_refusal
-from .faults import failing
+from .faults import Failing, failing
+from .formulas import BadFormula, Formula
 from .frames import Statements, statement_on
 from .options import DEPTH, HEAP, STEPS
 from .places import Text
@@ -29,6 +30,8 @@ CAPABILITIES = {
     'supportsExceptionInfoRequest': True,
     'supportsBreakpointLocationsRequest': True,
     'supportsDataBreakpoints': True,
+    'supportsConditionalBreakpoints': True,
+    'supportsFunctionBreakpoints': True,
     'supportsRestartRequest': True,
     'supportsTerminateRequest': True,
 }
@@ -58,6 +61,7 @@ class Adapter:
         self.statements: Optional[Statements] = None
         self.arguments: Dict[str, Any] = {}
         self.scene: Optional[Scene] = None
+        self.failed: Optional[Failing] = None
         self.watched: List[str] = []
         self.counting = Counting()
 
@@ -209,10 +213,11 @@ class Adapter:
         self.mover.start()
 
     def _move(self, action: Callable[[], Stop]):
-        was_at_end = False
+        was_at_end, failed = False, None
         try:
             was_at_end = self.session.point.at_end
             stop = action()
+            failed = failing(self.session) if stop.reason == 'fault' else None
             shown = self.session.moment.variables if stop.reason == 'end' and not was_at_end else ()
         except (Refused, Killed) as error:
             self.event('output', category='stderr', output=f'{told_of(error)}\n')
@@ -223,21 +228,26 @@ class Adapter:
         if shown:
             self.event('output', category='stdout', output=''.join(f'{name} = {value}\n' for name, value in shown))
         self.is_moving = False
-        self.tell(stop)
+        self.tell(stop, failed)
 
-    def tell(self, stop: Stop):
+    def tell(self, stop: Stop, failed: Optional[Failing]):
         if stop.reason == 'fault':
-            found = self.session.point.fault
-            self.stopped('exception', f'fault {found.number} {found.name}')
+            text = self.session.point.fault.title
+            self.stopped('exception', text, f'{text}: {failed.test.title}' if failed and failed.test else text, failed)
         else:
             reason, text = REASONS.get(stop.reason, ('step', ''))
-            self.stopped(reason, text or stop.detail)
+            hit = [each for each in self.session.breakpoints if each.number == stop.by]
+            if any(each.method for each in hit):
+                reason = 'function breakpoint'
+            self.stopped(reason, text or stop.detail, text or stop.detail, hit=[each.number for each in hit])
 
-    def stopped(self, reason: str, text: str = ''):
-        self.scene = None
+    def stopped(self, reason: str, text: str = '', description: str = '', failed: Optional[Failing] = None, hit: Sequence[int] = ()):
+        self.scene, self.failed = None, failed
         body = {'reason': reason, 'threadId': THREAD, 'allThreadsStopped': True}
+        if hit:
+            body.update(hitBreakpointIds=list(hit))
         if text:
-            body.update(description=text, text=text)
+            body.update(description=description, text=text)
         self.event('stopped', **body)
 
     def standing(self) -> Session:
@@ -261,7 +271,17 @@ class Adapter:
     def step_back(self, given):
         session = self.standing()
         is_single = given.get('granularity') == 'instruction' or self.arguments.get('stepBackInto')
+        if self.failed is not None and self.failed.test is not None:
+            depth = None if is_single else self.failed.test.moment.point.depth
+            return None, lambda: self.move(lambda: self.before_test(depth))
         return None, lambda: self.move(session.back if is_single else session.previous)
+
+    def before_test(self, depth: Optional[int]) -> Stop:
+        """From the test that failed back to the last statement that began; with a depth, to the last one that is no deeper."""
+        session = self.session
+        while depth is not None and session.point.depth > depth:
+            session.leave_back()
+        return session.go(session.position)
 
     def continue_(self, _):
         return {'allThreadsContinued': True}, lambda _=self.standing(): self.move(self.run_on)
@@ -302,9 +322,13 @@ class Adapter:
         path = given.get('source', {}).get('path', '')
         if not os.path.exists(path) or not os.path.samefile(path, self.arguments['program']):
             return {'breakpoints': [{'verified': False, 'message': 'the run is of another text'} for _ in wanted]}
-        found = [self.place_of(each) for each in wanted]
-        session.breakpoints = [Breakpoint(each, self.line_of(each), (each,)) for each in found if each is not None]
-        return {'breakpoints': [self.breakpoint(place) for place in found]}
+        session.breakpoints = [each for each in session.breakpoints if each.method]
+        return {'breakpoints': [self.breakpoint(self.at_line, each) for each in wanted]}
+
+    def set_function_breakpoints(self, given):
+        session = self.standing()
+        session.breakpoints = [each for each in session.breakpoints if not each.method]
+        return {'breakpoints': [self.breakpoint(self.in_method, each) for each in given.get('breakpoints') or []]}
 
     def data_breakpoint_info(self, given):
         return self.stage().watchable(given['name'], given.get('variablesReference') or 0)
@@ -319,13 +343,25 @@ class Adapter:
         begin = self.counting.offset(self.session.run.text, wanted['line'], wanted.get('column'))
         return statement_on(self.statements, begin) if begin is not None else None
 
-    def line_of(self, place: int) -> int:
-        return self.session.run.text.place(place).line
-
-    def breakpoint(self, place: Optional[int]) -> Dict[str, Any]:
+    def at_line(self, wanted, condition: Optional[Formula]) -> Breakpoint:
+        place = self.place_of(wanted)
         if place is None:
-            return {'verified': False, 'message': 'no statement begins here or below'}
-        return {'verified': True, **self.counting.shown(self.session.run.text, place)}
+            raise Declined('no statement begins here or below')
+        return self.session.add_breakpoint(self.session.run.text.place(place).line, [place], condition)
+
+    def in_method(self, wanted, condition: Optional[Formula]) -> Breakpoint:
+        made = self.session.break_in(wanted['name'], condition)
+        if made is None:
+            raise Declined(f'there is no method {wanted["name"]} with a statement: name it as Node.append or append')
+        return made
+
+    def breakpoint(self, make: Callable[..., Breakpoint], wanted) -> Dict[str, Any]:
+        """Sets a breakpoint, and says where it is, or why there is none."""
+        try:
+            made = make(wanted, Formula(wanted['condition']) if wanted.get('condition') else None)
+        except (Declined, BadFormula) as why:
+            return {'verified': False, 'message': str(why)}
+        return {'id': made.number, 'verified': True, **self.counting.shown(self.session.run.text, made.places[0])}
 
     def breakpoint_locations(self, given):
         text, counting = Text.read(given['source']['path']), self.counting
@@ -347,7 +383,7 @@ class Adapter:
         """What can be shown here; made when it is first asked for after a move."""
         session = self.standing()
         if self.scene is None:
-            self.scene = Scene(session, self.statements, self.counting)
+            self.scene = Scene(session, self.statements, self.counting, self.failed)
         return self.scene
 
     def stack_trace(self, given):
@@ -366,10 +402,12 @@ class Adapter:
         found = self.standing().point.fault
         if found is None:
             raise Declined('no fault stopped the run')
-        where = fault_where(self.session, Stop(self.session.point, 'fault'), failing(self.session))
-        message = of_fault(found.number, where)
-        told = {'exceptionId': f'fault {found.number} {found.name}', 'breakMode': 'always'}
-        return {**told, 'description': spoken(message)} if message.rule else told
+        failed = failing(self.session)
+        message = of_fault(found.number, fault_where(self.session, Stop(self.session.point, 'fault'), failed))
+        said = [failed.test.title] if failed.test else []
+        said += [spoken(message)] if message.rule else []
+        told = {'exceptionId': found.title, 'breakMode': 'always'}
+        return {**told, 'description': '. '.join(said)} if said else told
 
 
 def told_of(error: Exception) -> str:
@@ -392,6 +430,7 @@ REQUESTS: Dict[str, Callable] = {
     'setBreakpoints': Adapter.set_breakpoints,
     'breakpointLocations': Adapter.breakpoint_locations,
     'dataBreakpointInfo': Adapter.data_breakpoint_info,
+    'setFunctionBreakpoints': Adapter.set_function_breakpoints,
     'setDataBreakpoints': Adapter.set_data_breakpoints,
     'setExceptionBreakpoints': Adapter.set_exception_breakpoints,
     'threads': Adapter.threads,

@@ -43,10 +43,17 @@ class Statements:
         """The places of statements that begin between two bytes, in order."""
         return sorted(each for each in self.by_place if first <= each < last)
 
-    def parted(self, moment: Moment) -> Tuple[List[Pair], List[Pair]]:
-        """The fields of the current object, and the parameters and locals, of a moment."""
+    def names_within(self, place: int) -> List[str]:
+        """The parameters and locals that are visible in the blocks of the statement at a place."""
+        each = self.by_place.get(place)
+        return self.visible.get(place, []) + ([each.variable.name] if each is not None and each.form == 'local' else [])
+
+    def parted(self, moment: Moment, names: Optional[List[str]] = None) -> Tuple[List[Pair], List[Pair]]:
+        """The fields of the current object, and the parameters and locals, of a moment; `names` are the latter where they are not
+        those of its place."""
         every = list(moment.variables)
-        names = self.visible.get(moment.point.place, []) if moment.point.place is not None else []
+        if names is None:
+            names = self.visible.get(moment.point.place, []) if moment.point.place is not None else []
         cut = len(every) - len(names)
         if cut < 0 or [name for name, _ in every[cut:]] != names:
             return every, []

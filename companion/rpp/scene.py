@@ -4,7 +4,9 @@ Everything is of the position of the session when the scene was made; with the n
 import os
 from typing import Any, Dict, List, NamedTuple, Optional, Tuple
 
-from .changes import joined, thing_of, value_of
+from .changes import computed, joined, thing_of, value_of
+from .faults import Failing
+from .formulas import BadFormula, Formula
 from .frames import Pair, Statements
 from .places import Text
 from .session import Frame, Session
@@ -47,13 +49,16 @@ class Group(NamedTuple):
 
 
 class Scene:
-    def __init__(self, session: Session, statements: Statements, counting: Counting):
+    """What stands where a session does; `failed` is the statement that fails there, where a fault stopped the run."""
+
+    def __init__(self, session: Session, statements: Statements, counting: Counting, failed: Optional[Failing] = None):
         self.session = session
         self.statements = statements
         self.counting = counting
         self.groups: List[Group] = []
+        self.failed = failed or Failing(None, None)
         # (at the end of the run no call is open)
-        self.frames = session.stack() or [Frame(0, 'the end of the run', -1, session.position, False, 1)]
+        self.frames = open_at_fault(session, failed) or [Frame(0, 'the end of the run', -1, session.position, False, 1)]
 
     # ---- active calls
 
@@ -63,7 +68,8 @@ class Scene:
         if each.place < 0:
             return {**named, 'line': 0, 'column': 0, 'presentationHint': 'label'}
         text, path = self.session.run.text, os.path.realpath(self.session.run.source)
-        end = self.counting.shown(text, self.statements.end_of_head(each.place))
+        test = self.failed.test if number == 0 else None
+        end = self.counting.shown(text, test.end if test else self.statements.end_of_head(each.place))
         named['source'] = {'name': os.path.basename(path), 'path': path}
         return {**named, **self.counting.shown(text, each.place), 'endLine': end['line'], 'endColumn': end['column']}
 
@@ -72,18 +78,26 @@ class Scene:
         return {'stackFrames': shown[first : first + (levels or len(shown))], 'totalFrames': len(shown)}
 
     def framed(self, frame_id: Optional[int]) -> Tuple[Frame, Moment]:
-        """A frame, and the moment at which the call that it makes began, or that is now."""
+        """A frame, and the moment at which the call that it makes began, or that is now, or at which a test failed."""
         number = (frame_id or 1) - 1
         if not 0 <= number < len(self.frames):
             raise Declined('there is no such frame')
-        return self.frames[number], self.session.run.moment(self.frames[number].position)
+        test = self.failed.test if number == 0 else None
+        return self.frames[number], test.moment if test else self.session.run.moment(self.frames[number].position)
+
+    def when(self, frame: Frame) -> str:
+        """The moment of the variables of a frame, where that is not this position."""
+        if frame is self.frames[0] and (self.failed.test or frame.place in (self.session.point.place, -1)):
+            return ''
+        return ', before the last statement' if frame.position == self.session.position else ', as the call began'
 
     # ---- variables
 
     def scopes(self, frame_id: Optional[int]) -> Body:
         frame, moment = self.framed(frame_id)
-        fields, inner = self.statements.parted(moment)
-        when = '' if frame is self.frames[0] else ', as the call began'
+        is_test = frame is self.frames[0] and self.failed.test is not None
+        fields, inner = self.statements.parted(moment, self.statements.names_within(self.failed.place) if is_test else None)
+        when = self.when(frame)
         thing = moment.objects.get(frame.number)
         owner = f'#{frame.number} {thing.head}' if thing else 'the object'
         every = [(f'#{number}', f'#{number}') for number in sorted(moment.objects)]
@@ -124,11 +138,17 @@ class Scene:
         shown = {'value': f'{value} {thing.head} count {thing.count}', 'type': thing.head}
         return {**shown, 'variablesReference': reference, kind: len(thing.cells)}
 
-    def evaluated(self, path: str, frame_id: Optional[int]) -> Body:
+    def evaluated(self, text: str, frame_id: Optional[int]) -> Body:
+        """The value of a path, or of an expression."""
         _, moment = self.framed(frame_id)
-        value = value_of(moment, path)
-        if value is None or value.startswith('#') and thing_of(moment, value) is None:
-            raise Declined(f'{path}: name a variable, an object as #2, or what is in it, as head.next or row[3]')
+        value = value_of(moment, text)
+        if value is None:
+            try:
+                value = str(computed(moment, Formula(text)))
+            except BadFormula as why:
+                raise Declined(f'{text}: {why}') from None
+        if value.startswith('#') and thing_of(moment, value) is None:
+            raise Declined(f'{text}: there is no object {value} here')
         shown = self.value(moment, value)
         return {'result': shown.pop('value'), **shown}
 
@@ -138,3 +158,15 @@ class Scene:
         is_here = value_of(self.session.moment, path) is not None and not path.lstrip('#').isdigit()
         told = path if is_here else f'{path} is not of the current call'
         return {'dataId': path if is_here else None, 'description': told, 'accessTypes': ['write']}
+
+
+def open_at_fault(session: Session, failed: Optional[Failing]) -> List[Frame]:
+    """The active calls, the innermost first. If another statement than the last one fails, they are those around it, the innermost
+    at its test."""
+    frames = session.stack()
+    if failed is None or failed.place in (None, session.point.place) or not frames:
+        return frames
+    test, method = failed.test, session.outline.method_at(failed.place)
+    while len(frames) > 1 and not (frames[0].depth == test.moment.point.depth if test else method and frames[0].method == method.label):
+        frames = frames[1:]
+    return [frames[0]._replace(place=test.at if test else failed.place), *frames[1:]]

@@ -6,6 +6,7 @@ from rpp.places import Text
 
 from .base import EXAMPLES, LIST, Case
 from .protocol_client import DebugClient
+from .test_failing import TOUCHED
 
 # Worked out by hand: its run has 11 points, at the lines of LINES, and then its end.
 RUN = """class Main
@@ -33,6 +34,42 @@ method main()
     k += 2
     x += k
   delocal int k = 4
+  x += 1
+"""
+GROWING = """class P
+  int x
+  Box box
+method main()
+  new Box box
+  from x = 0 do
+    call box::put(x)
+    x += 1
+  loop skip
+  until x = 40
+  uncall twice()
+method twice()
+  x += 0
+  x -= 0
+class Box
+  int held
+method put(int n)
+  held += n
+  held += 1
+"""
+UNDONE = """class P
+  int x
+method main()
+  uncall work()
+method work()
+  local int t = 2
+    t += 5
+  delocal int t = 9 + x
+"""
+CALLED = """class P
+  int x
+method main()
+  if x = 0 then call more() else skip fi x = 0
+method more()
   x += 1
 """
 ENDLESS = """class P
@@ -139,12 +176,13 @@ class Session(Case):
         self.assertEqual([value(f'head.next.next.{field}') for field in ('value', 'next')], ['1', 'nil'])
         found = client.ask('evaluate', expression='head', frameId=1)
         cells = client.ask('variables', variablesReference=found['variablesReference'])['variables']
-        shown = [(each['name'], each['value']) for each in cells]
+        shown, found_next = [(each['name'], each['value']) for each in cells], cells[1]['value']
         self.assertEqual(shown, [('value', '3'), ('next', value('head.next'))])
         self.assertTrue(cells[1]['variablesReference'])
         heads = sorted(each.split()[1] for each in client.scope('Objects').values())
         self.assertEqual(heads, ['List', 'Node', 'Node', 'Node'])
-        for wrong in ('nothing', 'head.no', '#99', 'i + 1', ''):
+        self.assertEqual([value(text) for text in ('i + 1', 'head.value * 2 = i + 2', 'head.next')], ['5', '1', found_next])
+        for wrong in ('nothing', 'head.no', '#99', 'i + ', 'i + nothing', ''):
             self.assertFalse(client.answer('evaluate', expression=wrong, frameId=1)['success'], wrong)
         old = found['variablesReference']
         client.moved('stepIn')
@@ -172,17 +210,88 @@ class Session(Case):
         self.assertEqual(stops, [('data breakpoint', 16), ('data breakpoint', 16)])
         self.assertEqual(client.scope('Fields')['value'], '0')
 
+    def test_conditions(self):
+        client = self.client
+        client.begin(self.written(GROWING))
+        source = {'path': self.written(GROWING)}
+        wanted = [{'line': 8, 'condition': 'x = 30 || x = 2'}, {'line': 7, 'condition': 'x +'}, {'line': 8, 'condition': 'zz'}]
+        found = client.ask('setBreakpoints', source=source, breakpoints=wanted)['breakpoints']
+        self.assertEqual([each['verified'] for each in found], [True, False, True])
+        self.assertEqual(found[1]['message'], 'a value is missing at the end')
+        stop = client.moved('continue')
+        self.assertEqual((stop['reason'], stop['text']), ('breakpoint', 'its condition has no value here: there is no zz here'))
+        self.assertEqual(stop['hitBreakpointIds'], [found[2]['id']])
+        client.ask('setBreakpoints', source=source, breakpoints=wanted[:1])
+        seen = []
+        for command in ('continue', 'continue', 'continue', 'reverseContinue', 'reverseContinue', 'reverseContinue'):
+            seen.append((client.moved(command)['reason'], client.scope('Fields')['x']))
+        self.assertEqual(seen, [('breakpoint', '2'), ('breakpoint', '30'), ('step', '40'), ('breakpoint', '30'), ('breakpoint', '2'),
+                                ('entry', '0')])
+
+    def test_breakpoints_in_methods(self):
+        client = self.client
+        client.begin(self.written(GROWING))
+        wanted = [{'name': 'Box.put', 'condition': 'n = 7'}, {'name': 'twice'}, {'name': 'nothing'}]
+        found = client.ask('setFunctionBreakpoints', breakpoints=wanted)['breakpoints']
+        self.assertEqual([(each['verified'], each.get('line')) for each in found], [(True, 18), (True, 13), (False, None)])
+        client.ask('setBreakpoints', source={'path': self.written(GROWING)}, breakpoints=[{'line': 8, 'condition': 'x = 39'}])
+        stop = client.moved('continue')
+        self.assertEqual((stop['reason'], stop['hitBreakpointIds'], client.line()), ('function breakpoint', [found[0]['id']], 18))
+        self.assertEqual(client.scope('Parameters'), {'n': '7'})
+        self.assertEqual(self.moved('continue'), ('breakpoint', 8))
+        # (the body runs backward, so its last statement is the first)
+        self.assertEqual(self.moved('continue'), ('function breakpoint', 14))
+        self.assertEqual(client.moved('continue')['text'], 'the end of the run')
+
     def test_fault(self):
         client = self.client
         client.begin(self.written(FAULTY))
         stop = client.moved('continue')
-        self.assertEqual((stop['reason'], stop['text'], client.line()), ('exception', 'fault 3 Delocal', 6))
+        self.assertEqual((stop['reason'], stop['text'], client.line()), ('exception', 'fault 3 Delocal', 7))
+        said = '`k` is 3 after the block, and must be 4'
+        self.assertEqual(stop['description'], f'fault 3 Delocal: {said}')
+        frame = client.ask('stackTrace', threadId=1)['stackFrames'][0]
+        self.assertEqual([frame[each] for each in ('name', 'column', 'endLine', 'endColumn')], ['P.main', 19, 7, 20])
+        self.assertEqual((client.scope('Parameters'), client.scope('Fields')), ({'k': '3'}, {'x': '3'}))
+        self.assertEqual(client.ask('evaluate', expression='x', frameId=1)['result'], '3')
         told = client.ask('exceptionInfo', threadId=1)
         self.assertEqual((told['exceptionId'], told['breakMode']), ('fault 3 Delocal', 'always'))
-        self.assertIn('delocal', told['description'])
+        self.assertTrue(told['description'].startswith(f'{said}. `k` must be equal to `4` at its `delocal`, and it is 3.\n'))
         self.assertEqual(client.moved('stepIn')['reason'], 'exception')
+        # (back from the test to the last statement that began)
+        self.assertEqual(self.moved('stepBack'), ('step', 6))
+        self.assertEqual((client.scope('Parameters'), client.scope('Fields')), ({'k': '3'}, {'x': '0'}))
         self.assertEqual(self.moved('stepBack'), ('step', 5))
         self.assertFalse(client.answer('exceptionInfo', threadId=1)['success'])
+
+    def test_fault_in_an_uncalled_body(self):
+        client = self.client
+        client.begin(self.written(UNDONE))
+        stop = client.moved('continue')
+        self.assertEqual(stop['description'], 'fault 3 Delocal: `t` is 4 after the block was undone, and must be 2')
+        self.assertEqual(self.frames(), [('P.work uncalled', 6), ('P.main', 4)])
+        self.assertEqual((client.scope('Parameters'), client.scope('Fields')), ({'t': '4'}, {'x': '0'}))
+
+    def test_fault_of_a_call(self):
+        client = self.client
+        client.begin(self.written(TOUCHED.format('call')))
+        stop = client.moved('continue')
+        self.assertEqual(stop['description'], 'fault 15 Touched: `x` is 1 after the call, and must be 0')
+        self.assertEqual(self.frames(), [('C.begin', 15), ('P.main', 8)])
+        self.assertEqual(client.scope('Fields'), {'self': 'nil', 'x': '1'})
+        # (over the call, back to its begin)
+        self.assertEqual(self.moved('stepBack'), ('step', 15))
+        self.assertEqual(client.scope('Fields')['x'], '0')
+
+    def test_fault_after_a_call(self):
+        client = self.client
+        client.begin(self.written(CALLED))
+        stop = client.moved('continue')
+        self.assertEqual(stop['description'], 'fault 1 Fi: `x = 0` is false after the `then` block')
+        self.assertEqual(self.frames(), [('P.main', 4)])
+        self.assertEqual(client.scope('Fields'), {'x': '1'})
+        self.assertEqual(self.moved('stepBack'), ('step', 4))
+        self.assertEqual(client.scope('Fields'), {'x': '0'})
 
     def test_pause(self):
         client = self.client
