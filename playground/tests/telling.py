@@ -94,7 +94,7 @@ def faults_are_told_with_names_and_values(page):
     """A fault is explained in the companion's words, with the names and values of its statement."""
     for name, wanted in (('4 NotNil', 'a must be nil before new, and it holds #2.'), ('5 Nil', 'a must not be nil here.'),
                          ('6 Count', 'a must have the only reference to #2, which has 2.'), ('7 NotEmpty', '[0] of #2 must be 0 or nil when it is deleted, and it is 1.'),
-                         ('8 HeapFull', 'The heap of 4,096 words must have a free block of 5002 words.'),
+                         ('8 HeapFull', 'The heap of 4,096 words must have a free block of 5,002 words.'),
                          ('9 Index', 'The index of a must be at least 0 and less than 2, and it is 2.'),
                          ('10 NotSame', 'a and b must have one reference, and they have #2 and #3.'),
                          ('11 ClassDiffers', 'The class of this delete must be D, with which #2 was made, not C.'),
