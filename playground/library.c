@@ -11,7 +11,7 @@ FROM_PAGE("read") long page_read(int file, unsigned char *to, size length);
 FROM_PAGE("write") long page_write(int file, const unsigned char *from, size length);
 FROM_PAGE("close") int page_close(int file);
 
-enum { NO_SEEK = 29, GRAIN = 16, ORDERS = 40, PAGE = 65536, AT_ONCE = 256 };
+enum { NO_SEEK = 29, NO_SUCH_CALL = 38, GRAIN = 16, ORDERS = 40, PAGE = 65536, AT_ONCE = 256 };
 
 // The heap: a block of order k has 16 * 2^k bytes and follows 16 bytes that hold k. The free blocks of an order
 // are a list, and blocks are not joined.
@@ -109,6 +109,24 @@ long lseek(int file, long to, int from) {
   error = NO_SEEK;
   return -1;
 }
+
+// The page has names and texts, and nothing else of a file system: no folders, links, owners, modes or disk. The
+// program writes a file in place if it cannot learn what the file is.
+static int unknown(void) {
+  error = NO_SUCH_CALL;
+  return -1;
+}
+
+int statx(int folder, const char *name, int flags, unsigned mask, void *to) { return unknown(); }
+long readlink(const char *name, char *to, size room) { return unknown(); }
+int chown(const char *name, unsigned owner, unsigned group) { return unknown(); }
+int fchmod(int file, unsigned mode) { return unknown(); }
+int ftruncate(int file, long length) { return unknown(); }
+int fsync(int file) { return unknown(); }
+int fdatasync(int file) { return unknown(); }
+int flock(int file, int operation) { return unknown(); }
+int rename(const char *old, const char *new) { return unknown(); }
+int unlink(const char *name) { return unknown(); }
 
 long rattle_arg(size number, unsigned char *to, size room) { return page_word(number, to, room); }
 
