@@ -3,7 +3,7 @@ ghost use Rattle.std.specs.Prelude.{◌≤◌, length};
 
 use crate::part::Symbol;
 
-/// Cells with room in front of them, so that a row grows at both ends.
+/// Cells with space in front of them, so that a row grows at both ends.
 #[derive(Drop)]
 pub struct Row {
     pub(crate) store: Vec<Symbol>,

@@ -36,7 +36,7 @@ impl Row {
         self.store.len() - self.first
     }
 
-    /// Adds a cell behind the others.
+    /// Adds a cell after the others.
     pub(crate) fn push(&mut self, cell: Symbol) -> Result<(), NoMemory>
         ensures { OnOk result (cells_in self.new ≡ cells_in self.old ++ cell ∷ []) }
     {
@@ -44,7 +44,7 @@ impl Row {
         Ok(())
     }
 
-    /// Adds the cells of another row behind those of this one.
+    /// Adds the cells of another row after those of this one.
     pub(crate) fn append(&mut self, other: Row) -> Result<(), NoMemory>
         ensures { OnOk result (cells_in self.new ≡ cells_in self.old ++ cells_in other) }
     {
@@ -69,7 +69,7 @@ impl Row {
         self.move_behind(more)
     }
 
-    // Writes cells into the room.
+    // Writes cells into the space in front.
     fn fill_room(&mut self, more: &[Symbol])
         requires { length more.now ≤ self.old.first }
         ensures { cells_in self.new ≡ more.now ++ cells_in self.old }
@@ -79,7 +79,7 @@ impl Row {
         self.first = front;
     }
 
-    // Moves the cells to a larger store, behind other cells and as much room as they all take.
+    // Moves the cells to a larger store, after other cells, with as much space in front as they all take.
     fn move_behind(&mut self, more: &[Symbol]) -> Result<(), NoMemory>
         ensures { OnOk result (cells_in self.new ≡ more.now ++ cells_in self.old) }
     {

@@ -8,8 +8,8 @@ use rpp_words::NoMemory;
 /// How many more cells are stored when a run reaches one.
 const MORE_CELLS: u32 = 4096;
 
-/// Data cells, of which the first are stored. There is room for all of them, so that to store more
-/// of them takes no memory.
+/// Data cells, of which the first are stored. Memory for all of them is reserved, so that storing
+/// more of them allocates none.
 #[derive(Drop)]
 pub struct LazyCells {
     pub(crate) words: Vec<u32>,
@@ -34,7 +34,7 @@ impl Cells for LazyCells {
 }
 
 impl LazyCells {
-    /// Cells with these words, and so many cells of 0 behind them.
+    /// Cells with these words, and so many cells of 0 after them.
     pub(crate) fn of(words: Vec<u32>, zeros: u32) -> Result<LazyCells, NoMemory>
         requires { vec_len words + zeros < 2 ^ 32 }
         ensures { IfOk result (λ cells. words_of cells.words.items cells.count
@@ -73,7 +73,7 @@ impl LazyCells {
         }
     }
 
-    // Stores the cells up to one, and some behind it.
+    // Stores the cells up to one, and some after it.
     #[cold]
     #[inline(never)]
     fn store_to(&mut self, at: u32)

@@ -109,7 +109,7 @@ impl Machine {
     }
 
     /// A machine at the start of a run of an image, with these registers, these data cells, and so
-    /// many of 0 behind them. Room for all of them is reserved here, so that no call that runs the
+    /// many of 0 after them. Memory for all of them is reserved here, so that no call that runs the
     /// machine allocates memory. Those of 0 are written only once the run is near them.
     pub fn start_with_more(
         image: Image,

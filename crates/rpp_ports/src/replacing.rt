@@ -25,8 +25,8 @@ struct Opened<F: Drop> {
 }
 
 // Writes a file. A regular file with one name is replaced as a whole: an error leaves its old text.
-// What has no text of its own is written in place, as a device or a pipe, and so is a file that
-// cannot be replaced: one with several names, and one that only its folder keeps from it.
+// What has no text of its own is written in place: a device or a pipe. So is a file that cannot be
+// replaced: one that has several names, or whose folder does not allow it.
 pub(crate) fn write<R: Files + AllocGlobal>(rt: &R, name: &str, bytes: &[u8]) -> io::Result<()> {
     if let Some(target) = target_of(rt, name)? {
         match replace(rt, target.as_str(), bytes) {
@@ -37,8 +37,8 @@ pub(crate) fn write<R: Files + AllocGlobal>(rt: &R, name: &str, bytes: &[u8]) ->
     fs::write(rt, name, bytes)
 }
 
-// Whether an error says that the folder does not let a file be replaced, which may still be
-// writable: it is not ours, cannot be changed, has no room for a longer name, or the file is mounted.
+// Whether an error says that the folder does not let a file be replaced. The file may still be
+// writable. The folder is not ours, cannot be changed or takes no longer name, or the file is mounted.
 fn is_kept_from(kind: ErrorKind) -> bool {
     matches!(
         kind,
@@ -51,7 +51,7 @@ fn is_kept_from(kind: ErrorKind) -> bool {
     )
 }
 
-// The name of the regular file that is to be replaced, behind all links, or of the file that is to
+// The name of the regular file that is to be replaced, after all links, or of the file that is to
 // be made. There is none for what is no regular file, nor where a link of the system's own leads to
 // a file that is open, as /dev/stdout does.
 fn target_of<R: Files + AllocGlobal>(rt: &R, name: &str) -> io::Result<Option<String>> {

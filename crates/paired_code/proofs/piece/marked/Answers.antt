@@ -6,7 +6,8 @@ use Rattle.paired_code.proofs.piece.marked.Goals as goal
 
 pub sealed-requires-clause-within : goal.sealed-requires-clause-within
 sealed-requires-clause-within c =
-    marked_within _ _ _ _ _ _ c.in_ok-push.ensures.items c.cover.ensures c.len.ensures.count c.requires c.piece.invariant.within
+    marked_within _ _ _ _ _ _ c.in_ok-push.ensures.items c.cover.ensures c.len.ensures.count c.requires
+    c.piece.invariant.within
 
 pub returns-clause-code : goal.returns-clause-code
 returns-clause-code c = search rules
