@@ -7,8 +7,8 @@ ghost use Rattle.class_table.specs.Chains.{class_named, parent_named, parents as
 
 use crate::error::ClassError;
 use indexmap::IndexSet;
+use rpp_tree::Text;
 use rpp_tree::limits::MOST_CLASSES;
-use rpp_tree::text::Text;
 use rpp_tree::tree::{Ident, Program};
 use std::alloc::Global;
 

@@ -4,7 +4,7 @@ ghost use Rattle.class_table.specs.Names.{has_name, with_name};
 
 use crate::error::ClassError;
 use indexmap::IndexSet;
-use rpp_tree::text::Text;
+use rpp_tree::Text;
 use std::alloc::Global;
 
 /// Puts a copy of a name last, unless the name is there. Says whether it was not there.

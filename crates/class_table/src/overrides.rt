@@ -12,7 +12,7 @@ use crate::method::MethodId;
 use crate::names::add_name;
 use crate::slots::{methods_at, runs_at, slots_along};
 use indexmap::{IndexMap, IndexSet};
-use rpp_tree::text::Text;
+use rpp_tree::Text;
 use rpp_tree::tree::{Class, Method, Program, Var, VarType};
 use std::alloc::Global;
 

@@ -7,7 +7,7 @@ ghost use Rattle.class_table.specs.First.{first_in};
 use crate::error::ClassError;
 use crate::names::add_name;
 use indexmap::IndexSet;
-use rpp_tree::text::Text;
+use rpp_tree::Text;
 use rpp_tree::tree::{Class, Ident, Method, Program, Var, VarType};
 use std::alloc::Global;
 

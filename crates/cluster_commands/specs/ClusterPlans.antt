@@ -8,7 +8,7 @@ use Rattle.command_plan.specs.pisa_image.declared.error.ImageError.{ImageError}
 use Rattle.command_plan.specs.pisa_image.Reading.{image_at}
 use Rattle.command_plan.specs.declared.reading.TheConstants.{MOST_IMAGE}
 use Rattle.command_plan.specs.declared.plan.Verdict.TheVariants.{Done, ImageRefused, InputRefused}
-use Rattle.command_plan.specs.Files.{Needed, image_file}
+use Rattle.command_plan.specs.Files.{Needed, image_file, script_file}
 use Rattle.command_plan.specs.Plans.{Planned, prints, WithText}
 use Rattle.command_plan.specs.Texts.{bad_command_line, image_line}
 use Rattle.cluster_commands.specs.declared.script.Event.{Event}
@@ -18,9 +18,6 @@ use Rattle.cluster_commands.specs.declared.error.ScriptError.TheVariants.{BadEve
 use Rattle.cluster_commands.specs.declared.error.ScriptError.TheVariants as script
 use Rattle.cluster_commands.specs.ClusterScripts.{events_of}
 use Rattle.cluster_commands.specs.ClusterShown.{IsShown}
-
-abbrev pub script_file : List ℕ → Needed
-script_file name = record { name = name; limit = MOST_SCRIPT }
 
 -- the script is read first, then the images in order
 abbrev pub cluster_files : (script : List ℕ) → (images : List (List ℕ)) → List Needed

@@ -8,7 +8,7 @@ ghost use Rattle.code_scope.specs.Visible.{offset_of, word_named, place_named, t
 use crate::known::Names;
 use code_conventions::memory::FIRST_VARIABLE;
 use refine_form::Spot;
-use rpp_tree::text::Text;
+use rpp_tree::Text;
 use rpp_tree::tree::{Var, VarType};
 
 // The word of the frame of the innermost of these variables that has the name.

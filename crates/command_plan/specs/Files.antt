@@ -2,11 +2,12 @@
 use Rattle.std.specs.Prelude.{◌≡◌, ◌≢◌, ◌++◌, codes, string_bytes, ◌⊎◌, ℕ, ◌≤◌, List, [], ◌∷◌, ⊤}
 use Rattle.std.specs.Prelude.{None, Some, IsSomeAnd, IfSome, OnOk, IfErr, Result, if◌then◌else◌}
 use Rattle.std.specs.declared.option.Option.{Option}
-use Rattle.pisa_loader.specs.rpp_tree.declared.limits.TheConstants.{MOST_BYTES}
+use Rattle.rpp_tree.specs.declared.limits.TheConstants.{MOST_BYTES}
 use Rattle.pisa_loader.specs.declared.input.TheConstants.{MOST_INPUT}
 use Rattle.rpp_ports.specs.Ports.{Texts, Rose, IsMissing, IsTooLong, ReadCause}
 use Rattle.rpp_ports.specs.declared.shelf.ShelfFault.{ShelfFault}
 use Rattle.pisa_asm.specs.declared.assembler.TheConstants.{MOST_TEXT}
+use Rattle.pisa_scripts.specs.declared.lines.TheConstants.{MOST_SCRIPT}
 use Rattle.command_plan.specs.declared.reading.TheConstants.{MOST_IMAGE, MOST_STATE}
 use Rattle.command_plan.specs.declared.plan.NoPlan.{NoPlan}
 use Rattle.command_plan.specs.declared.plan.NoPlan.TheVariants.{NoMemory, Unread}
@@ -27,6 +28,9 @@ assembly name = record { name = name; limit = MOST_TEXT }
 
 abbrev pub image_file : List ℕ → Needed
 image_file name = record { name = name; limit = MOST_IMAGE }
+
+abbrev pub script_file : List ℕ → Needed
+script_file name = record { name = name; limit = MOST_SCRIPT }
 
 abbrev pub input : List ℕ → Needed
 input name = record { name = name; limit = MOST_INPUT }

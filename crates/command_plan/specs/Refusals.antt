@@ -4,9 +4,6 @@ use Rattle.std.specs.Fmt.{decimal}
 use Rattle.class_table.specs.Refusal.{Refusal}
 use Rattle.pisa_scripts.specs.rpp_words.Texts.{line_end}
 
-abbrev pub refused : ℕ → ℕ → Refusal
-refused number at = record { number = number; at = at }
-
 -- the name of a refusal of a source
 abbrev pub refusal_name : ℕ → List ℕ
 refusal_name number =

@@ -4,7 +4,7 @@ ghost use Rattle.command_plan.specs.Files.{state_of_names, OnlyReads, image_file
 ghost use Rattle.command_plan.specs.Plans.{IsInputText, IsStateText};
 ghost use Rattle.command_plan.specs.Reads.{Gave, Asks};
 ghost use Rattle.rpp_ports.specs.Ports.{IsTextOf};
-ghost use Rattle.pisa_loader.specs.rpp_tree.declared.limits.TheConstants.{MOST_BYTES};
+ghost use Rattle.rpp_tree.specs.declared.limits.TheConstants.{MOST_BYTES};
 ghost use Rattle.pisa_loader.specs.declared.input.TheConstants.{MOST_INPUT};
 
 use crate::plan::NoPlan;

@@ -17,7 +17,7 @@ use Rattle.command_plan.specs.Plans.{Planned, WritesOnly}
 use Rattle.image_commands.specs.ImagePlans.{OfImage, OfRunImage, IsAsmPlan, AssemblesFile, ListsFile, FlipsFile}
 use Rattle.image_commands.specs.ImagePlans.{RunsFile}
 use Rattle.image_commands.specs.ImagePlans.{IsListPlan, IsFlipPlan, IsRunPlan, IsSizedPlan, IsRanPlan, first_of, saved}
-use Rattle.two_way_debugger.specs.declared.command.Command.{Command}
+use Rattle.pisa_scripts.specs.declared.command.Command.{Command}
 use Rattle.two_way_debugger.specs.declared.error.ScriptError.{ScriptError}
 use Rattle.two_way_debugger.specs.declared.error.ScriptError.TheVariants.{BadCommand, NoMemory}
 use Rattle.two_way_debugger.specs.Scripts.{script_of}

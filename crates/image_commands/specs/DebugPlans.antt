@@ -15,20 +15,16 @@ use Rattle.command_plan.specs.pisa_image.Reading.{image_at}
 use Rattle.command_plan.specs.pisa_loader.Limiting.{limits_refusal}
 use Rattle.command_plan.specs.pisa_loader.declared.error.LoadError.{LoadError}
 use Rattle.command_plan.specs.pisa_scripts.declared.lines.TheConstants.{MOST_SCRIPT}
-use Rattle.two_way_debugger.specs.declared.command.Command.{Command}
+use Rattle.pisa_scripts.specs.declared.command.Command.{Command}
 use Rattle.two_way_debugger.specs.declared.error.ScriptError.{ScriptError}
 use Rattle.two_way_debugger.specs.declared.error.ScriptError.TheVariants.{BadCommand, NoMemory}
 use Rattle.two_way_debugger.specs.Scripts.{script_of}
 use Rattle.two_way_debugger.specs.Shown.{shown, spent_in}
 use Rattle.command_plan.specs.declared.reading.TheConstants.{MOST_IMAGE}
 use Rattle.command_plan.specs.declared.plan.Verdict.TheVariants.{Done, InputRefused}
-use Rattle.command_plan.specs.Files.{Needed}
 use Rattle.command_plan.specs.Plans.{Planned, prints, WithText}
 use Rattle.command_plan.specs.Texts.{load_line, bad_command_line}
 use Rattle.image_commands.specs.ImagePlans.{OfRunImage}
-
-abbrev pub script_file : List ℕ → Needed
-script_file name = record { name = name; limit = MOST_SCRIPT }
 
 -- where an image is loaded with no input
 abbrev pub start_of : Segments → Limits → Position

@@ -7,9 +7,9 @@ ghost use Rattle.command_plan.specs.rpp_words.declared.input.TheConstants.{MOST_
 ghost use Rattle.command_plan.specs.pisa_scripts.declared.lines.TheConstants.{MOST_SCRIPT};
 ghost use Rattle.two_way_debugger.specs.Scripts.{script_of};
 ghost use Rattle.two_way_debugger.specs.Shown.{shown, spent_in};
-ghost use Rattle.command_plan.specs.Files.{OnlyReads, UnreadCause, image_file};
+ghost use Rattle.command_plan.specs.Files.{OnlyReads, UnreadCause, image_file, script_file};
 ghost use Rattle.command_plan.specs.Plans.{planned, GivesPlan};
-ghost use Rattle.image_commands.specs.DebugPlans.{script_file, start_of, followed, IsScriptPlan, IsRoomPlan, IsDebugPlan, DebugsFile, MovesSome, IsScriptShort, IsRoomShort, IsDebugShort, DebugsFileShort};
+ghost use Rattle.image_commands.specs.DebugPlans.{start_of, followed, IsScriptPlan, IsRoomPlan, IsDebugPlan, DebugsFile, MovesSome, IsScriptShort, IsRoomShort, IsDebugShort, DebugsFileShort};
 
 use command_plan::{
     MOST_IMAGE, NoPlan, Plan, Room, Verdict, bad_command_line, image_line, load_line, read_both,
@@ -18,12 +18,12 @@ use pisa_image::{ImageError, read_image};
 use pisa_isa::Image;
 use pisa_loader::{check_limits, load};
 use pisa_machine::{Machine, Steps};
-use pisa_scripts::MOST_SCRIPT;
+use pisa_scripts::{Command, MOST_SCRIPT};
 use rpp_ports::Shelf;
 use rpp_words::{Input, Limits, MOST_DEEP, NoMemory};
 use std::alloc::Global;
 use std::sync::ledger::Ledger;
-use two_way_debugger::{Command, Debugger, ScriptError, read_script};
+use two_way_debugger::{Debugger, ScriptError, read_script};
 
 /// Follows the script in a file along the run of the image in a file, from the loaded memory on,
 /// and reports what its commands print. It makes the steps of their moves and no others, and none

@@ -7,7 +7,7 @@ ghost use Rattle.refine_heap.specs.buddy_book.Book.{order_for as least_order};
 
 use class_table::Checked;
 use code_conventions::memory::HEADER_WORDS;
-use rpp_tree::text::Text;
+use rpp_tree::Text;
 use rpp_words::order_for;
 
 /// The number of the class of this name; 0 if there is none.

@@ -13,7 +13,7 @@ use crate::label::is_name;
 use crate::line::next_word;
 use crate::number::{amount_number, offset_number, register_number, word_number};
 use pisa_isa::{Cell, Op};
-use rpp_tree::Text;
+use rpp_words::Text;
 use std::alloc::Global;
 
 /// What an instruction has after its registers.

@@ -12,7 +12,7 @@ use Rattle.std.proofs.lemmas.List.Sums.{take_while-cons}
 use Rattle.pisa_loader.specs.declared.lines.Kind.TheVariants.{Blank, Letter, InName, Digit}
 use Rattle.pisa_loader.specs.InputLines.{is_of, behind, after, word_up_to, digits_word, number_word, entry_in, Entry}
 use Rattle.pisa_loader.specs.InputLines.{entry}
-use Rattle.rpp_tree.specs.rpp_words.Texts.{decimal_from}
+use Rattle.rpp_words.specs.Texts.{decimal_from}
 use Rattle.pisa_loader.specs.InputGrammar.{are_blanks, is_name, is_numeral, sign, Parts, line_of, AreParts, Sets}
 
 both : (b c : Bool) → (b && c) ≡ true → (b ≡ true) × (c ≡ true)

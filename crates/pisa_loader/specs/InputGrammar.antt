@@ -3,7 +3,7 @@ use Rattle.std.specs.Prelude.{◌≡◌, ℕ, Bool, true, false, ◌&&◌, List,
 use Rattle.std.specs.List.{list_all}
 use Rattle.pisa_loader.specs.declared.lines.Kind.TheVariants.{Blank, Letter, InName, Digit}
 use Rattle.pisa_loader.specs.InputLines.{is_of, word_up_to}
-use Rattle.rpp_tree.specs.rpp_words.Texts.{decimal_from}
+use Rattle.rpp_words.specs.Texts.{decimal_from}
 
 -- only spaces and tabs
 abbrev pub are_blanks : List ℕ → Bool

@@ -1,5 +1,4 @@
 pub use Rattle.pisa_machine.specs.rpp_probes
-pub use Rattle.rpp_tree.specs as rpp_tree
 pub use Rattle.pisa_image.specs as pisa_image
 pub mod Limiting
 pub mod States

@@ -2,7 +2,7 @@
 ghost use Rattle.std.specs.Prelude.{◌≡◌, ◌≤◌, ◌^◌, ◌+◌, min, length, MatchOption, Some, None};
 ghost use Rattle.std.specs.List.{prefix_len, take_while, list_all};
 ghost use Rattle.pisa_loader.specs.InputLines.{is_of, behind, after, word_up_to, digits_word, number_word, entry_in, Entry, entry};
-ghost use Rattle.rpp_tree.specs.rpp_words.Texts.{decimal_from};
+ghost use Rattle.rpp_words.specs.Texts.{decimal_from};
 
 use rpp_words::wrap_sub;
 

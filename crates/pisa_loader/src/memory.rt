@@ -1,12 +1,12 @@
 // The memory that a run begins with.
 ghost use Rattle.std.specs.Prelude.{◌≡◌, ◌≤◌, ◌<◌, ◌+◌, ◌-◌, ◌*◌, ◌/◌, ◌++◌, ◌^◌, All, length, replicate, vec_len, IfOk, OnOk};
-ghost use Rattle.rpp_tree.specs.rpp_words.Words.{IsWord};
+ghost use Rattle.rpp_words.specs.Words.{IsWord};
 ghost use Rattle.pisa_machine.specs.pisa_isa.Loaded.{loaded, heap_base as base_of, fixed_cells, empty_heads, with_words};
 ghost use Rattle.pisa_machine.specs.pisa_isa.Image.{IsImage};
 ghost use Rattle.pisa_machine.specs.pisa_isa.Runs.{zero_registers};
 ghost use Rattle.pisa_machine.specs.Position.{first_position};
 ghost use Rattle.pisa_loader.specs.Limiting.{IsInputOf, memory_size};
-ghost use Rattle.rpp_tree.specs.rpp_words.Limits.{IsLimits};
+ghost use Rattle.rpp_words.specs.Limits.{IsLimits};
 
 use pisa_isa::{Image, MOST_STATICS};
 use pisa_machine::Machine;
@@ -57,7 +57,7 @@ pub(crate) fn memory_size(statics: u32, limits: Limits) -> u32
     heap_base(limits.heap, statics) + heap_size(limits.heap) + FRAME_WORDS * limits.deep
 }
 
-/// The cells of 0 behind the static cells: up to the heap, the heap, the stack and so many more.
+/// The cells of 0 after the static cells: up to the heap, the heap, the stack and so many more.
 fn zeros_behind(statics: u32, limits: Limits, more: u32) -> u32
     requires limits { IsLimits limits }
     requires statics { statics ≤ MOST_STATICS }

@@ -3,11 +3,13 @@
 //! gives exactly the text of its definition.
 #![tactic(auto)]
 
+mod command;
 mod lines;
 mod numbers;
 mod stops;
 mod words;
 
+pub use command::Command;
 pub use lines::{MOST_SCRIPT, is_blank, pieces, without_returns};
 pub use numbers::{number_up_to, short_number};
 pub use stops::add_stop;

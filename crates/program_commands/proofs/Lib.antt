@@ -1,5 +1,5 @@
 pub use Rattle.store_report.proofs as store_report_laws
-pub use Rattle.roopl_judge.proofs.command_plan_laws
+pub use Rattle.command_plan.proofs as command_plan_laws
 pub use Rattle.run_settings.proofs as run_settings_laws
 pub mod Reported
 pub mod Turned

@@ -6,12 +6,12 @@ use Rattle.roopl_judge.specs.rpp_words.declared.input.Limits.{Limits}
 use Rattle.roopl_judge.specs.rpp_tree.Tree.{Source}
 use Rattle.image_inverter.specs.pisa_isa.declared.machine.Stop.{Stop}
 use Rattle.image_inverter.specs.pisa_isa.declared.machine.Stop.TheVariants.{Finished, Trap, Bound, Returned, BadAddress, OffCode}
-use Rattle.roopl_judge.specs.rpp_ports.Ports.{Texts}
+use Rattle.command_plan.specs.rpp_ports.Ports.{Texts}
 use Rattle.roopl_judge.specs.rpp_words.declared.input.FieldWord.{FieldWord}
-use Rattle.roopl_judge.specs.pisa_loader.declared.error.LoadError.{LoadError}
+use Rattle.command_plan.specs.pisa_loader.declared.error.LoadError.{LoadError}
 use Rattle.run_settings.specs.Inputs.{given_input}
-use Rattle.roopl_judge.specs.command_plan.Plans.{Planned, WritesOnly}
-use Rattle.roopl_judge.specs.rpp_probes.Tally.{Watch}
+use Rattle.command_plan.specs.Plans.{Planned, WritesOnly}
+use Rattle.command_plan.specs.rpp_probes.Tally.{Watch}
 use Rattle.program_commands.specs.ProgramPlans.{WritesImage, IsCheckPlan, IsCompilePlan, ChecksFile}
 use Rattle.program_commands.specs.ProgramPlans.{CompilesFile, ReportsStop, RunsImage}
 use Rattle.program_commands.specs.RunPlans.{IsGoPlan, IsTurnPlan, IsProfilePlan}
@@ -19,10 +19,10 @@ use Rattle.program_commands.specs.RunPlans.{GoesOn, TurnsFile, ProfilesFile}
 use Rattle.store_report.specs.roopl_semantics.Run.{Run, Done as OverWith, Fault, More}
 use Rattle.store_report.specs.roopl_semantics.Store.{State}
 use Rattle.store_report.specs.roopl_semantics.Source.{source}
-use Rattle.roopl_judge.specs.pisa_loader.Limiting.{limits_refusal}
+use Rattle.command_plan.specs.pisa_loader.Limiting.{limits_refusal}
 use Rattle.store_report.specs.source_meaning.declared.whole.TheConstants.{MOST_OPEN}
 use Rattle.program_commands.specs.Explained.{explained, IsExplainedInput, IsExplainedWithin, IsExplainPlan, Explains}
-use Rattle.roopl_judge.proofs.command_plan_laws.Writes.{along}
+use Rattle.command_plan.proofs.Writes.{along}
 use Rattle.run_settings.proofs.RefusedRuns.{judged_writes, refused_writes}
 
 stop_writes : (turns : Bool) (why : Stop) (program : Source) (limits : Limits) (input : List FieldWord)

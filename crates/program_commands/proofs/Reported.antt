@@ -21,10 +21,10 @@ use Rattle.store_report.specs.roopl_semantics.Store.{State}
 use Rattle.store_report.specs.roopl_semantics.Report.{report}
 use Rattle.store_report.specs.Memory.{IsMemoryOf}
 use Rattle.program_commands.specs.GoRun.{HasRun}
-use Rattle.roopl_judge.specs.command_plan.Plans.{Planned, prints}
+use Rattle.command_plan.specs.Plans.{Planned, prints}
 use Rattle.program_commands.specs.ProgramPlans.{ReportsStore}
-use Rattle.roopl_judge.specs.command_plan.Texts.{steps_line}
-use Rattle.roopl_judge.specs.command_plan.declared.plan.Verdict.TheVariants.{Done}
+use Rattle.command_plan.specs.Texts.{steps_line}
+use Rattle.command_plan.specs.declared.plan.Verdict.TheVariants.{Done}
 
 module _ (program : Source) (limits : Limits) (input : List FieldWord) (bound : ℕ) (end : Position) (spent : ℕ) where
   follows : (why : Stop) → HasRun program limits input bound end why spent → Follows program end.image limits input

@@ -8,9 +8,9 @@ use Rattle.store_report.specs.roopl_semantics.Report.{report}
 use Rattle.store_report.specs.source_meaning.declared.outcome.Outcome.{Outcome}
 use Rattle.store_report.specs.source_meaning.declared.outcome.Outcome.TheVariants as outcome
 use Rattle.store_report.specs.source_meaning.Outcomes.{IsOutcome}
-use Rattle.roopl_judge.specs.command_plan.declared.plan.Plan.{Plan}
-use Rattle.roopl_judge.specs.command_plan.declared.plan.Verdict.TheVariants.{Done}
-use Rattle.roopl_judge.specs.command_plan.Plans.{Planned, planned, prints}
+use Rattle.command_plan.specs.declared.plan.Plan.{Plan}
+use Rattle.command_plan.specs.declared.plan.Verdict.TheVariants.{Done}
+use Rattle.command_plan.specs.Plans.{Planned, planned, prints}
 use Rattle.program_commands.specs.Explained.{cost_line, explained, Tells}
 
 told_is : (program : Source) (answer : Outcome) (run : Run State) (p : Planned) → IsOutcome answer run

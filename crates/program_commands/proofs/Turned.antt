@@ -23,11 +23,11 @@ use Rattle.store_report.specs.roopl_semantics.Source.{starting}
 use Rattle.store_report.specs.roopl_semantics.Store.{State}
 use Rattle.store_report.specs.roopl_semantics.Report.{report}
 use Rattle.program_commands.proofs.Reported.{final, final_memory, soon_over}
-use Rattle.roopl_judge.specs.command_plan.declared.plan.Verdict.TheVariants.{Done}
-use Rattle.roopl_judge.specs.command_plan.Plans.{Planned, prints}
+use Rattle.command_plan.specs.declared.plan.Verdict.TheVariants.{Done}
+use Rattle.command_plan.specs.Plans.{Planned, prints}
 use Rattle.program_commands.specs.ProgramPlans.{ReportsTurn, ReportsStop, ReportsEnd, RunsImage, back_lines}
 use Rattle.program_commands.specs.ProgramPlans.{steps_back}
-use Rattle.roopl_judge.specs.command_plan.Texts.{steps_line}
+use Rattle.command_plan.specs.Texts.{steps_line}
 
 module _ (program : Source) (limits : Limits) (input : List FieldWord) (bound : ℕ) (end : Position) (spent : ℕ) where
   abbrev first_cells : List ℕ

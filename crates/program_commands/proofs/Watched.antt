@@ -10,16 +10,16 @@ use Rattle.image_inverter.specs.pisa_isa.Machine.{State}
 use Rattle.roopl_judge.specs.rpp_words.declared.input.FieldWord.{FieldWord}
 use Rattle.roopl_judge.specs.rpp_words.declared.input.Limits.{Limits}
 use Rattle.roopl_judge.specs.rpp_tree.Tree.{Source}
-use Rattle.roopl_judge.specs.rpp_probes.declared.probe.StepAt.{StepAt}
-use Rattle.roopl_judge.proofs.rpp_probes_laws.Folds.{left_none}
-use Rattle.roopl_judge.specs.rpp_probes.Tally.{Watch, left_after, lines_after, lines_shown, line_of}
+use Rattle.command_plan.specs.rpp_probes.declared.probe.StepAt.{StepAt}
+use Rattle.rpp_probes.proofs.Folds.{left_none}
+use Rattle.command_plan.specs.rpp_probes.Tally.{Watch, left_after, lines_after, lines_shown, line_of}
 use Rattle.image_inverter.specs.pisa_isa.declared.machine.Stop.{Stop}
 use Rattle.image_inverter.specs.pisa_isa.Image.{Segments, IsImage}
 use Rattle.image_inverter.specs.pisa_isa.Loaded.{loaded}
 use Rattle.image_inverter.specs.pisa_isa.Runs.{End, visited, started}
 use Rattle.store_report.specs.pisa_machine.Position.{Position}
 use Rattle.store_report.specs.pisa_machine.Told.{counted_steps, step_at, BreaksOff}
-use Rattle.roopl_judge.specs.command_plan.Plans.{Planned}
+use Rattle.command_plan.specs.Plans.{Planned}
 use Rattle.program_commands.specs.GoRun.{IsLoaded, HasRun}
 use Rattle.program_commands.specs.ProgramPlans.{ReportsStop, steps_back}
 use Rattle.program_commands.specs.RunPlans.{TurnsImage, ProfilesImage, back_steps, run_steps}

@@ -7,9 +7,9 @@ use Rattle.roopl_judge.specs.rpp_words.declared.input.FieldWord.{FieldWord}
 use Rattle.roopl_judge.specs.rpp_words.declared.input.Limits.{Limits}
 use Rattle.roopl_judge.specs.rpp_tree.declared.limits.TheConstants.{MOST_BYTES}
 use Rattle.roopl_judge.specs.rpp_tree.Tree.{Source}
-use Rattle.roopl_judge.specs.rpp_ports.Ports.{Texts}
-use Rattle.roopl_judge.specs.pisa_loader.Limiting.{limits_refusal}
-use Rattle.roopl_judge.specs.pisa_loader.declared.error.LoadError.{LoadError}
+use Rattle.command_plan.specs.rpp_ports.Ports.{Texts}
+use Rattle.command_plan.specs.pisa_loader.Limiting.{limits_refusal}
+use Rattle.command_plan.specs.pisa_loader.declared.error.LoadError.{LoadError}
 use Rattle.store_report.specs.roopl_semantics.Run.{Run, Done as OverWith, Fault, More}
 use Rattle.store_report.specs.roopl_semantics.Store.{State}
 use Rattle.store_report.specs.roopl_semantics.Source.{source}
@@ -17,10 +17,10 @@ use Rattle.store_report.specs.roopl_semantics.Report.{report}
 use Rattle.store_report.specs.source_meaning.declared.outcome.Outcome.{Outcome}
 use Rattle.store_report.specs.source_meaning.declared.outcome.Outcome.TheVariants as outcome
 use Rattle.store_report.specs.source_meaning.declared.whole.TheConstants.{MOST_OPEN}
-use Rattle.roopl_judge.specs.command_plan.declared.plan.Verdict.TheVariants.{Done, Trapped, Bound, InputRefused}
-use Rattle.roopl_judge.specs.command_plan.Plans.{Planned, prints, WithText, WithInput}
-use Rattle.roopl_judge.specs.command_plan.Texts.{load_line}
-use Rattle.roopl_judge.specs.pisa_scripts.Stops.{fault_line}
+use Rattle.command_plan.specs.declared.plan.Verdict.TheVariants.{Done, Trapped, Bound, InputRefused}
+use Rattle.command_plan.specs.Plans.{Planned, prints, WithText, WithInput}
+use Rattle.command_plan.specs.Texts.{load_line}
+use Rattle.command_plan.specs.pisa_scripts.Stops.{fault_line}
 use Rattle.run_settings.specs.Inputs.{given_input}
 use Rattle.run_settings.specs.Runnable.{IsJudgedPlan}
 

@@ -1,16 +1,16 @@
 pub use Rattle.roopl_judge.specs.rpp_words
-pub use Rattle.roopl_judge.specs.rpp_ports
+pub use Rattle.command_plan.specs.rpp_ports
 pub use Rattle.roopl_judge.specs.rpp_tree
 pub use Rattle.roopl_judge.specs.class_table
 pub use Rattle.image_inverter.specs.pisa_isa
 pub use Rattle.store_report.specs.pisa_machine
-pub use Rattle.roopl_judge.specs.pisa_image
-pub use Rattle.roopl_judge.specs.pisa_loader
-pub use Rattle.roopl_judge.specs.pisa_scripts
+pub use Rattle.command_plan.specs.pisa_image
+pub use Rattle.command_plan.specs.pisa_loader
+pub use Rattle.command_plan.specs.pisa_scripts
 pub use Rattle.store_report.specs.roopl_semantics
 pub use Rattle.store_report.specs.meaning_points
 pub use Rattle.store_report.specs as store_report
-pub use Rattle.roopl_judge.specs.command_plan
+pub use Rattle.command_plan.specs as command_plan
 pub use Rattle.roopl_judge.specs as roopl_judge
 pub use Rattle.run_settings.specs as run_settings
 pub mod ProgramPlans

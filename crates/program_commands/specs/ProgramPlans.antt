@@ -7,15 +7,15 @@ use Rattle.roopl_judge.specs.rpp_words.declared.input.FieldWord.{FieldWord}
 use Rattle.roopl_judge.specs.rpp_words.declared.input.Limits.{Limits}
 use Rattle.roopl_judge.specs.rpp_tree.declared.limits.TheConstants.{MOST_BYTES}
 use Rattle.roopl_judge.specs.rpp_tree.Tree.{Source}
-use Rattle.roopl_judge.specs.rpp_ports.Ports.{Texts}
+use Rattle.command_plan.specs.rpp_ports.Ports.{Texts}
 use Rattle.program_codegen.specs.Notes.{AreNotes}
 use Rattle.image_inverter.specs.pisa_isa.declared.machine.Stop.{Stop}
 use Rattle.image_inverter.specs.pisa_isa.declared.machine.Stop.TheVariants.{Finished, Trap, Bound as AtBound}
 use Rattle.image_inverter.specs.pisa_isa.Image.{Segments, IsImage}
 use Rattle.image_inverter.specs.pisa_isa.Notes.{NoteLists}
 use Rattle.image_inverter.specs.pisa_isa.Flipped.{Restores}
-use Rattle.roopl_judge.specs.pisa_image.ImageBytes.{image_bytes}
-use Rattle.roopl_judge.specs.pisa_image.Reading.{noted, image_at}
+use Rattle.command_plan.specs.pisa_image.ImageBytes.{image_bytes}
+use Rattle.command_plan.specs.pisa_image.Reading.{noted, image_at}
 use Rattle.image_inverter.specs.pisa_isa.Loaded.{loaded}
 use Rattle.image_inverter.specs.pisa_isa.Runs.{End, zero_registers}
 use Rattle.store_report.specs.roopl_semantics.Store.{State}
@@ -24,11 +24,11 @@ use Rattle.store_report.specs.roopl_semantics.Report.{report}
 use Rattle.store_report.specs.roopl_semantics.StandsFor.{StandsFor, EndsAt, run_of, enough_steps}
 use Rattle.run_settings.specs.Runnable.{IsJudgedPlan}
 use Rattle.roopl_judge.specs.rpp_words.Texts.{line_end}
-use Rattle.roopl_judge.specs.command_plan.declared.plan.Verdict.TheVariants.{Done, Trapped}
-use Rattle.roopl_judge.specs.command_plan.declared.plan.Verdict.TheVariants.{Bound}
-use Rattle.roopl_judge.specs.command_plan.Plans.{Planned, prints, writes, WithText}
-use Rattle.roopl_judge.specs.command_plan.Texts.{steps_line, bound_lines, cells_line}
-use Rattle.roopl_judge.specs.pisa_scripts.Stops.{fault_line}
+use Rattle.command_plan.specs.declared.plan.Verdict.TheVariants.{Done, Trapped}
+use Rattle.command_plan.specs.declared.plan.Verdict.TheVariants.{Bound}
+use Rattle.command_plan.specs.Plans.{Planned, prints, writes, WithText}
+use Rattle.command_plan.specs.Texts.{steps_line, bound_lines, cells_line}
+use Rattle.command_plan.specs.pisa_scripts.Stops.{fault_line}
 
 -- the source gives a store, and the plan reports it
 pub record ReportsStore (program : Source) (limits : Limits) (input : List FieldWord) (spent : ℕ)

@@ -7,9 +7,9 @@ use Rattle.roopl_judge.specs.rpp_words.declared.input.FieldWord.{FieldWord}
 use Rattle.roopl_judge.specs.rpp_words.declared.input.Limits.{Limits}
 use Rattle.roopl_judge.specs.rpp_tree.declared.limits.TheConstants.{MOST_BYTES}
 use Rattle.roopl_judge.specs.rpp_tree.Tree.{Source}
-use Rattle.roopl_judge.specs.rpp_ports.Ports.{Texts}
-use Rattle.roopl_judge.specs.rpp_probes.declared.probe.StepAt.{StepAt}
-use Rattle.roopl_judge.specs.rpp_probes.Tally.{Watch, left_after, lines_after, lines_shown, line_of}
+use Rattle.command_plan.specs.rpp_ports.Ports.{Texts}
+use Rattle.command_plan.specs.rpp_probes.declared.probe.StepAt.{StepAt}
+use Rattle.command_plan.specs.rpp_probes.Tally.{Watch, left_after, lines_after, lines_shown, line_of}
 use Rattle.image_inverter.specs.pisa_isa.declared.cell.Cell.{Cell}
 use Rattle.image_inverter.specs.pisa_isa.declared.machine.Stop.{Stop}
 use Rattle.image_inverter.specs.pisa_isa.declared.machine.Stop.TheVariants.{Finished}
@@ -20,7 +20,7 @@ use Rattle.image_inverter.specs.pisa_isa.Loaded.{loaded_state}
 use Rattle.image_inverter.specs.pisa_isa.Runs.{End, started}
 use Rattle.store_report.specs.pisa_machine.Told.{counted_steps}
 use Rattle.store_report.specs.roopl_semantics.StandsFor.{run_of}
-use Rattle.roopl_judge.specs.command_plan.Plans.{Planned, WithText, WithInput}
+use Rattle.command_plan.specs.Plans.{Planned, WithText, WithInput}
 use Rattle.run_settings.specs.Runnable.{RefusesRun, RunsTo}
 use Rattle.program_commands.specs.ProgramPlans.{RunsImage}
 

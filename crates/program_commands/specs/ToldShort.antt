@@ -6,9 +6,9 @@ use Rattle.roopl_judge.specs.rpp_words.declared.input.FieldWord.{FieldWord}
 use Rattle.roopl_judge.specs.rpp_words.declared.input.Limits.{Limits}
 use Rattle.roopl_judge.specs.rpp_tree.declared.limits.TheConstants.{MOST_BYTES}
 use Rattle.roopl_judge.specs.rpp_tree.Tree.{Source}
-use Rattle.roopl_judge.specs.rpp_ports.Ports.{Texts}
-use Rattle.roopl_judge.specs.rpp_probes.declared.probe.StepAt.{StepAt}
-use Rattle.roopl_judge.specs.rpp_probes.Tally.{Watch, left_after, IsCutShort}
+use Rattle.command_plan.specs.rpp_ports.Ports.{Texts}
+use Rattle.command_plan.specs.rpp_probes.declared.probe.StepAt.{StepAt}
+use Rattle.command_plan.specs.rpp_probes.Tally.{Watch, left_after, IsCutShort}
 use Rattle.image_inverter.specs.pisa_isa.declared.cell.Cell.{Cell}
 use Rattle.image_inverter.specs.pisa_isa.declared.machine.Stop.TheVariants.{Finished}
 use Rattle.image_inverter.specs.pisa_isa.Image.{Segments, IsImage}
@@ -18,7 +18,7 @@ use Rattle.image_inverter.specs.pisa_isa.Machine.{State}
 use Rattle.image_inverter.specs.pisa_isa.Runs.{started}
 use Rattle.store_report.specs.pisa_machine.Told.{counted_steps}
 use Rattle.store_report.specs.roopl_semantics.StandsFor.{StandsFor, run_of}
-use Rattle.roopl_judge.specs.command_plan.Plans.{WithText, WithInput}
+use Rattle.command_plan.specs.Plans.{WithText, WithInput}
 use Rattle.run_settings.specs.Runnable.{RunsTo}
 
 -- Memory ran out for the line of a probe that ended with a step of a run of at most so many. All

@@ -1,9 +1,9 @@
 // `check F`: accepts or refuses a source.
 ghost use Rattle.std.specs.Prelude.{◌≤◌, [], ◌∷◌, length, IfOk, IfSome};
 ghost use Rattle.roopl_judge.specs.rpp_tree.declared.limits.TheConstants.{MOST_BYTES};
-ghost use Rattle.roopl_judge.specs.command_plan.Plans.{planned, GivesPlan};
+ghost use Rattle.command_plan.specs.Plans.{planned, GivesPlan};
 ghost use Rattle.program_commands.specs.ProgramPlans.{IsCheckPlan, ChecksFile};
-ghost use Rattle.roopl_judge.specs.command_plan.Files.{OnlyReads, source};
+ghost use Rattle.command_plan.specs.Files.{OnlyReads, source};
 
 use command_plan::{NoPlan, Plan, Verdict, read_file, refuse_source};
 use roopl_judge::{SourceError, judge};

@@ -6,11 +6,11 @@ ghost use Rattle.roopl_judge.specs.rpp_tree.declared.limits.TheConstants.{MOST_B
 ghost use Rattle.store_report.specs.roopl_semantics.Source.{IsValid, source as meaning};
 ghost use Rattle.store_report.specs.roopl_semantics.Report.{report as report_in};
 ghost use Rattle.store_report.specs.source_meaning.declared.whole.TheConstants.{MOST_OPEN};
-ghost use Rattle.roopl_judge.specs.pisa_loader.Limiting.{limits_refusal};
-ghost use Rattle.roopl_judge.specs.pisa_loader.declared.input.TheConstants.{MOST_INPUT};
-ghost use Rattle.roopl_judge.specs.command_plan.Plans.{planned, prints, GivesPlan};
-ghost use Rattle.roopl_judge.specs.command_plan.Files.{OnlyReads, source, input_files};
-ghost use Rattle.roopl_judge.specs.pisa_scripts.Stops.{fault_line as line_of_fault};
+ghost use Rattle.command_plan.specs.pisa_loader.Limiting.{limits_refusal};
+ghost use Rattle.command_plan.specs.pisa_loader.declared.input.TheConstants.{MOST_INPUT};
+ghost use Rattle.command_plan.specs.Plans.{planned, prints, GivesPlan};
+ghost use Rattle.command_plan.specs.Files.{OnlyReads, source, input_files};
+ghost use Rattle.command_plan.specs.pisa_scripts.Stops.{fault_line as line_of_fault};
 ghost use Rattle.run_settings.specs.Inputs.{given_input};
 ghost use Rattle.program_commands.specs.Explained.{cost_line, explained, Tells, IsExplainedInput, IsExplainedWithin, IsExplainPlan, Explains};
 

@@ -5,12 +5,12 @@ ghost use Rattle.roopl_judge.specs.rpp_tree.declared.limits.TheConstants.{MOST_B
 ghost use Rattle.image_inverter.specs.pisa_isa.Image.{IsImage};
 ghost use Rattle.image_inverter.specs.pisa_isa.Loaded.{loaded};
 ghost use Rattle.store_report.specs.roopl_semantics.StandsFor.{StandsFor};
-ghost use Rattle.roopl_judge.specs.pisa_loader.declared.input.TheConstants.{MOST_INPUT};
-ghost use Rattle.roopl_judge.specs.command_plan.Plans.{planned, GivesPlan};
+ghost use Rattle.command_plan.specs.pisa_loader.declared.input.TheConstants.{MOST_INPUT};
+ghost use Rattle.command_plan.specs.Plans.{planned, GivesPlan};
 ghost use Rattle.program_commands.specs.ProgramPlans.{RunsImage, ReportsStop, ReportsStore};
 ghost use Rattle.program_commands.specs.RunPlans.{IsGoPlan, GoesOn};
 ghost use Rattle.program_commands.specs.GoRun.{IsLoaded, HasRun};
-ghost use Rattle.roopl_judge.specs.command_plan.Files.{OnlyReads, UnreadCause, source, input_files};
+ghost use Rattle.command_plan.specs.Files.{OnlyReads, UnreadCause, source, input_files};
 
 use class_table::Checked;
 use command_plan::{

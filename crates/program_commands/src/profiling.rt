@@ -2,9 +2,9 @@
 ghost use Rattle.std.specs.Prelude.{◌≡◌, ◌⊎◌, ◌≤◌, ◌<◌, ◌+◌, ◌^◌, ◌++◌, [], ◌∷◌, length, map, IfOk, IfErr, OnOk, string_bytes};
 ghost use Rattle.roopl_judge.specs.rpp_tree.Views.{source_of};
 ghost use Rattle.roopl_judge.specs.rpp_tree.declared.limits.TheConstants.{MOST_BYTES};
-ghost use Rattle.roopl_judge.specs.rpp_probes.Tally.{lines_shown, line_of};
-ghost use Rattle.roopl_judge.specs.command_plan.Plans.{planned, GivesPlan};
-ghost use Rattle.roopl_judge.specs.command_plan.Files.{OnlyReads, UnreadCause, source};
+ghost use Rattle.command_plan.specs.rpp_probes.Tally.{lines_shown, line_of};
+ghost use Rattle.command_plan.specs.Plans.{planned, GivesPlan};
+ghost use Rattle.command_plan.specs.Files.{OnlyReads, UnreadCause, source};
 ghost use Rattle.program_commands.specs.RunPlans.{IsProfilePlan, ProfilesFile, ProfilesImage};
 ghost use Rattle.program_commands.specs.ToldShort.{ProfilesShort, IsProfileShort, ProfilesFileShort};
 

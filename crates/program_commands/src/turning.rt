@@ -3,12 +3,12 @@
 ghost use Rattle.std.specs.Prelude.{◌≡◌, ◌⊎◌, true, ◌≤◌, ◌<◌, ◌+◌, ◌^◌, ◌++◌, ◌∷◌, length, option_map, IfOk, IfErr, OnOk, string_bytes};
 ghost use Rattle.roopl_judge.specs.rpp_tree.Views.{source_of};
 ghost use Rattle.roopl_judge.specs.rpp_tree.declared.limits.TheConstants.{MOST_BYTES};
-ghost use Rattle.roopl_judge.specs.rpp_probes.Tally.{left_after};
+ghost use Rattle.command_plan.specs.rpp_probes.Tally.{left_after};
 ghost use Rattle.image_inverter.specs.pisa_isa.declared.machine.Stop.TheVariants.{Finished};
 ghost use Rattle.image_inverter.specs.pisa_isa.Loaded.{loaded};
-ghost use Rattle.roopl_judge.specs.pisa_loader.declared.input.TheConstants.{MOST_INPUT};
-ghost use Rattle.roopl_judge.specs.command_plan.Plans.{planned, GivesPlan};
-ghost use Rattle.roopl_judge.specs.command_plan.Files.{OnlyReads, UnreadCause, source, input_files};
+ghost use Rattle.command_plan.specs.pisa_loader.declared.input.TheConstants.{MOST_INPUT};
+ghost use Rattle.command_plan.specs.Plans.{planned, GivesPlan};
+ghost use Rattle.command_plan.specs.Files.{OnlyReads, UnreadCause, source, input_files};
 ghost use Rattle.program_commands.specs.ProgramPlans.{ReportsStop, ReportsTurn, back_lines, steps_back};
 ghost use Rattle.program_commands.specs.RunPlans.{IsTurnPlan, TurnsFile, TurnsImage, back_steps};
 ghost use Rattle.program_commands.specs.ToldShort.{IsToldSoFar, TurnsShort, IsTurnShort, TurnsFileShort};

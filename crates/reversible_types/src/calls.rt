@@ -15,7 +15,7 @@ use crate::expressions::{occurs_inside, type_place};
 use crate::scope::{Locals, Typing, kind_of_local, kind_of_name, kind_of_type};
 use crate::statements::{equal_kinds, name_of_place};
 use class_table::{Kind, methods_at};
-use rpp_tree::text::Text;
+use rpp_tree::Text;
 use rpp_tree::tree::{Ident, Method, Place, Var};
 
 fn know_argument(

@@ -8,7 +8,7 @@ ghost use Rattle.class_table.specs.Expressions.{is_int, element_kind, are_relate
 use crate::error::TypeError;
 use crate::scope::{Locals, Typing, kind_of_name};
 use class_table::{ClassTable, Kind};
-use rpp_tree::text::Text;
+use rpp_tree::Text;
 use rpp_tree::tree::{BinOp, Expr, Ident, Place};
 
 /// Whether a type is int.

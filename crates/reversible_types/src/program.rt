@@ -13,7 +13,7 @@ use crate::error::TypeError;
 use crate::scope::{Locals, Typing, kind_of_type};
 use crate::statements::check_block;
 use class_table::{Checked, ClassTable};
-use rpp_tree::text::Text;
+use rpp_tree::Text;
 use rpp_tree::tree::{Block, Class, Method, Program, Var};
 
 /// Whether a variable of this name is among these.

@@ -6,7 +6,7 @@ ghost use Rattle.class_table.specs.Table.{class_of};
 ghost use Rattle.reversible_types.specs.ScopeView.{typing_of, locals_of};
 
 use class_table::{ClassTable, Kind};
-use rpp_tree::text::Text;
+use rpp_tree::Text;
 use rpp_tree::tree::{Ident, Program, VarType};
 
 /// The scope of a statement: the program and its table, and the class of the method.

@@ -15,7 +15,7 @@ use crate::error::TypeError;
 use crate::expressions::{first_token, holds_int, occurs_in, occurs_inside, type_expr, type_place};
 use crate::scope::{Locals, Typing, kind_of_class, kind_of_local, kind_of_type};
 use class_table::{ClassTable, Kind, same_type};
-use rpp_tree::text::Text;
+use rpp_tree::Text;
 use rpp_tree::tree::{Block, Expr, Ident, Made, Place, Stmt, Var, VarType};
 
 /// Whether two types are equal.

@@ -16,8 +16,8 @@ use Rattle.command_line.specs.command_plan.Files.{image_file}
 use Rattle.command_line.specs.command_plan.Plans.{Planned, WithText, WithInput, WithState}
 use Rattle.command_line.specs.command_plan.Reads.{Gave, read}
 use Rattle.cluster_commands.specs.ClusterPlans.{WithImages}
-use Rattle.trace_commands.specs.image_commands.ImagePlans.{IsAsmPlan, IsListPlan, IsFlipPlan, IsRunPlan}
-use Rattle.trace_commands.specs.image_commands.DebugPlans.{IsDebugPlan}
+use Rattle.image_commands.specs.ImagePlans.{IsAsmPlan, IsListPlan, IsFlipPlan, IsRunPlan}
+use Rattle.image_commands.specs.DebugPlans.{IsDebugPlan}
 use Rattle.wrap_commands.specs.program_commands.ProgramPlans.{IsCheckPlan, IsCompilePlan}
 use Rattle.wrap_commands.specs.program_commands.RunPlans.{IsGoPlan, IsTurnPlan, IsProfilePlan}
 use Rattle.wrap_commands.specs.program_commands.ToldShort.{IsTurnShort, IsProfileShort}

@@ -14,8 +14,8 @@ use Rattle.cluster_commands.proofs.ClusterTargets.{clusters_files_writes}
 use Rattle.wrap_commands.proofs.WrapTargets.{wraps_file_writes}
 use Rattle.trace_commands.proofs.TraceTargets.{traces_writes}
 use Rattle.text_commands.proofs.TextTargets.{shows_inverse_writes, generates_writes}
-use Rattle.trace_commands.proofs.image_commands_laws.ImageTargets.{assembles_file_writes, lists_file_writes, flips_file_writes}
-use Rattle.trace_commands.proofs.image_commands_laws.ImageTargets.{runs_file_writes, debugs_file_writes}
+use Rattle.image_commands.proofs.ImageTargets.{assembles_file_writes, lists_file_writes, flips_file_writes}
+use Rattle.image_commands.proofs.ImageTargets.{runs_file_writes, debugs_file_writes}
 
 plan_writes : (line : Asked) (before after : List Watch) (count counted : ℕ) (told : Option Texts) (p : Planned)
     → IsPlan line before after count counted told p → WritesOnly p (target_of line)

@@ -5,8 +5,8 @@ use Rattle.command_line.specs.rpp_ports.Ports.{Texts, KeepsOthers}
 use Rattle.command_line.specs.Lines.{Asked, Check, Compile, Asm, ListImage, Flip, ShowInverse}
 use Rattle.command_line.specs.Lines.{Generate, Cluster, RunImage, Debug, Trace, Go, Turn, Profile}
 use Rattle.command_line.specs.Lines.{Wrap, Explain}
-use Rattle.command_line.specs.command_plan.Files.{Needed, source, assembly, image_file, input_files, state_files}
-use Rattle.trace_commands.specs.image_commands.DebugPlans.{script_file}
+use Rattle.command_line.specs.command_plan.Files.{Needed, source, assembly, image_file, script_file, input_files}
+use Rattle.command_line.specs.command_plan.Files.{state_files}
 use Rattle.cluster_commands.specs.ClusterPlans.{cluster_files}
 
 -- the files that a line reads, in order

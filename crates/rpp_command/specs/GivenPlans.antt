@@ -5,9 +5,9 @@ use Rattle.command_line.specs.rpp_probes.Tally.{Watch}
 use Rattle.command_line.specs.command_plan.pisa_image.Reading.{image_at}
 use Rattle.command_line.specs.command_plan.pisa_asm.Passes.{noted_of_text}
 use Rattle.command_line.specs.command_plan.Plans.{Planned}
-use Rattle.trace_commands.specs.image_commands.ImagePlans.{IsAsmPlan, IsListPlan, IsFlipPlan}
-use Rattle.trace_commands.specs.image_commands.ImagePlans.{IsRunPlan}
-use Rattle.trace_commands.specs.image_commands.DebugPlans.{IsDebugPlan}
+use Rattle.image_commands.specs.ImagePlans.{IsAsmPlan, IsListPlan, IsFlipPlan}
+use Rattle.image_commands.specs.ImagePlans.{IsRunPlan}
+use Rattle.image_commands.specs.DebugPlans.{IsDebugPlan}
 use Rattle.wrap_commands.specs.program_commands.ProgramPlans.{IsCheckPlan, IsCompilePlan}
 use Rattle.wrap_commands.specs.program_commands.RunPlans.{IsGoPlan, IsTurnPlan, IsProfilePlan}
 use Rattle.wrap_commands.specs.program_commands.ToldShort.{IsTurnShort, IsProfileShort}

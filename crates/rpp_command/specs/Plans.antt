@@ -4,8 +4,8 @@ use Rattle.std.specs.declared.option.Option.{Option}
 use Rattle.command_line.specs.rpp_ports.Ports.{Texts}
 use Rattle.command_line.specs.rpp_probes.Tally.{Watch}
 use Rattle.command_line.specs.command_plan.Plans.{Planned}
-use Rattle.trace_commands.specs.image_commands.ImagePlans.{AssemblesFile, ListsFile, FlipsFile, RunsFile}
-use Rattle.trace_commands.specs.image_commands.DebugPlans.{DebugsFile}
+use Rattle.image_commands.specs.ImagePlans.{AssemblesFile, ListsFile, FlipsFile, RunsFile}
+use Rattle.image_commands.specs.DebugPlans.{DebugsFile}
 use Rattle.wrap_commands.specs.program_commands.ProgramPlans.{ChecksFile, CompilesFile}
 use Rattle.wrap_commands.specs.program_commands.RunPlans.{GoesOn, TurnsFile, ProfilesFile}
 use Rattle.wrap_commands.specs.program_commands.ToldShort.{TurnsFileShort, ProfilesFileShort}

@@ -11,7 +11,6 @@ mod copy_program;
 mod count;
 pub mod limits;
 mod places;
-pub mod text;
 pub mod tree;
 
 pub use alike_code::alike;
@@ -23,7 +22,7 @@ pub use limits::{
     MOST_NESTING, MOST_NODES, MOST_NUMBER, MOST_PARAMETERS, MOST_PARENS, MOST_TOKENS,
 };
 pub use places::place_of;
-pub use text::Text;
+pub use rpp_words::Text;
 pub use tree::{
     BinOp, Block, Class, Expr, Ident, Made, Method, Place, Program, Stmt, UpdateOp, Var, VarType,
 };

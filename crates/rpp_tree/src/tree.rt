@@ -1,5 +1,5 @@
 // Programs, classes, methods, statements and expressions.
-use crate::text::Text;
+use rpp_words::Text;
 
 /// A name with its place in the source.
 #[derive(Drop)]

@@ -1,3 +1,3 @@
-pub use Rattle.roopl_judge.proofs.command_plan_laws
+pub use Rattle.command_plan.proofs as command_plan_laws
 pub mod ValidInput
 pub mod RefusedRuns

@@ -5,9 +5,9 @@ use Rattle.std.specs.Prelude.{Result}
 use Rattle.roopl_judge.specs.rpp_words.declared.input.FieldWord.{FieldWord}
 use Rattle.roopl_judge.specs.rpp_tree.Tree.{Source}
 use Rattle.roopl_judge.specs.class_table.Refusal.{Refusal}
-use Rattle.roopl_judge.specs.pisa_loader.declared.error.LoadError.{LoadError}
-use Rattle.roopl_judge.specs.command_plan.Plans.{Planned, WritesOnly}
-use Rattle.roopl_judge.proofs.command_plan_laws.Writes.{along}
+use Rattle.command_plan.specs.pisa_loader.declared.error.LoadError.{LoadError}
+use Rattle.command_plan.specs.Plans.{Planned, WritesOnly}
+use Rattle.command_plan.proofs.Writes.{along}
 use Rattle.run_settings.specs.Inputs.{given_input}
 use Rattle.run_settings.specs.Runnable.{OfProgram, RefusesInput, RefusesSizes, RefusesRun}
 

@@ -11,7 +11,7 @@ use Rattle.roopl_judge.specs.rpp_words.declared.input.TheConstants.{HEADER_WORDS
 use Rattle.roopl_judge.specs.rpp_tree.declared.tree.Var.{Var}
 use Rattle.roopl_judge.specs.rpp_tree.Tree.{Source}
 use Rattle.roopl_semantics.specs.pisa_isa.Image.{Segments}
-use Rattle.roopl_judge.specs.pisa_loader.InputLines.{is_field, AreInput}
+use Rattle.command_plan.specs.pisa_loader.InputLines.{is_field, AreInput}
 use Rattle.roopl_semantics.specs.Layout.{HasStatics, main_statics, tables}
 use Rattle.roopl_semantics.specs.Source.{main_fields, is_int_type, is_int_field, IsValid}
 use Rattle.run_settings.specs.Inputs.{fields_from, input_fields}

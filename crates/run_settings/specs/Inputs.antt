@@ -3,9 +3,9 @@ use Rattle.std.specs.Prelude.{ℕ, ◌+◌, List, [], ◌∷◌, Result, if◌th
 use Rattle.roopl_judge.specs.rpp_words.declared.input.FieldWord.{FieldWord}
 use Rattle.roopl_judge.specs.rpp_tree.declared.tree.Var.{Var}
 use Rattle.roopl_judge.specs.rpp_tree.Tree.{Source}
-use Rattle.roopl_judge.specs.pisa_loader.declared.error.LoadError.{LoadError}
-use Rattle.roopl_judge.specs.pisa_loader.declared.input.InputField.{InputField}
-use Rattle.roopl_judge.specs.pisa_loader.InputLines.{input_of}
+use Rattle.command_plan.specs.pisa_loader.declared.error.LoadError.{LoadError}
+use Rattle.command_plan.specs.pisa_loader.declared.input.InputField.{InputField}
+use Rattle.command_plan.specs.pisa_loader.InputLines.{input_of}
 use Rattle.roopl_semantics.specs.Source.{main_fields, is_int_type}
 
 -- the int fields of these, the first of which has this number

@@ -4,7 +4,7 @@ use Rattle.roopl_judge.specs.rpp_words.declared.input.FieldWord.{FieldWord}
 use Rattle.roopl_judge.specs.rpp_words.declared.input.Limits.{Limits}
 use Rattle.roopl_judge.specs.rpp_tree.Tree.{Source}
 use Rattle.roopl_judge.specs.rpp_tree.Views.{source_of}
-use Rattle.roopl_judge.specs.command_plan.Plans.{Planned, planned}
+use Rattle.command_plan.specs.Plans.{Planned, planned}
 use Rattle.run_settings.specs.declared.setting.Ready.{Ready}
 use Rattle.run_settings.specs.declared.setting.Ready.TheVariants.{Refused, Runs}
 

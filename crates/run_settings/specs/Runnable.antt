@@ -6,13 +6,13 @@ use Rattle.roopl_judge.specs.rpp_words.declared.input.Limits.{Limits}
 use Rattle.roopl_judge.specs.rpp_words.declared.input.TheConstants.{MOST_DEEP}
 use Rattle.roopl_judge.specs.rpp_tree.Tree.{Source}
 use Rattle.roopl_judge.specs.class_table.Refusal.{Refusal}
-use Rattle.roopl_judge.specs.pisa_loader.Limiting.{limits_refusal}
-use Rattle.roopl_judge.specs.pisa_loader.declared.error.LoadError.{LoadError}
+use Rattle.command_plan.specs.pisa_loader.Limiting.{limits_refusal}
+use Rattle.command_plan.specs.pisa_loader.declared.error.LoadError.{LoadError}
 use Rattle.roopl_judge.specs.Judged.{IsJudged}
-use Rattle.roopl_judge.specs.command_plan.declared.plan.Verdict.TheVariants.{SourceRefused, InputRefused}
-use Rattle.roopl_judge.specs.command_plan.Plans.{Planned, prints}
-use Rattle.roopl_judge.specs.command_plan.Refusals.{refused_line}
-use Rattle.roopl_judge.specs.command_plan.Texts.{load_line}
+use Rattle.command_plan.specs.declared.plan.Verdict.TheVariants.{SourceRefused, InputRefused}
+use Rattle.command_plan.specs.Plans.{Planned, prints}
+use Rattle.command_plan.specs.Refusals.{refused_line}
+use Rattle.command_plan.specs.Texts.{load_line}
 use Rattle.run_settings.specs.Inputs.{given_input}
 
 -- the first refusal of a text is reported, or P holds for the program that it is

@@ -4,8 +4,8 @@ ghost use Rattle.std.specs.Prelude.{◌≡◌, ◌≤◌, ◌<◌, ◌^◌, None
 ghost use Rattle.roopl_judge.specs.rpp_tree.Views.{source_of};
 ghost use Rattle.roopl_judge.specs.rpp_tree.declared.limits.TheConstants.{MOST_BYTES};
 ghost use Rattle.roopl_judge.specs.rpp_words.Limits.{IsLimits};
-ghost use Rattle.roopl_judge.specs.pisa_loader.Limiting.{limits_refusal};
-ghost use Rattle.roopl_judge.specs.pisa_loader.declared.input.TheConstants.{MOST_INPUT};
+ghost use Rattle.command_plan.specs.pisa_loader.Limiting.{limits_refusal};
+ghost use Rattle.command_plan.specs.pisa_loader.declared.input.TheConstants.{MOST_INPUT};
 ghost use Rattle.run_settings.specs.Inputs.{given_input};
 ghost use Rattle.run_settings.specs.Readied.{IsReadied};
 ghost use Rattle.run_settings.specs.Runnable.{RefusesInput, RefusesSizes, RefusesRun, CanRun};

@@ -11,7 +11,7 @@ use Rattle.rpp_tree.specs.Views.{source_of}
 use Rattle.source_meaning.specs.roopl_semantics.Store.{Store, object_named}
 use Rattle.source_meaning.specs.roopl_semantics.Report.{Text}
 use Rattle.source_meaning.specs.meaning_points.Trail.{Trail, trail}
-use Rattle.two_way_debugger.specs.declared.command.Command.{Command}
+use Rattle.pisa_scripts.specs.declared.command.Command.{Command}
 use Rattle.source_debugger.specs.declared.running.TheConstants.{MOST_COST}
 use Rattle.source_debugger.specs.Named.{object_lines, objects_from}
 use Rattle.source_debugger.specs.Shown.{Told, told_by, behind_text, and_told, told}

@@ -13,8 +13,8 @@ use Rattle.source_meaning.specs.roopl_semantics.Source.{main_body, starting}
 use Rattle.source_meaning.specs.meaning_points.Points.{Point, points}
 use Rattle.source_meaning.specs.meaning_points.Trail.{Trail, trail}
 use Rattle.source_meaning.proofs.meaning_points_laws.Growing.{points_added, points_done, points_fault}
-use Rattle.two_way_debugger.specs.declared.command.Command.{Command}
-use Rattle.two_way_debugger.specs.declared.command.Command.TheVariants.{Step, Back, To, BackTo, Regs, Cells}
+use Rattle.pisa_scripts.specs.declared.command.Command.{Command}
+use Rattle.pisa_scripts.specs.declared.command.Command.TheVariants.{Step, Back, To, BackTo, Regs, Cells}
 use Rattle.source_debugger.specs.declared.moves.TheConstants.{LAST_POSITION}
 use Rattle.source_debugger.specs.declared.moves.Walk.{Walk}
 use Rattle.source_debugger.specs.declared.moves.Ending.TheVariants.{Made}

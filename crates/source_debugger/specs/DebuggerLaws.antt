@@ -6,7 +6,7 @@ use Rattle.rpp_tree.specs.Tree.{Source}
 use Rattle.source_meaning.specs.roopl_semantics.Store.{State}
 use Rattle.source_meaning.specs.roopl_semantics.Source.{GivesDone}
 use Rattle.source_meaning.specs.meaning_points.Trail.{trail}
-use Rattle.two_way_debugger.specs.declared.command.Command.{Command}
+use Rattle.pisa_scripts.specs.declared.command.Command.{Command}
 use Rattle.source_debugger.specs.Walks.{AtEnd, stand_at}
 use Rattle.source_debugger.specs.Shown.{Told, told}
 

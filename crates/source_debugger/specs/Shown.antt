@@ -2,16 +2,16 @@
 use Rattle.std.specs.Prelude.{ℕ, List, [], ◌∷◌, ◌++◌, codes, Option, Some, None}
 use Rattle.std.specs.Fmt.{decimal}
 use Rattle.source_meaning.specs.rpp_words.Texts.{line_end}
-use Rattle.two_way_debugger.specs.pisa_scripts.Stops.{fault_line}
+use Rattle.pisa_scripts.specs.Stops.{fault_line}
 use Rattle.rpp_tree.specs.Tree.{Source}
 use Rattle.source_meaning.specs.class_table.Classes.{class_fields}
 use Rattle.source_meaning.specs.roopl_semantics.Store.{State, object_at}
 use Rattle.source_meaning.specs.roopl_semantics.Value.{own_class}
 use Rattle.source_meaning.specs.roopl_semantics.Report.{Text}
 use Rattle.source_meaning.specs.meaning_points.Trail.{Trail}
-use Rattle.two_way_debugger.specs.declared.command.Command.{Command}
-use Rattle.two_way_debugger.specs.declared.command.Command.TheVariants.{Step, Back, To, BackTo}
-use Rattle.two_way_debugger.specs.declared.command.Command.TheVariants.{Regs, Cells}
+use Rattle.pisa_scripts.specs.declared.command.Command.{Command}
+use Rattle.pisa_scripts.specs.declared.command.Command.TheVariants.{Step, Back, To, BackTo}
+use Rattle.pisa_scripts.specs.declared.command.Command.TheVariants.{Regs, Cells}
 use Rattle.source_debugger.specs.declared.moves.Walk.{Walk}
 use Rattle.source_debugger.specs.declared.moves.Ending.{Ending}
 use Rattle.source_debugger.specs.declared.moves.Ending.TheVariants.{Made, Start, Faulted}

@@ -9,7 +9,7 @@ use Rattle.source_meaning.specs.rpp_words.Limits.{IsLimits}
 use Rattle.source_meaning.specs.roopl_semantics.Source.{IsValid}
 use Rattle.source_meaning.specs.roopl_semantics.Report.{Text}
 use Rattle.source_meaning.specs.meaning_points.Trail.{Trail, trail}
-use Rattle.two_way_debugger.specs.declared.command.Command.{Command}
+use Rattle.pisa_scripts.specs.declared.command.Command.{Command}
 use Rattle.source_debugger.specs.declared.running.TheConstants.{MOST_COST}
 use Rattle.source_debugger.specs.Shown.{told}
 

@@ -12,10 +12,10 @@ use crate::moves::{Walk, backward, forward};
 use crate::running::{Course, Run, begin};
 use crate::shown::{cells_text, regs_text, walk_text};
 use class_table::Checked;
+use pisa_scripts::Command;
 use rpp_words::{Input, Limits, NoMemory};
 use std::alloc::Global;
 use std::marker::Model;
-use two_way_debugger::Command;
 
 /// A debugger of a program's run on an input. It keeps a position, and the run where the last
 /// command left it: a move forward goes on from there, and a move back steps back from there.

@@ -4,7 +4,7 @@ ghost use Rattle.source_statements.specs.source_store.ValueView.{values_of};
 ghost use Rattle.source_statements.specs.source_steps.StateView.{bindings};
 ghost use Rattle.source_execution.specs.Variables.{binding_of};
 
-use rpp_tree::text::Text;
+use rpp_tree::Text;
 use rpp_tree::tree::Var;
 use rpp_words::NoMemory;
 use source_store::Value;

@@ -19,7 +19,7 @@ ghost use Rattle.source_blocks.specs.Runs.{IsSound, config_of, state_in, here_in
 
 use crate::begins::open_local;
 use crate::methods::{begin, called, cost_of, is_deep, method_of};
-use rpp_tree::text::Text;
+use rpp_tree::Text;
 use rpp_tree::tree::{Ident, Method, Place, Var};
 use source_blocks::{
     Caller, Calls, Closing, Local, Part, Receiver, Run, Task, open_block, scope_of,

@@ -8,7 +8,7 @@ ghost use Rattle.source_blocks.specs.source_steps.Ends.{slot_or_first};
 ghost use Rattle.source_blocks.specs.source_steps.StateView.{setting_of};
 
 use class_table::{MethodId, methods_at};
-use rpp_tree::text::Text;
+use rpp_tree::Text;
 use rpp_tree::tree::{Ident, Method, Program, Var};
 use source_steps::Setting;
 use source_store::Value;

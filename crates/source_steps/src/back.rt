@@ -15,7 +15,7 @@ use crate::objects::{class_of_name, element_of, elements, fields_of, head_of_arr
 use crate::scope::Scope;
 use crate::steps::{evaluate, locate};
 use crate::stop::Stop;
-use rpp_tree::text::Text;
+use rpp_tree::Text;
 use rpp_tree::tree::{Expr, Ident, Made, Place};
 use source_store::{Head, Heap, Value};
 

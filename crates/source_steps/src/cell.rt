@@ -11,7 +11,7 @@ ghost use Rattle.source_steps.specs.StateView.{IsFramed, names_of, frame_of, sta
 
 use crate::expressions::Setting;
 use crate::scope::{Scope, slot};
-use rpp_tree::text::Text;
+use rpp_tree::Text;
 use source_store::{Heap, Value};
 
 /// What can be read and changed: a variable of the frame, or a field or element.

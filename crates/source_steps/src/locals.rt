@@ -12,7 +12,7 @@ use crate::expressions::Setting;
 use crate::scope::Scope;
 use crate::steps::{close_value, evaluate, refuse, spend};
 use crate::stop::Stop;
-use rpp_tree::text::Text;
+use rpp_tree::Text;
 use rpp_tree::tree::{Expr, Ident, Place};
 use source_store::{Heap, Value};
 use std::alloc::Global;

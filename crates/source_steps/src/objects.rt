@@ -18,7 +18,7 @@ use crate::expressions::Setting;
 use crate::scope::Scope;
 use crate::steps::{evaluate, locate, refuse, spend};
 use crate::stop::Stop;
-use rpp_tree::text::Text;
+use rpp_tree::Text;
 use rpp_tree::tree::{Expr, Ident, Made, Place, Var, VarType};
 use rpp_words::{NoMemory, less};
 use source_store::{Head, Heap, Value};

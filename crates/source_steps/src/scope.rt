@@ -4,7 +4,7 @@ ghost use Rattle.std.specs.Str.{bytes_eq};
 ghost use Rattle.source_steps.specs.StateView.{names_of};
 ghost use Rattle.source_steps.specs.Parameters.{params_of};
 
-use rpp_tree::text::Text;
+use rpp_tree::Text;
 use rpp_tree::tree::Var;
 use source_store::Value;
 

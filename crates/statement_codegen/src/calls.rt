@@ -17,7 +17,7 @@ use code_scope::{Scope, Spot, spot_of};
 use method_calls::{call_on, own_call};
 use paired_code::{Piece, plain};
 use pisa_isa::{Cell, Op};
-use rpp_tree::text::Text;
+use rpp_tree::Text;
 use rpp_tree::tree::{Ident, VarType};
 use rpp_words::NoMemory;
 use std::alloc::Global;

@@ -17,7 +17,7 @@ use crate::locals::local_code;
 use code_scope::Scope;
 use expr_uncompute::swap_code;
 use paired_code::{Piece, seq};
-use rpp_tree::text::Text;
+use rpp_tree::Text;
 use rpp_tree::tree::{Expr, Ident, Place, Var, VarType};
 use rpp_words::NoMemory;
 use std::alloc::Global;

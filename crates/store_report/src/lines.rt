@@ -5,7 +5,7 @@ ghost use Rattle.rpp_tree.specs.Views.{source_of};
 ghost use Rattle.refine_frame.specs.class_table.Members.{class_at};
 ghost use Rattle.static_layout.specs.roopl_semantics.Report.{signed_decimal, live_line};
 
-use rpp_tree::text::Text;
+use rpp_tree::Text;
 use rpp_tree::tree::Program;
 use std::alloc::AllocError;
 

@@ -25,7 +25,7 @@ use class_table::Checked;
 use code_conventions::memory::{COUNT_WORD, FIRST_FIELD, HEADER_WORDS};
 use indexmap::IndexMap;
 use pisa_machine::{Machine, word_at};
-use rpp_tree::text::Text;
+use rpp_tree::Text;
 use rpp_tree::tree::{Program, Var};
 use rpp_words::NoMemory;
 use static_layout::table_addresses;

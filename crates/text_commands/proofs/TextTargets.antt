@@ -2,12 +2,12 @@
 use Rattle.std.proofs.Common.{ℕ, List, Some, Ok, Err, inl, inr, refl}
 use Rattle.std.specs.Prelude.{Result}
 use Rattle.std.specs.declared.option.Option.{Option}
-use Rattle.roopl_judge.specs.rpp_ports.Ports.{Texts}
+use Rattle.command_plan.specs.rpp_ports.Ports.{Texts}
 use Rattle.roopl_judge.specs.rpp_tree.Tree.{Source}
 use Rattle.roopl_judge.specs.class_table.Refusal.{Refusal}
-use Rattle.roopl_judge.specs.command_plan.Plans.{Planned, WritesOnly}
+use Rattle.command_plan.specs.Plans.{Planned, WritesOnly}
 use Rattle.text_commands.specs.TextPlans.{WritesInverse, Generates, ShowsInverse}
-use Rattle.roopl_judge.proofs.command_plan_laws.Writes.{along}
+use Rattle.command_plan.proofs.Writes.{along}
 
 pub generates_writes : (seed size : ℕ) (out : List ℕ) (told : Option Texts) (p : Planned)
     → Generates seed size out told p

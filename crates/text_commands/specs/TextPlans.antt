@@ -5,15 +5,15 @@ use Rattle.std.specs.Fmt.{decimal}
 use Rattle.rpp_generator.specs.rpp_words.Texts.{line_end}
 use Rattle.roopl_judge.specs.rpp_tree.declared.limits.TheConstants.{MOST_BYTES}
 use Rattle.roopl_judge.specs.rpp_tree.Tree.{Source}
-use Rattle.roopl_judge.specs.rpp_ports.Ports.{Texts}
+use Rattle.command_plan.specs.rpp_ports.Ports.{Texts}
 use Rattle.rpp_generator.specs.Generated.{generated}
 use Rattle.roopl_judge.specs.class_table.Refusal.{Refusal}
 use Rattle.roopl_judge.specs.Judged.{IsJudged}
 use Rattle.meaning_inverse.specs.stmt_inverter.Inverse.{inverse_program}
 use Rattle.roopl_printer.specs.Spelled.{printed}
-use Rattle.roopl_judge.specs.command_plan.declared.plan.Verdict.TheVariants.{SourceRefused}
-use Rattle.roopl_judge.specs.command_plan.Plans.{Planned, prints, writes, WithText}
-use Rattle.roopl_judge.specs.command_plan.Refusals.{refused_line}
+use Rattle.command_plan.specs.declared.plan.Verdict.TheVariants.{SourceRefused}
+use Rattle.command_plan.specs.Plans.{Planned, prints, writes, WithText}
+use Rattle.command_plan.specs.Refusals.{refused_line}
 
 -- a text is written into a file, and the number of its bytes is printed
 abbrev pub writes_text : (name text : List ℕ) → Planned

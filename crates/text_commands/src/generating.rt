@@ -1,7 +1,7 @@
 // `generate SEED SIZE OUT`: writes a generated program.
 ghost use Rattle.std.specs.Prelude.{[]};
-ghost use Rattle.roopl_judge.specs.command_plan.Files.{OnlyReads};
-ghost use Rattle.roopl_judge.specs.command_plan.Plans.{GivesPlan};
+ghost use Rattle.command_plan.specs.Files.{OnlyReads};
+ghost use Rattle.command_plan.specs.Plans.{GivesPlan};
 ghost use Rattle.text_commands.specs.TextPlans.{Generates};
 
 use crate::writing::write_text;

@@ -4,8 +4,8 @@ ghost use Rattle.roopl_judge.specs.rpp_tree.Views.{source_of};
 ghost use Rattle.roopl_judge.specs.rpp_tree.declared.limits.TheConstants.{MOST_BYTES};
 ghost use Rattle.meaning_inverse.specs.stmt_inverter.Inverse.{inverse_program};
 ghost use Rattle.roopl_printer.specs.Spelled.{printed};
-ghost use Rattle.roopl_judge.specs.command_plan.Plans.{planned, GivesPlan};
-ghost use Rattle.roopl_judge.specs.command_plan.Files.{OnlyReads, source};
+ghost use Rattle.command_plan.specs.Plans.{planned, GivesPlan};
+ghost use Rattle.command_plan.specs.Files.{OnlyReads, source};
 ghost use Rattle.text_commands.specs.TextPlans.{writes_text, IsInversePlan, ShowsInverse};
 
 use crate::writing::write_text;

@@ -1,6 +1,6 @@
 // Plans that write a text.
 ghost use Rattle.std.specs.Prelude.{◌≡◌, IfOk, string_bytes};
-ghost use Rattle.roopl_judge.specs.command_plan.Plans.{planned};
+ghost use Rattle.command_plan.specs.Plans.{planned};
 ghost use Rattle.text_commands.specs.TextPlans.{writes_text};
 
 use command_plan::Plan;

@@ -6,10 +6,10 @@ use Rattle.run_settings.specs.rpp_words.declared.input.FieldWord.{FieldWord}
 use Rattle.run_settings.specs.rpp_words.declared.input.Limits.{Limits}
 use Rattle.run_settings.specs.rpp_tree.Tree.{Source}
 use Rattle.run_settings.specs.rpp_ports.Ports.{Texts}
-use Rattle.image_commands.specs.two_way_debugger.declared.command.Command.{Command}
-use Rattle.image_commands.specs.two_way_debugger.declared.error.ScriptError.{ScriptError}
-use Rattle.image_commands.specs.two_way_debugger.declared.error.ScriptError.TheVariants.{BadCommand, NoMemory}
-use Rattle.image_commands.specs.two_way_debugger.Scripts.{script_of}
+use Rattle.pisa_scripts.specs.declared.command.Command.{Command}
+use Rattle.two_way_debugger.specs.declared.error.ScriptError.{ScriptError}
+use Rattle.two_way_debugger.specs.declared.error.ScriptError.TheVariants.{BadCommand, NoMemory}
+use Rattle.two_way_debugger.specs.Scripts.{script_of}
 use Rattle.run_settings.specs.command_plan.Plans.{Planned, WritesOnly}
 use Rattle.run_settings.proofs.command_plan_laws.Writes.{along}
 use Rattle.run_settings.proofs.RefusedRuns.{refused_writes}

@@ -7,12 +7,12 @@ use Rattle.run_settings.specs.rpp_tree.declared.limits.TheConstants.{MOST_BYTES}
 use Rattle.run_settings.specs.rpp_tree.Tree.{Source}
 use Rattle.run_settings.specs.rpp_ports.Ports.{Texts}
 use Rattle.source_debugger.specs.meaning_points.Trail.{trail}
-use Rattle.image_commands.specs.two_way_debugger.declared.command.Command.{Command}
+use Rattle.pisa_scripts.specs.declared.command.Command.{Command}
 use Rattle.run_settings.specs.pisa_scripts.declared.lines.TheConstants.{MOST_SCRIPT}
-use Rattle.image_commands.specs.two_way_debugger.declared.error.ScriptError.{ScriptError}
-use Rattle.image_commands.specs.two_way_debugger.declared.error.ScriptError.TheVariants.{BadCommand}
-use Rattle.image_commands.specs.two_way_debugger.declared.error.ScriptError.TheVariants as script
-use Rattle.image_commands.specs.two_way_debugger.Scripts.{script_of}
+use Rattle.two_way_debugger.specs.declared.error.ScriptError.{ScriptError}
+use Rattle.two_way_debugger.specs.declared.error.ScriptError.TheVariants.{BadCommand}
+use Rattle.two_way_debugger.specs.declared.error.ScriptError.TheVariants as script
+use Rattle.two_way_debugger.specs.Scripts.{script_of}
 use Rattle.source_debugger.specs.Shown.{told}
 use Rattle.run_settings.specs.command_plan.declared.plan.Verdict.TheVariants.{Done, InputRefused}
 use Rattle.run_settings.specs.command_plan.Plans.{Planned, prints, WithText, WithInput}

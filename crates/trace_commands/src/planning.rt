@@ -3,27 +3,26 @@ ghost use Rattle.std.specs.Prelude.{◌≡◌, ◌≤◌, ◌∷◌, length, opt
 ghost use Rattle.run_settings.specs.rpp_tree.Views.{source_of};
 ghost use Rattle.run_settings.specs.rpp_tree.declared.limits.TheConstants.{MOST_BYTES};
 ghost use Rattle.run_settings.specs.pisa_scripts.declared.lines.TheConstants.{MOST_SCRIPT};
-ghost use Rattle.image_commands.specs.two_way_debugger.Scripts.{script_of};
+ghost use Rattle.two_way_debugger.specs.Scripts.{script_of};
 ghost use Rattle.source_debugger.specs.Standing.{IsValidRun};
 ghost use Rattle.run_settings.specs.pisa_loader.declared.input.TheConstants.{MOST_INPUT};
 ghost use Rattle.run_settings.specs.command_plan.Plans.{planned, prints, GivesPlan, IsInputText};
 ghost use Rattle.run_settings.specs.rpp_ports.Ports.{IsTextOf};
-ghost use Rattle.run_settings.specs.command_plan.Files.{OnlyReads, source, input_files};
-ghost use Rattle.image_commands.specs.DebugPlans.{script_file};
+ghost use Rattle.run_settings.specs.command_plan.Files.{OnlyReads, source, input_files, script_file};
 ghost use Rattle.trace_commands.specs.TracePlans.{Follows, IsScriptPlan, IsTracePlan, Traces};
 
 use class_table::Checked;
 use command_plan::{
     NoPlan, Plan, Room, Sizes, Verdict, bad_command_line, read_file, read_input_file,
 };
-use pisa_scripts::MOST_SCRIPT;
+use pisa_scripts::{Command, MOST_SCRIPT};
 use rpp_ports::Shelf;
 use rpp_tree::MOST_BYTES;
 use rpp_words::{Input, Limits, NoMemory};
 use run_settings::{Ready, ready};
 use source_debugger::SourceDebugger;
 use std::alloc::Global;
-use two_way_debugger::{Command, ScriptError, read_script};
+use two_way_debugger::{ScriptError, read_script};
 
 // The texts that a command reads.
 #[derive(Drop)]

@@ -1,10 +1,9 @@
 -- Where the first commands of a script lead, and what they cost.
 use Rattle.std.proofs.Common.{◌≡◌, ◌∙◌, sym, ap, refl, ℕ, ◌+◌, ◌<◌, List, [], ◌∷◌, ◌++◌, length, get_or, take}
 use Rattle.std.proofs.Common.{add_assoc, arith}
-use Rattle.std.specs.Prelude.{Result, Ok, Err, OnErr}
 use Rattle.std.proofs.lemmas.List.{take_more}
 use Rattle.pisa_machine.specs.Position.{Position}
-use Rattle.two_way_debugger.specs.declared.command.Command.{Command}
+use Rattle.pisa_scripts.specs.declared.command.Command.{Command}
 use Rattle.two_way_debugger.specs.Shown.{walk_of, position_after, spent_in}
 
 position-snoc : (xs : List Command) (x : Command) (p : Position)
@@ -39,8 +38,3 @@ one_more_spent xs i d first at before now after h stands so_far costs =
     ∙ add_assoc before (spent_in (take i xs) first) (walk_of x (position_after (take i xs) first)).spent
     ∙ ap (λ n. before + n) (sym (spent-snoc (take i xs) x first)
     ∙ ap (λ ys. spent_in ys first) (sym (take_more xs i d h)))
-
--- what holds whatever the result
-pub on_err_always : {A E : Type 0} (r : Result A E) (P : Type 0) → P → OnErr r P
-on_err_always (Ok x) P h = tt
-on_err_always (Err e) P h = h

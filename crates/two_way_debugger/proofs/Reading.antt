@@ -5,7 +5,7 @@ use Rattle.std.proofs.lemmas.List.{nil_from_length, length-map}
 use Rattle.std.proofs.lemmas.List.Splits.{length-slice_split}
 use Rattle.std.proofs.lemmas.List.Sums.{count_by-le-length}
 use Rattle.std.specs.Prelude.{nat_eq}
-use Rattle.two_way_debugger.specs.declared.command.Command.{Command}
+use Rattle.pisa_scripts.specs.declared.command.Command.{Command}
 use Rattle.two_way_debugger.specs.declared.error.ScriptError.{ScriptError}
 use Rattle.two_way_debugger.specs.declared.error.ScriptError.TheVariants.{BadCommand, NoMemory}
 use Rattle.two_way_debugger.specs.Scripts.{with_line, commands_from, Fails}

@@ -6,9 +6,9 @@ use Rattle.std.specs.Fmt.{decimal, signed_decimal}
 use Rattle.pisa_machine.specs.Position.{Position}
 use Rattle.two_way_debugger.specs.declared.moves.Ending.{Ending}
 use Rattle.two_way_debugger.specs.declared.moves.Ending.TheVariants.{Made, Last, Start, Stopped}
-use Rattle.two_way_debugger.specs.declared.command.Command.{Command}
-use Rattle.two_way_debugger.specs.declared.command.Command.TheVariants.{Step, Back, To, BackTo}
-use Rattle.two_way_debugger.specs.declared.command.Command.TheVariants.{Regs, Cells}
+use Rattle.pisa_scripts.specs.declared.command.Command.{Command}
+use Rattle.pisa_scripts.specs.declared.command.Command.TheVariants.{Step, Back, To, BackTo}
+use Rattle.pisa_scripts.specs.declared.command.Command.TheVariants.{Regs, Cells}
 use Rattle.two_way_debugger.specs.Moves.{Walk, ends, walk}
 use Rattle.pisa_scripts.specs.rpp_words.Texts.{line_end}
 use Rattle.pisa_scripts.specs.Words.{word_shown, direction, register_lines, cell_line}

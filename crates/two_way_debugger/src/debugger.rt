@@ -4,10 +4,10 @@ ghost use Rattle.two_way_debugger.specs.Along.{IsAlong};
 ghost use Rattle.two_way_debugger.specs.Moves.{walk};
 ghost use Rattle.two_way_debugger.specs.Shown.{walk_of, walk_shown, text_of, most_moves, position_after, shown, spent_in};
 
-use crate::command::Command;
 use crate::moves::make_moves;
 use crate::shown::{cell_text, register_text, walk_line};
 use pisa_machine::{Machine, Steps};
+use pisa_scripts::Command;
 use rpp_words::NoMemory;
 use std::alloc::{AllocError, Global};
 use std::marker::Model;

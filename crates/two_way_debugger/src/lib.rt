@@ -4,14 +4,12 @@
 //! of the definitions. A script is refused exactly at its first line that is no command.
 #![tactic(auto)]
 
-mod command;
 mod debugger;
 mod error;
 mod moves;
 mod script;
 mod shown;
 
-pub use command::Command;
 pub use debugger::Debugger;
 pub use error::ScriptError;
 pub use moves::LAST_POSITION;

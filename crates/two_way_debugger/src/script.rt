@@ -3,9 +3,10 @@ ghost use Rattle.std.specs.Prelude.{◌≡◌, ◌≤◌, pos, [], map, length, 
 ghost use Rattle.two_way_debugger.specs.Scripts.{command_of as command_of_words, counted_command, placed_command, regs_command, cells_command, with_line, commands_from, script_of, Gives};
 ghost use Rattle.pisa_scripts.specs.Lines.{pieces as pieces_of};
 
-use crate::command::Command;
 use crate::error::ScriptError;
-use pisa_scripts::{MOST_SCRIPT, is_blank, number_up_to, pieces, short_number, without_returns};
+use pisa_scripts::{
+    Command, MOST_SCRIPT, is_blank, number_up_to, pieces, short_number, without_returns,
+};
 use std::alloc::Global;
 
 /// The most cells that one command prints.

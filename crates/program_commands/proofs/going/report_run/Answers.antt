@@ -3,7 +3,7 @@ use Rattle.roopl_judge.specs.rpp_tree.Views.{source_of}
 use Rattle.image_inverter.specs.pisa_isa.declared.machine.Stop.{Stop}
 use Rattle.image_inverter.specs.pisa_isa.Loaded.{loaded}
 use Rattle.program_commands.specs.GoRun.{HasRun}
-use Rattle.roopl_judge.specs.command_plan.Plans.{planned}
+use Rattle.command_plan.specs.Plans.{planned}
 use Rattle.program_commands.specs.ProgramPlans.{ReportsStop}
 use Rattle.program_commands.proofs.Reported.{no_return, no_bad_address, no_off_code, gives_fault, too_early}
 use Rattle.program_commands.proofs.going.report_run.Goals as goal

@@ -1,6 +1,6 @@
 use Rattle.std.proofs.Common.{false}
 use Rattle.roopl_judge.specs.rpp_tree.Views.{source_of}
-use Rattle.roopl_judge.specs.command_plan.Plans.{planned}
+use Rattle.command_plan.specs.Plans.{planned}
 use Rattle.program_commands.proofs.Turned.{has_run, runs_image, run_once, weaken}
 use Rattle.program_commands.proofs.going.run_program.Goals as goal
 

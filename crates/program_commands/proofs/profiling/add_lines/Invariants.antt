@@ -1,5 +1,5 @@
 use Rattle.std.proofs.Common.{◌≡◌, ◌++◌, map, take, string_bytes}
-use Rattle.roopl_judge.specs.rpp_probes.Tally.{lines_shown}
+use Rattle.command_plan.specs.rpp_probes.Tally.{lines_shown}
 use Rattle.program_commands.proofs.profiling.add_lines.Given as goal
 
 -- the lines so far

@@ -1,6 +1,6 @@
-use Rattle.roopl_judge.specs.command_plan.Plans.{planned}
+use Rattle.command_plan.specs.Plans.{planned}
 use Rattle.roopl_judge.specs.rpp_tree.declared.limits.TheConstants.{MOST_BYTES}
-use Rattle.roopl_judge.proofs.command_plan_laws.GivenTexts.{with_text}
+use Rattle.command_plan.proofs.GivenTexts.{with_text}
 use Rattle.program_commands.specs.RunPlans.{IsProfilePlan}
 use Rattle.std.proofs.Common.{[], inr}
 use Rattle.program_commands.specs.ToldShort.{IsProfileShort, ProfilesFileShort}

@@ -2,9 +2,9 @@ use Rattle.std.proofs.Common.{◌≡◌, ◌∙◌, ◌++◌, ap, map, string_by
 use Rattle.std.specs.Prelude.{◌⊎◌}
 use Rattle.program_commands.specs.ToldShort.{ProfilesShort}
 use Rattle.roopl_judge.specs.rpp_tree.Views.{source_of}
-use Rattle.roopl_judge.specs.rpp_probes.Tally.{lines_after}
+use Rattle.command_plan.specs.rpp_probes.Tally.{lines_after}
 use Rattle.store_report.specs.pisa_machine.Told.{counted_steps}
-use Rattle.roopl_judge.specs.command_plan.Plans.{planned}
+use Rattle.command_plan.specs.Plans.{planned}
 use Rattle.program_commands.proofs.Turned.{has_run, run_once, broken_within, weaken}
 use Rattle.program_commands.proofs.Watched.{profiles_image, err_always, told_short, loaded_short}
 use Rattle.program_commands.proofs.profiling.profile_program.Goals as goal

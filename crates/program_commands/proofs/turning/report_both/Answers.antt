@@ -1,9 +1,9 @@
 use Rattle.std.proofs.Common.{◌∙◌, ◌++◌, ℕ, List, ap}
 use Rattle.std.specs.Prelude.{string_bytes}
 use Rattle.roopl_judge.specs.rpp_tree.Views.{source_of}
-use Rattle.roopl_judge.specs.command_plan.declared.plan.Verdict.TheVariants.{Done}
-use Rattle.roopl_judge.specs.command_plan.Plans.{planned, prints}
-use Rattle.roopl_judge.specs.command_plan.Texts.{steps_line}
+use Rattle.command_plan.specs.declared.plan.Verdict.TheVariants.{Done}
+use Rattle.command_plan.specs.Plans.{planned, prints}
+use Rattle.command_plan.specs.Texts.{steps_line}
 use Rattle.program_commands.specs.ProgramPlans.{back_lines}
 use Rattle.program_commands.proofs.Turned.{reports_turn}
 use Rattle.program_commands.proofs.turning.report_both.Goals as goal

@@ -1,7 +1,7 @@
 use Rattle.std.proofs.Common.{option_map, string_bytes, List, ℕ, inr}
 use Rattle.roopl_judge.specs.rpp_tree.declared.limits.TheConstants.{MOST_BYTES}
-use Rattle.roopl_judge.specs.command_plan.Plans.{planned, WithInput}
-use Rattle.roopl_judge.proofs.command_plan_laws.GivenTexts.{with_text, with_input}
+use Rattle.command_plan.specs.Plans.{planned, WithInput}
+use Rattle.command_plan.proofs.GivenTexts.{with_text, with_input}
 use Rattle.program_commands.specs.RunPlans.{IsTurnPlan}
 use Rattle.program_commands.specs.ToldShort.{IsTurnShort, TurnsFileShort}
 use Rattle.program_commands.proofs.Watched.{err_always}

@@ -1,5 +1,5 @@
 use Rattle.roopl_judge.specs.rpp_tree.Views.{source_of}
-use Rattle.roopl_judge.specs.command_plan.Plans.{planned}
+use Rattle.command_plan.specs.Plans.{planned}
 use Rattle.program_commands.proofs.Turned.{has_run, weaken_with, both, turned_once}
 use Rattle.std.proofs.Common.{◌≡◌, true, inl, inr, ⊎_elim}
 use Rattle.program_commands.specs.ProgramPlans.{steps_back}

@@ -2,7 +2,7 @@ use Rattle.std.proofs.Common.{◌≡◌, ◌∙◌, sym, ap, subst, rules, Optio
 use Rattle.std.specs.Prelude.{IfOk, string_bytes}
 use Rattle.rpp_tree.specs.Views.{source_of}
 use Rattle.source_meaning.specs.meaning_points.Trail.{trail}
-use Rattle.two_way_debugger.specs.declared.command.Command.{Command}
+use Rattle.pisa_scripts.specs.declared.command.Command.{Command}
 use Rattle.source_debugger.specs.declared.running.TheConstants.{MOST_COST}
 use Rattle.source_debugger.specs.declared.moves.Walk.{Walk}
 use Rattle.source_debugger.specs.declared.debugger.Answer.{Answer}

@@ -1,6 +1,6 @@
-use Rattle.roopl_judge.specs.command_plan.Plans.{planned}
+use Rattle.command_plan.specs.Plans.{planned}
 use Rattle.roopl_judge.specs.rpp_tree.declared.limits.TheConstants.{MOST_BYTES}
-use Rattle.roopl_judge.proofs.command_plan_laws.GivenTexts.{with_text}
+use Rattle.command_plan.proofs.GivenTexts.{with_text}
 use Rattle.text_commands.specs.TextPlans.{IsInversePlan}
 use Rattle.text_commands.proofs.inverting.show_inverse.Goals as goal
 

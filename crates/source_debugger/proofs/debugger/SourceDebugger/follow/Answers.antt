@@ -1,9 +1,9 @@
-use Rattle.two_way_debugger.specs.declared.command.Command.TheVariants.{Step}
+use Rattle.pisa_scripts.specs.declared.command.Command.TheVariants.{Step}
 use Rattle.std.proofs.Common.{arith, ap, ◌∙◌, ◌++◌, subst, sym}
 use Rattle.std.specs.Prelude.{string_bytes}
 use Rattle.source_debugger.specs.Standing.{IsAlong}
 use Rattle.source_debugger.proofs.Following.{followed_more, followed_over, followed_along}
-use Rattle.two_way_debugger.proofs.Fronts.{on_err_always}
+use Rattle.pisa_scripts.proofs.Errors.{on_err_always}
 use Rattle.source_debugger.proofs.debugger.SourceDebugger.follow.Goals as goal
 
 pub loop-command-preserved : goal.loop-command-preserved

@@ -1,7 +1,8 @@
 use Rattle.std.proofs.Common.{◌+◌, arith, rules}
 use Rattle.std.proofs.lemmas.Grind.{common_steps}
 use Rattle.two_way_debugger.specs.Along.{IsAlong}
-use Rattle.two_way_debugger.proofs.Fronts.{one_more, one_more_spent, on_err_always}
+use Rattle.pisa_scripts.proofs.Errors.{on_err_always}
+use Rattle.two_way_debugger.proofs.Fronts.{one_more, one_more_spent}
 use Rattle.two_way_debugger.proofs.debugger.Debugger.follow.Goals as goal
 
 pub returns-in_err-command-clause-along : goal.returns-in_err-command-clause-along

@@ -1,0 +1,6 @@
+-- What holds of an error whatever the result is.
+use Rattle.std.specs.Prelude.{Result, Ok, Err, OnErr}
+
+pub on_err_always : {A E : Type 0} (r : Result A E) (P : Type 0) → P → OnErr r P
+on_err_always (Ok x) P h = tt
+on_err_always (Err e) P h = h
