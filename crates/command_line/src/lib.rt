@@ -5,4 +5,4 @@
 mod line;
 
 pub use command_plan::StateNames;
-pub use line::{Line, read_words};
+pub use line::{Line, MOST_COMMON, MOST_ITEMS, MOST_PROCESSORS, read_words};

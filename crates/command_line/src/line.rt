@@ -526,13 +526,14 @@ fn trace_with(
     }))
 }
 
-// The most items of a generated source.
-const MOST_ITEMS: u32 = 800;
+/// The most items of a generated source.
+pub const MOST_ITEMS: u32 = 800;
 
-// The most processors of a cluster, and the most cells that they have in common.
-const MOST_PROCESSORS: usize = 8;
+/// The most processors of a cluster.
+pub const MOST_PROCESSORS: usize = 8;
 
-const MOST_COMMON: u32 = 65_536;
+/// The most cells that the processors of a cluster have in common.
+pub const MOST_COMMON: u32 = 65_536;
 
 // The number from 1 to `most` that a word is.
 fn read_up_to(word: &str, most: u32) -> Option<u32>

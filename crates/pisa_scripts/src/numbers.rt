@@ -3,7 +3,7 @@ ghost use Rattle.std.specs.Prelude.{◌≡◌, ◌<◌, ◌≤◌, ◌^◌, IfSo
 ghost use Rattle.pisa_scripts.specs.Lines.{number_up_to as number_of, short_number as short_number_of};
 
 /// The most digits of a number.
-const MOST_DIGITS: usize = 18;
+pub const MOST_DIGITS: usize = 18;
 
 /// The number that one digit or more write, if it is at most so much.
 pub fn number_up_to(most: u64, word: &[u8]) -> Option<u64>

@@ -2,17 +2,22 @@
 ghost use Rattle.std.specs.Prelude.{◌≡◌};
 ghost use Rattle.command_plan.specs.rpp_probes.declared.coverage.TheConstants.{MOST_PLACES};
 
+use command_line::{MOST_COMMON, MOST_ITEMS, MOST_PROCESSORS};
 use command_plan::{MOST_IMAGE, MOST_STATE};
 use pisa_asm::MOST_TEXT;
 use pisa_loader::MOST_INPUT;
-use pisa_scripts::MOST_SCRIPT;
-use two_way_debugger::LAST_POSITION;
+use pisa_scripts::{MOST_DIGITS, MOST_SCRIPT};
+use two_way_debugger::{LAST_POSITION, MOST_SHOWN};
 
 /// The most bytes of files, and the numbers of runs and probes.
 pub fn file_numbers()
     ensures files { (MOST_TEXT ≡ 268_435_456) × (MOST_IMAGE ≡ 67_108_864)
         × (MOST_STATE ≡ 33_554_432) }
     ensures given { (MOST_INPUT ≡ 65_536) × (MOST_SCRIPT ≡ 65_536) }
+    // The digits of a number in a script, and the cells that a command of it prints.
+    ensures scripts { (MOST_DIGITS ≡ 18) × (MOST_SHOWN ≡ 1_000) }
+    // What a line of arguments may ask of the generator and of a cluster.
+    ensures asked { (MOST_ITEMS ≡ 800) × (MOST_PROCESSORS ≡ 8) × (MOST_COMMON ≡ 65_536) }
     // The last position in a run: 2 ^ 63 - 1.
     ensures runs { LAST_POSITION ≡ 0x7fff_ffff_ffff_ffff }
     ensures probes { MOST_PLACES ≡ 4_194_304 }

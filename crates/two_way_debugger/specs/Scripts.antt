@@ -6,6 +6,7 @@ use Rattle.pisa_scripts.specs.Lines.{number_up_to, short_number, is_blank, piece
 use Rattle.pisa_scripts.specs.declared.command.Command.{Command}
 use Rattle.pisa_scripts.specs.declared.command.Command.TheVariants.{Step, Back, To, BackTo}
 use Rattle.pisa_scripts.specs.declared.command.Command.TheVariants.{Regs, Cells}
+use Rattle.two_way_debugger.specs.declared.script.TheConstants.{MOST_SHOWN}
 use Rattle.two_way_debugger.specs.declared.error.ScriptError.{ScriptError}
 use Rattle.two_way_debugger.specs.declared.error.ScriptError.TheVariants.{BadCommand, NoMemory}
 
@@ -24,10 +25,10 @@ placed_command make _ = None
 abbrev pub one_cell_or_more : ℕ → ℕ → Option Command
 one_cell_or_more from count = if nat_eq count 0 then None else Some (Cells from count)
 
--- a cell below 2 ^ 32, and 1 to 1000
+-- a cell below 2 ^ 32, and from 1 on the most that are shown
 abbrev pub cells_command : List (List ℕ) → Option Command
 cells_command (from ∷ count ∷ []) =
-    both one_cell_or_more (number_up_to (2 ^ 32 - 1) from) (number_up_to 1000 count)
+    both one_cell_or_more (number_up_to (2 ^ 32 - 1) from) (number_up_to MOST_SHOWN count)
 cells_command _ = None
 
 abbrev pub regs_command : List (List ℕ) → Option Command

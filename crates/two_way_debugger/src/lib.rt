@@ -13,4 +13,4 @@ mod shown;
 pub use debugger::Debugger;
 pub use error::ScriptError;
 pub use moves::LAST_POSITION;
-pub use script::read_script;
+pub use script::{MOST_SHOWN, read_script};

@@ -10,7 +10,7 @@ use pisa_scripts::{
 use std::alloc::Global;
 
 /// The most cells that one command prints.
-const MOST_CELLS: u64 = 1000;
+pub const MOST_SHOWN: u64 = 1000;
 
 /// The commands of a script. A line of it is blank, or `step N`, `back N`, `to P N`, `backto P N`,
 /// `regs` or `cells A N`, with one space between words; a carriage return before a line feed is
@@ -132,7 +132,7 @@ fn cells_of(args: &[&[u8]]) -> Option<Command>
     match args {
         [from, count] => {
             let from = number_up_to(u64::from(u32::MAX), from)?;
-            let count = number_up_to(MOST_CELLS, count)?;
+            let count = number_up_to(MOST_SHOWN, count)?;
             if count == 0 {
                 return None;
             }
