@@ -25,9 +25,9 @@ use Rattle.refine_program.specs.meaning_sound.Plain.{IsPlain, BlockHasWords}
 use Rattle.refine_program.proofs.meaning_sound_laws.Invocations.{params_mean}
 use Rattle.refine_program.proofs.meaning_sound_laws.Numbered.{program_words}
 use Rattle.refine_program.proofs.meaning_sound_laws.Plainness.{program_plain}
-use Rattle.block_codegen.specs.code_scope.Visible.{Visible}
-use Rattle.block_codegen.specs.Pieces.{StandsIn}
-use Rattle.block_codegen.proofs.Standing.{left, right}
+use Rattle.statement_codegen.specs.code_scope.Visible.{Visible}
+use Rattle.statement_codegen.specs.Pieces.{StandsIn}
+use Rattle.statement_codegen.proofs.Standing.{left, right}
 use Rattle.program_codegen.proofs.SameRules.{block_same}
 
 -- ---- parts of what holds for all

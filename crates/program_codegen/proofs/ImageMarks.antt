@@ -17,11 +17,11 @@ use Rattle.refine_program.specs.paired_code.Machine.{Image}
 use Rattle.refine_program.specs.paired_code.Layout.{code_line, Stands}
 use Rattle.refine_program.specs.paired_code.Link.{AllPlaced}
 use Rattle.refine_program.proofs.paired_code_laws.Ways.{front, rest}
-use Rattle.block_codegen.specs.Rows.{Row}
-use Rattle.block_codegen.specs.Ranges.{IsRange, AreNested}
-use Rattle.block_codegen.specs.Pieces.{IsRowCode}
-use Rattle.block_codegen.proofs.Nesting.{each_append, each_moved, each_all, shift_same, all_moved, nested_moved}
-use Rattle.block_codegen.proofs.Nesting.{nested_append, IsBetween, apart_by}
+use Rattle.statement_codegen.specs.Rows.{Row}
+use Rattle.statement_codegen.specs.Ranges.{IsRange, AreNested}
+use Rattle.statement_codegen.specs.Pieces.{IsRowCode}
+use Rattle.statement_codegen.proofs.Nesting.{each_append, each_moved, each_all, shift_same, all_moved, nested_moved}
+use Rattle.statement_codegen.proofs.Nesting.{nested_append, IsBetween, apart_by}
 use Rattle.refine_program.specs.refine_form.Form.{Open, told, one, turned}
 use Rattle.refine_program.specs.refine_form.Worlds.{Place, world_of, rates_of}
 use Rattle.refine_program.specs.paired_code.Does.{Meets}

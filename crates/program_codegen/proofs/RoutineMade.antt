@@ -13,12 +13,12 @@ use Rattle.refine_program.specs.class_table.Program.{IsAccepted}
 use Rattle.refine_program.specs.pisa_isa.declared.notes.Mark.{Mark}
 use Rattle.refine_program.specs.paired_code.Code.{Code, shift}
 use Rattle.refine_program.specs.refine_form.Held.{Holds}
-use Rattle.block_codegen.specs.code_scope.Visible.{Visible}
-use Rattle.block_codegen.specs.statement_codegen.Codes.{IsBlockCode, IsMethodCode}
-use Rattle.block_codegen.specs.statement_codegen.Laws.{RoutineLaw}
-use Rattle.block_codegen.specs.Ranges.{IsCovered}
-use Rattle.block_codegen.specs.Pieces.{HaveMarks, IsRowCode}
-use Rattle.block_codegen.proofs.Marks.{marks_in}
+use Rattle.statement_codegen.specs.code_scope.Visible.{Visible}
+use Rattle.statement_codegen.specs.Codes.{IsBlockCode, IsMethodCode}
+use Rattle.statement_codegen.specs.Laws.{RoutineLaw}
+use Rattle.statement_codegen.specs.Ranges.{IsCovered}
+use Rattle.statement_codegen.specs.Pieces.{HaveMarks, IsRowCode}
+use Rattle.statement_codegen.proofs.Marks.{marks_in}
 use Rattle.program_codegen.specs.Notes.{method_rows}
 use Rattle.program_codegen.specs.Routines.{IsRoutine}
 use Rattle.program_codegen.proofs.Bodies.{begun, params_are}

@@ -8,8 +8,8 @@ use Rattle.refine_program.specs.pisa_isa.declared.notes.Mark.{Mark}
 use Rattle.refine_program.specs.paired_code.Code.{Code, bodies, shift, routine_marks, link_marks}
 use Rattle.refine_program.specs.paired_code.Link.{routines_size, link_size}
 use Rattle.refine_program.specs.refine_form.Held.{Holds}
-use Rattle.block_codegen.specs.Ranges.{is_marked, holds_cell, IsCovered}
-use Rattle.block_codegen.proofs.Marks.{marked_front, marked_behind, marked_moved}
+use Rattle.statement_codegen.specs.Ranges.{is_marked, holds_cell, IsCovered}
+use Rattle.statement_codegen.proofs.Marks.{marked_front, marked_behind, marked_moved}
 use Rattle.program_codegen.specs.Notes.{unmarked_from}
 
 -- those of a fragment

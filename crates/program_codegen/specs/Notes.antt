@@ -20,8 +20,8 @@ use Rattle.refine_program.specs.roopl_semantics.Store.{State}
 use Rattle.refine_program.specs.roopl_semantics.Source.{main_fields, is_int_type}
 use Rattle.refine_program.specs.code_conventions.declared.memory.TheConstants.{FIRST_FIELD}
 use Rattle.rpp_tree.specs.Places.{statement_place}
-use Rattle.block_codegen.specs.Rows.{Row, block_rows}
-use Rattle.block_codegen.specs.Ranges.{AreNested, is_marked}
+use Rattle.statement_codegen.specs.Rows.{Row, block_rows}
+use Rattle.statement_codegen.specs.Ranges.{AreNested, is_marked}
 use Rattle.refine_program.specs.refine_form.Form.{Open, told, one, turned}
 use Rattle.refine_program.specs.refine_form.Frames.{Under}
 use Rattle.refine_program.specs.refine_form.Worlds.{Place, world_of, rates_of}

@@ -6,8 +6,8 @@ use Rattle.rpp_tree.specs.Tree.{Source}
 use Rattle.refine_program.specs.class_table.First.{each_below}
 use Rattle.refine_program.specs.paired_code.Code.{Code}
 use Rattle.refine_program.specs.buddy_pisa.Promise.{AllocatorLaw}
-use Rattle.block_codegen.specs.Ranges.{MarksOf}
-use Rattle.block_codegen.specs.Pieces.{IsRowCode, cells_a_token}
+use Rattle.statement_codegen.specs.Ranges.{MarksOf}
+use Rattle.statement_codegen.specs.Pieces.{IsRowCode, cells_a_token}
 use Rattle.refine_program.specs.Methods.{Entry, entries, methods_before}
 use Rattle.refine_program.specs.Laws.{IsRoutineCode}
 use Rattle.program_codegen.specs.Notes.{method_rows, unmarked_from}

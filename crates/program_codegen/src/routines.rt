@@ -6,13 +6,13 @@ ghost use Rattle.refine_program.specs.class_table.Members.{class_at};
 ghost use Rattle.refine_program.specs.Methods.{entries_of, entries};
 ghost use Rattle.program_codegen.specs.Routines.{IsRoutine, AreRoutines};
 
-use block_codegen::{block_code, method_code};
 use buddy_pisa::allocator;
 use class_table::{Checked, MethodId, methods_at};
 use code_scope::Scope;
 use paired_code::Piece;
 use rpp_tree::tree::Method;
 use rpp_words::NoMemory;
+use statement_codegen::{block_code, method_code};
 use std::alloc::Global;
 
 /// The bodies of all routines: the allocator, and the methods in the order of the text.

@@ -1,7 +1,7 @@
 -- The code of a call on an element that the rules of types pass, wherever an image of the program
 -- is linked.
 use Rattle.std.proofs.Common.{◌≡◌, ℕ, suc, ◌+◌, ◌<◌, ◌≤◌, inr, Bool, List, [], ◌∷◌, ◌++◌, length, Option, Some, None}
-use Rattle.std.proofs.Common.{refl, sym, ap, ◌∙◌, subst, arith, append-nil}
+use Rattle.std.proofs.Common.{refl, sym, ap, ◌∙◌, subst, arith, append-nil, ◌*◌, length-append}
 use Rattle.std.specs.Prelude.{Result, Ok, Err, IfOk, Box}
 use Rattle.std.specs.declared.alloc.Global.{Global}
 use Rattle.std.specs.Option.{option_map}
@@ -23,7 +23,7 @@ use Rattle.branch_codegen.specs.class_table.Scope.{Typing, Locals, kind_of, kind
 use Rattle.branch_codegen.specs.class_table.Statements.{passed, check_statement}
 use Rattle.branch_codegen.specs.class_table.Table.{Table, table_of, class_of}
 use Rattle.branch_codegen.proofs.class_table_laws.PassedRules.{some_of}
-use Rattle.branch_codegen.specs.paired_code.Code.{Code}
+use Rattle.branch_codegen.specs.paired_code.Code.{Code, seq_code}
 use Rattle.branch_codegen.specs.paired_code.declared.part.Symbol.{Symbol}
 use Rattle.branch_codegen.specs.roopl_semantics.Execution.{element_name, element_call}
 use Rattle.branch_codegen.specs.meaning_sound.Plain.{ReceiverIsPlain}
@@ -171,3 +171,16 @@ element_returns v inside back_out at back element var method args p (Ok x) var_i
     (subst (λ w. LocalLaw (known_in v) w (Null at) (Null at) p x.cells) var_is
     (subst (λ z. LocalLaw (known_in z) var (Null at) (Null at) p x.cells) out_is made))
 element_returns v inside back_out at back element var method args p (Err e) var_is in_is out_is h made = tt
+
+-- the cells of the element in, the call, and the element out
+pub exchanged_size : {E : Type 0} (t n : ℕ) (first called last inner : Code) (r : Result Code E)
+    → length first.cells ≤ 80 * (2 + t) → length called.cells ≤ 18 * n + 77 → length last.cells ≤ 80 * (2 + t)
+    → inner ≡ seq_code called last → IfOk r (λ p. p ≡ seq_code first inner)
+    → IfOk r (λ p. length p.cells ≤ 160 * (2 + t) + 18 * n + 77)
+exchanged_size t n first called last inner (Err e) a b c is made = tt
+exchanged_size t n first called last inner (Ok p) a b c is made =
+    let e : length p.cells ≡ length first.cells + length inner.cells =
+    ap (λ (z : Code). length z.cells) made ∙ length-append first.cells inner.cells in
+    let f : length inner.cells ≡ length called.cells + length last.cells =
+    ap (λ (z : Code). length z.cells) is ∙ length-append called.cells last.cells in
+    omega (arith, a, b, c, e, f)

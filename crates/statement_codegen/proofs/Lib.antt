@@ -7,3 +7,11 @@ pub mod Stands
 pub mod Constructs
 pub mod ElementRules
 pub mod ElementCalls
+pub mod Nesting
+pub mod Marks
+pub mod Standing
+pub mod Pieces
+pub mod ObjectStands
+pub mod Walk
+pub mod Arms
+pub mod ObjectArms

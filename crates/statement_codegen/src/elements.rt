@@ -22,19 +22,6 @@ use rpp_tree::tree::{Expr, Ident, Place, Var, VarType};
 use rpp_words::NoMemory;
 use std::alloc::Global;
 
-/// A call or uncall of a method, without its receiver.
-#[derive(Drop)]
-pub struct CallParts<'a> {
-    /// The place of the statement.
-    pub at: u32,
-    /// Whether it is an uncall.
-    pub back: bool,
-    /// The method.
-    pub method: &'a Ident,
-    /// The arguments.
-    pub args: &'a [Ident],
-}
-
 // The type of the elements of an array of references; int for any other type.
 fn element_type(alloc: Global, kind: &VarType) -> Result<VarType, NoMemory>
     ensures { IfOk result (λ element. element ≡ type_of_element (Some kind.now)) }
@@ -94,25 +81,26 @@ fn exchange_code(
 // What is in the scope of the variable.
 fn exchanged_call(
     alloc: Global,
+    at: u32,
+    back: bool,
     name: &Ident,
     element: &Place,
-    call: &CallParts,
+    method: &Ident,
+    args: &[Ident],
     scope: &Scope,
 ) -> Result<Piece, NoMemory>
-    requires named { name.now ≡ element_name call.now.at }
-    requires few { length call.now.args.now ≤ 32 }
+    requires named { name.now ≡ element_name at }
+    requires few { length args.now ≤ 32 }
     requires room { words_of_place (lvalue_of element.now) ≤ 1000 }
     ensures law { IfOk result (λ p.
-        ExchangedCall scope.now call.now.at call.now.back
-        (lvalue_of element.now) call.now.method.now call.now.args.now
-        p.cells) }
+        ExchangedCall scope.now at back (lvalue_of element.now) method.now args.now p.cells) }
     ensures none { IfOk result (λ p. p.marks ≡ []) }
     ensures size { IfOk result (λ p.
         length p.cells ≤ 160 * (2 + place_tokens (lvalue_of element.now))
-        + 18 * length call.now.args.now + 77) }
+        + 18 * length args.now + 77) }
 {
     let first = exchange_code(alloc, name, element, scope)?;
-    let called = call_code(alloc, call.back, Some(name), call.method, call.args, scope)?;
+    let called = call_code(alloc, back, Some(name), method, args, scope)?;
     let last = exchange_code(alloc, name, element, scope)?;
     seq(first, seq(called, last)?)
 }
@@ -124,27 +112,28 @@ fn exchanged_call(
 /// said about it. The only error is that memory ran out.
 pub fn element_call_code(
     alloc: Global,
+    at: u32,
+    back: bool,
     element: &Place,
-    call: &CallParts,
+    method: &Ident,
+    args: &[Ident],
     scope: &mut Scope,
 ) -> Result<Piece, NoMemory>
-    requires few { length call.now.args.now ≤ 32 }
+    requires few { length args.now ≤ 32 }
     requires free { length scope.old.variables < MOST_VARIABLES }
     requires room { words_of_place (lvalue_of element.now) ≤ 1000 }
     ensures law { IfOk result (λ p.
-        ElementLaw scope.old call.now.at call.now.back
-        (lvalue_of element.now) call.now.method.now call.now.args.now
-        p.cells) }
+        ElementLaw scope.old at back (lvalue_of element.now) method.now args.now p.cells) }
     ensures none { IfOk result (λ p. p.marks ≡ []) }
     ensures size { IfOk result (λ p.
         length p.cells ≤ 160 * (2 + place_tokens (lvalue_of element.now))
-        + 18 * length call.now.args.now + 205) }
+        + 18 * length args.now + 205) }
     ensures scope { OnOk result (scope.new ≡ scope.old) }
 {
-    let var = element_var(alloc, call.at, &element.name, scope)?;
+    let var = element_var(alloc, at, &element.name, scope)?;
     scope.push(alloc, &var)?;
-    let inside = exchanged_call(alloc, &var.name, element, call, scope)?;
+    let inside = exchanged_call(alloc, at, back, &var.name, element, method, args, scope)?;
     scope.pop();
-    let nothing = Expr::Nil { at: call.at };
+    let nothing = Expr::Nil { at };
     local_code(alloc, &var, &nothing, inside, &nothing, scope)
 }

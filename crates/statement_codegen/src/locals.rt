@@ -1,19 +1,23 @@
 // Blocks with a local variable, and those of `construct`.
 ghost use Rattle.std.specs.Prelude.{◌≡◌, ◌≤◌, ◌+◌, ◌*◌, [], ◌++◌, length, IfOk};
 ghost use Rattle.branch_codegen.specs.paired_code.Layout.{mirror_cells};
-ghost use Rattle.rpp_tree.specs.Views.{expression_of};
-ghost use Rattle.branch_codegen.specs.code_scope.Visible.{known_in};
+ghost use Rattle.rpp_tree.specs.declared.tree.VarType.TheVariants.{Class};
+ghost use Rattle.rpp_tree.specs.Tree.{Object, Whole};
+ghost use Rattle.rpp_tree.specs.Views.{expression_of, source_of};
+ghost use Rattle.branch_codegen.specs.code_scope.Visible.{spot_of, free_of, known_in};
 ghost use Rattle.branch_codegen.specs.register_expressions.Code.{words as words_of};
 ghost use Rattle.branch_codegen.specs.register_expressions.Steps.{tokens};
 ghost use Rattle.refine_form.specs.Held.{Holds};
+ghost use Rattle.refine_objects.specs.object_codegen.Creations.{NewLaw, creation_size};
 ghost use Rattle.statement_codegen.specs.Laws.{LocalLaw, ConstructLaw};
 
 use code_conventions::registers::VALUE;
 use code_scope::Scope;
 use expr_uncompute::value_code;
 use method_calls::local_block;
+use object_codegen::class_code;
 use paired_code::{Piece, mirror, seq};
-use rpp_tree::tree::{Expr, Var};
+use rpp_tree::tree::{Expr, Ident, Place, Var, VarType};
 use rpp_words::NoMemory;
 use std::alloc::Global;
 
@@ -54,6 +58,38 @@ fn between_piece(alloc: Global, making: Piece, body: Piece) -> Result<Piece, NoM
 {
     let ending = mirror(alloc, &making)?;
     seq(making, seq(body, ending)?)
+}
+
+/// The variable of a `construct`.
+pub fn object_var(alloc: Global, class: &Ident, name: &Ident) -> Result<Var, NoMemory>
+    ensures { IfOk result (λ var. var ≡ record { kind = Class class.now; name = name.now }) }
+{
+    Ok(Var {
+        kind: VarType::Class(class.copy(alloc)?),
+        name: name.copy(alloc)?,
+    })
+}
+
+/// The code of the `new` that begins a `construct`, in the scope with its variable. The only error
+/// is that memory ran out.
+pub fn making_piece(
+    alloc: Global,
+    class: &Ident,
+    name: &Ident,
+    scope: &Scope,
+) -> Result<Piece, NoMemory>
+    ensures law { IfOk result (λ p.
+        NewLaw (source_of scope.now.program) (spot_of (known_in scope.now)) (free_of (known_in scope.now))
+        (Object class.now) (Whole name.now) p.cells) }
+    ensures marks { IfOk result (λ p. p.marks ≡ []) }
+    ensures size { IfOk result (λ p.
+        length p.cells ≤ creation_size (Object class.now) (Whole name.now)) }
+{
+    let place = Place {
+        name: name.copy(alloc)?,
+        index: None,
+    };
+    class_code(alloc, class, &place, scope)
 }
 
 /// The code of `construct class name body destruct name`, over the code of `new`, which is made in

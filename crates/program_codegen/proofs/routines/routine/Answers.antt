@@ -1,6 +1,6 @@
 use Rattle.std.proofs.Common.{sym, subst}
 use Rattle.rpp_tree.specs.Views.{procedure_of, block_of}
-use Rattle.block_codegen.specs.Pieces.{StandsIn}
+use Rattle.statement_codegen.specs.Pieces.{StandsIn}
 use Rattle.program_codegen.proofs.Bodies.{stands_in}
 use Rattle.program_codegen.proofs.RoutineMade.{routine_made}
 use Rattle.program_codegen.proofs.routines.routine.Goals as goal

@@ -6,10 +6,10 @@ use Rattle.statement_codegen.proofs.elements.element_call_code.Goals as goal
 
 pub returns-clause-law : goal.returns-clause-law
 returns-clause-law c =
-    element_returns c.args.scope.now c.push.new.self c.pop.new.self c.args.call.now.at c.args.call.now.back
-    (lvalue_of c.args.element.now) c.in_ok-var.var c.args.call.now.method.now c.args.call.now.args.now
+    element_returns c.args.scope.now c.push.new.self c.pop.new.self c.args.at c.args.back
+    (lvalue_of c.args.element.now) c.in_ok-var.var c.args.method.now c.args.args.now
     c.in_ok-inside.inside.cells c.local_code.result
-    (c.in_ok-var.ensures ∙ ap (element_var c.args.scope.now c.args.call.now.at)
+    (c.in_ok-var.ensures ∙ ap (element_var c.args.scope.now c.args.at)
     (sym (place_name_is c.args.element.now)))
     c.in_ok-push.ensures.pushed (c.pop.ensures ∙ ap popped c.in_ok-push.ensures.pushed) c.in_ok-inside.ensures.law
     c.local_code.ensures.law

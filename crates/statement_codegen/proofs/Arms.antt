@@ -13,34 +13,35 @@ use Rattle.rpp_tree.specs.Tree.{Expression, Lvalue, Whole, Item, Statement, Stat
 use Rattle.rpp_tree.specs.Tree.{Call, Source, nodes, index_nodes}
 use Rattle.rpp_tree.specs.Views.{lvalue_with, expression_of, lvalue_of, source_of}
 use Rattle.rpp_tree.specs.Parts.{list_tokens}
-use Rattle.refine_objects.specs.class_table.Overrides.{parameters_of}
-use Rattle.refine_objects.specs.class_table.Program.{IsAccepted}
-use Rattle.refine_objects.specs.class_table.Refusal.{wrong_arity}
-use Rattle.refine_objects.specs.class_table.Scope.{Typing, Locals}
-use Rattle.refine_objects.specs.class_table.Statements.{passed, required, each_passes, each_passes_after, argument_known, argument_new}
-use Rattle.refine_objects.specs.class_table.Statements.{arguments_fit, plain_receiver, receiver_class, slot_rules, call_rules}
-use Rattle.refine_objects.specs.class_table.Table.{slot_in, dispatch_in}
-use Rattle.refine_objects.proofs.class_table_laws.PassedRules.{both_passed, handed_on, held}
-use Rattle.refine_objects.specs.paired_code.Code.{Code}
-use Rattle.refine_objects.specs.meaning_sound.Plain.{ReceiverIsPlain}
-use Rattle.refine_objects.specs.refine_form.Held.{Holds, HoldsBoth}
-use Rattle.refine_objects.specs.refine_form.Stands.{shape_of}
-use Rattle.refine_objects.specs.code_scope.Visible.{Visible, spot_of, free_of, known_in, outer_of}
+use Rattle.branch_codegen.specs.class_table.Overrides.{parameters_of}
+use Rattle.branch_codegen.specs.class_table.Program.{IsAccepted}
+use Rattle.branch_codegen.specs.class_table.Refusal.{wrong_arity}
+use Rattle.branch_codegen.specs.class_table.Scope.{Typing, Locals}
+use Rattle.branch_codegen.specs.class_table.Statements.{passed, required, each_passes, each_passes_after, argument_known, argument_new}
+use Rattle.branch_codegen.specs.class_table.Statements.{arguments_fit, plain_receiver, receiver_class, slot_rules, call_rules}
+use Rattle.branch_codegen.specs.class_table.Table.{slot_in, dispatch_in}
+use Rattle.branch_codegen.proofs.class_table_laws.PassedRules.{both_passed, handed_on, held}
+use Rattle.branch_codegen.specs.paired_code.Code.{Code}
+use Rattle.branch_codegen.specs.meaning_sound.Plain.{ReceiverIsPlain}
+use Rattle.refine_form.specs.Held.{Holds, HoldsBoth}
+use Rattle.refine_form.specs.Stands.{shape_of}
+use Rattle.branch_codegen.specs.code_scope.Visible.{Visible, spot_of, free_of, known_in}
 use Rattle.refine_objects.proofs.code_scope_laws.Parameters.{parameters_few}
-use Rattle.refine_objects.specs.register_expressions.Code.{words}
-use Rattle.refine_objects.specs.expr_uncompute.Code.{place_words}
-use Rattle.refine_objects.specs.expr_uncompute.Promises as code
-use Rattle.refine_objects.specs.register_expressions.Steps.{tokens}
-use Rattle.refine_objects.specs.expr_uncompute.Steps.{place_tokens}
-use Rattle.refine_objects.specs.expr_uncompute.Sizes.{swap_size}
-use Rattle.refine_objects.proofs.expr_uncompute_laws.Bounds.{words_most, place_words_most}
-use Rattle.refine_objects.specs.refine_expressions.Typing.{typing_in}
+use Rattle.branch_codegen.specs.register_expressions.Code.{words}
+use Rattle.branch_codegen.specs.expr_uncompute.Code.{place_words}
+use Rattle.branch_codegen.specs.expr_uncompute.Promises as code
+use Rattle.branch_codegen.specs.register_expressions.Steps.{tokens}
+use Rattle.branch_codegen.specs.expr_uncompute.Steps.{place_tokens}
+use Rattle.branch_codegen.specs.expr_uncompute.Sizes.{swap_size}
+use Rattle.branch_codegen.proofs.expr_uncompute_laws.Bounds.{words_most, place_words_most}
+use Rattle.branch_codegen.specs.refine_expressions.Typing.{typing_in}
 use Rattle.statement_codegen.specs.Codes.{scope_of, with_variable}
-use Rattle.statement_codegen.specs.branch_codegen.Laws.{IfLaw, FromLaw}
+use Rattle.branch_codegen.specs.Laws.{IfLaw, FromLaw}
 use Rattle.statement_codegen.specs.Laws.{LocalLaw, CallLaw, ElementLaw}
 use Rattle.statement_codegen.proofs.Stands.{update_stands, swap_stands}
-use Rattle.block_codegen.specs.Pieces.{StatementStands, InnerPiece, BlockPiece}
-use Rattle.block_codegen.proofs.Pieces.{tokens_are, place_tokens_are, plain_inner, if_inner, from_inner, local_inner}
+use Rattle.statement_codegen.specs.Pieces.{StatementStands, InnerPiece, BlockPiece}
+use Rattle.statement_codegen.proofs.ElementCalls.{popped}
+use Rattle.statement_codegen.proofs.Pieces.{tokens_are, place_tokens_are, plain_inner, if_inner, from_inner, local_inner}
 
 pub if_ok : {A E : Type 0} {P Q : A → Type 0} (r : Result A E) → ((a : A) → P a → Q a) → IfOk r P → IfOk r Q
 if_ok (Ok a) f h = f a h
@@ -246,10 +247,6 @@ pub from_made : {E : Type 0} (v w u : Visible) (x : Statement) (at : ℕ) (entry
 from_made v w u x at entry exit first again one two r is h e f a b law holds size =
     from_arm v x at entry exit first again one two r is h a (subst (λ z. BlockPiece z again two) e b)
     (subst (λ z. IfOk r (λ p. FromLaw (known_in z) entry exit one.cells two.cells p.cells)) (f ∙ e) law) holds size
-
--- without the innermost variable
-abbrev popped : Visible → Visible
-popped v = record v { variables = outer_of v.variables }
 
 -- the scope is as before
 pub popped_is : (v w u o : Visible) (var : Var) → w ≡ with_variable v var → u ≡ w → o ≡ popped u → o ≡ v

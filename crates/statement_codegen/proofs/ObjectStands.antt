@@ -7,22 +7,22 @@ use Rattle.rpp_tree.specs.declared.tree.VarType.TheVariants as type
 use Rattle.rpp_tree.specs.Tree.{Lvalue, Whole, Creation, Object, Ints, Objects, Statements, Construct, New, Delete}
 use Rattle.rpp_tree.specs.Tree.{Copy, Uncopy, Source, creation_nodes, index_nodes}
 use Rattle.rpp_tree.specs.Views.{source_of}
-use Rattle.refine_objects.specs.paired_code.declared.part.Symbol.{Symbol}
-use Rattle.refine_objects.specs.paired_code.Layout.{mirror_cells}
-use Rattle.refine_objects.specs.code_scope.Visible.{Visible, Known, spot_of, free_of, known_in}
-use Rattle.refine_objects.specs.expr_uncompute.Code.{place_words}
-use Rattle.refine_objects.proofs.expr_uncompute_laws.Bounds.{place_words_most}
-use Rattle.refine_objects.specs.refine_expressions.Typing.{IsPassed}
-use Rattle.refine_objects.proofs.expr_uncompute_laws.Bounds.{words_most}
+use Rattle.branch_codegen.specs.paired_code.declared.part.Symbol.{Symbol}
+use Rattle.branch_codegen.specs.paired_code.Layout.{mirror_cells}
+use Rattle.branch_codegen.specs.code_scope.Visible.{Visible, Known, spot_of, free_of, known_in}
+use Rattle.branch_codegen.specs.expr_uncompute.Code.{place_words}
+use Rattle.branch_codegen.proofs.expr_uncompute_laws.Bounds.{place_words_most}
+use Rattle.branch_codegen.specs.refine_expressions.Typing.{IsPassed}
+use Rattle.branch_codegen.proofs.expr_uncompute_laws.Bounds.{words_most}
 use Rattle.refine_objects.specs.object_codegen.Promises.{CopyLaw}
 use Rattle.refine_objects.specs.object_codegen.Creations.{creation_words, NewLaw}
 use Rattle.refine_objects.proofs.StatedCopies.{copies_are_told, uncopies_are_told}
 use Rattle.refine_objects.proofs.StatedMade.{news_are_told, deletes_are_told}
-use Rattle.refine_objects.specs.class_table.Statements.{class_known, construct_rules, check_statements, with_object}
-use Rattle.refine_objects.proofs.class_table_laws.PassedRules.{both_passed}
-use Rattle.refine_objects.proofs.meaning_sound_laws.Expansions.{made_in}
-use Rattle.refine_objects.specs.refine_form.Stands.{shape_of}
-use Rattle.refine_objects.specs.refine_expressions.Typing.{typing_in}
+use Rattle.branch_codegen.specs.class_table.Statements.{class_known, construct_rules, check_statements, with_object}
+use Rattle.branch_codegen.proofs.class_table_laws.PassedRules.{both_passed}
+use Rattle.branch_codegen.proofs.meaning_sound_laws.Expansions.{made_in}
+use Rattle.refine_form.specs.Stands.{shape_of}
+use Rattle.branch_codegen.specs.refine_expressions.Typing.{typing_in}
 use Rattle.statement_codegen.specs.Codes.{scope_of, with_variable, IsStatementCode, IsAllowed}
 use Rattle.statement_codegen.proofs.Stands.{laid_out, names_same, room_for}
 

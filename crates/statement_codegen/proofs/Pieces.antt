@@ -2,7 +2,7 @@
 use Rattle.std.proofs.Common.{◌≡◌, ℕ, ◌+◌, ◌*◌, ◌<◌, ◌≤◌, List, [], ◌++◌, length, refl, sym, ap, ◌∙◌, subst, arith}
 use Rattle.std.proofs.Common.{length-append, append_assoc, append-nil}
 use Rattle.std.proofs.lemmas.List.Sorted.{length_permutation}
-use Rattle.refine_objects.specs.code_conventions.declared.memory.TheConstants.{MOST_VARIABLES}
+use Rattle.branch_codegen.specs.code_conventions.declared.memory.TheConstants.{MOST_VARIABLES}
 use Rattle.rpp_tree.specs.declared.tree.Ident.{Ident}
 use Rattle.rpp_tree.specs.declared.tree.Var.{Var}
 use Rattle.rpp_tree.specs.declared.tree.VarType.TheVariants as type
@@ -11,27 +11,27 @@ use Rattle.rpp_tree.specs.Tree.{Statement, Statements, Update, If, From, Constru
 use Rattle.rpp_tree.specs.Places.{statement_place}
 use Rattle.rpp_tree.specs.Views.{source_of}
 use Rattle.rpp_tree.specs.Parts.{expression_tokens, lvalue_tokens, statement_tokens, block_tokens}
-use Rattle.refine_objects.specs.pisa_isa.declared.notes.Mark.{Mark}
-use Rattle.refine_objects.specs.paired_code.declared.part.Symbol.{Symbol}
-use Rattle.refine_objects.specs.paired_code.Code.{Code, shift, unmarked, seq_code, marked_code}
-use Rattle.refine_objects.specs.refine_form.Form.{Scope, with_var}
-use Rattle.refine_objects.specs.refine_form.Held.{Holds, HoldsBoth}
-use Rattle.refine_objects.proofs.refine_form_laws.Holding.{shift_append, shift_zero, shift_shift}
-use Rattle.refine_objects.proofs.refine_form_laws.Stated.{nothing_is_a_block, blocks_are_rows}
-use Rattle.refine_objects.specs.code_scope.Visible.{Visible, known_in}
-use Rattle.refine_objects.specs.register_expressions.Steps.{tokens}
-use Rattle.refine_objects.specs.expr_uncompute.Steps.{place_tokens}
+use Rattle.branch_codegen.specs.pisa_isa.declared.notes.Mark.{Mark}
+use Rattle.branch_codegen.specs.paired_code.declared.part.Symbol.{Symbol}
+use Rattle.branch_codegen.specs.paired_code.Code.{Code, shift, unmarked, seq_code, marked_code}
+use Rattle.refine_form.specs.Form.{Scope, with_var}
+use Rattle.refine_form.specs.Held.{Holds, HoldsBoth}
+use Rattle.refine_form.proofs.Holding.{shift_append, shift_zero, shift_shift}
+use Rattle.refine_form.proofs.Stated.{nothing_is_a_block, blocks_are_rows}
+use Rattle.branch_codegen.specs.code_scope.Visible.{Visible, known_in}
+use Rattle.branch_codegen.specs.register_expressions.Steps.{tokens}
+use Rattle.branch_codegen.specs.expr_uncompute.Steps.{place_tokens}
 use Rattle.statement_codegen.specs.Codes.{scope_of, with_variable, IsStatementCode, IsBlockCode, IsAllowed}
-use Rattle.statement_codegen.specs.branch_codegen.Laws.{IfLaw, FromLaw}
+use Rattle.branch_codegen.specs.Laws.{IfLaw, FromLaw}
 use Rattle.statement_codegen.specs.Laws.{LocalLaw, ConstructLaw}
 use Rattle.statement_codegen.proofs.Stands.{if_stands, from_stands, local_stands}
-use Rattle.block_codegen.specs.Rows.{row_before, inner_rows, block_rows}
-use Rattle.block_codegen.specs.Ranges.{IsRange, MarksOf}
-use Rattle.block_codegen.specs.Pieces.{StatementStands, IsRowCode, HaveMarks, StandsIn, cells_a_token, InnerPiece}
-use Rattle.block_codegen.specs.Pieces.{BlockPiece}
-use Rattle.block_codegen.proofs.Nesting.{each_length}
-use Rattle.block_codegen.proofs.Marks.{no_marks, marks_in, marks_right, marks_seq, marks_whole, covered_whole}
-use Rattle.block_codegen.proofs.Marks.{covered_none, covered_seq}
+use Rattle.statement_codegen.specs.Rows.{row_before, inner_rows, block_rows}
+use Rattle.statement_codegen.specs.Ranges.{IsRange, MarksOf}
+use Rattle.statement_codegen.specs.Pieces.{StatementStands, IsRowCode, HaveMarks, StandsIn, cells_a_token, InnerPiece}
+use Rattle.statement_codegen.specs.Pieces.{BlockPiece}
+use Rattle.statement_codegen.proofs.Nesting.{each_length}
+use Rattle.statement_codegen.proofs.Marks.{no_marks, marks_in, marks_right, marks_seq, marks_whole, covered_whole}
+use Rattle.statement_codegen.proofs.Marks.{covered_none, covered_seq}
 
 -- ---- tokens
 

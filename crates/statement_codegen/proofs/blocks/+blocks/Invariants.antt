@@ -1,8 +1,8 @@
 use Rattle.std.proofs.Common.{◌+◌, ◌*◌, drop, map}
 use Rattle.rpp_tree.specs.Parts.{statement_tokens, block_tokens}
 use Rattle.rpp_tree.specs.Views.{statement_of, statements_of, block_of}
-use Rattle.block_codegen.proofs.Pieces.{IsMaking}
-use Rattle.block_codegen.proofs.blocks.+blocks.Given as goal
+use Rattle.statement_codegen.proofs.Pieces.{IsMaking}
+use Rattle.statement_codegen.proofs.blocks.+blocks.Given as goal
 
 abbrev pub decreases-block_piece : goal.decreases-block_piece
 decreases-block_piece l = 2 * block_tokens (block_of l.body.now) + 1

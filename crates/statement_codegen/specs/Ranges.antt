@@ -5,11 +5,11 @@ use Rattle.std.specs.List.{list_any, AllZip}
 use Rattle.std.specs.List.Sorted.{IsPermutation}
 use Rattle.rpp_tree.specs.Tree.{Statement}
 use Rattle.rpp_tree.specs.Places.{statement_place}
-use Rattle.refine_objects.specs.pisa_isa.declared.notes.Mark.{Mark}
-use Rattle.refine_objects.specs.paired_code.declared.part.Symbol.{Symbol}
-use Rattle.refine_objects.specs.paired_code.Code.{Code}
-use Rattle.refine_objects.specs.refine_form.Form.{Scope}
-use Rattle.block_codegen.specs.Rows.{Row}
+use Rattle.branch_codegen.specs.pisa_isa.declared.notes.Mark.{Mark}
+use Rattle.branch_codegen.specs.paired_code.declared.part.Symbol.{Symbol}
+use Rattle.branch_codegen.specs.paired_code.Code.{Code}
+use Rattle.refine_form.specs.Form.{Scope}
+use Rattle.statement_codegen.specs.Rows.{Row}
 
 -- the second range lies in the first
 abbrev pub LiesIn : Mark → Mark → Type 0

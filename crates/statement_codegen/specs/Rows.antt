@@ -2,7 +2,7 @@
 use Rattle.std.specs.Prelude.{ℕ, List, [], ◌∷◌, ◌++◌, length}
 use Rattle.rpp_tree.specs.declared.tree.VarType.TheVariants as type
 use Rattle.rpp_tree.specs.Tree.{Statement, Statements, Walk, walk, walk_block}
-use Rattle.refine_objects.specs.refine_form.Form.{Scope, with_var}
+use Rattle.refine_form.specs.Form.{Scope, with_var}
 
 -- a statement, its scope, and the number of statements in it
 pub record Row : Type 0 where

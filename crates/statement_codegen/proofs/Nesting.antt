@@ -7,10 +7,10 @@ use Rattle.std.specs.List.Sorted.{IsPermutation}
 use Rattle.std.proofs.lemmas.List.{take-append-le, drop-append-le}
 use Rattle.std.proofs.lemmas.List.Elements.{All-nil, All-cons, All-tail, All-append, All-weaker, All-take}
 use Rattle.std.proofs.lemmas.List.Sorted.{IsPermutation-map}
-use Rattle.refine_objects.specs.pisa_isa.declared.notes.Mark.{Mark}
-use Rattle.refine_objects.specs.paired_code.Code.{moved_on, shift}
-use Rattle.block_codegen.specs.Rows.{Row}
-use Rattle.block_codegen.specs.Ranges.{LiesIn, LiesApart, AreNested}
+use Rattle.branch_codegen.specs.pisa_isa.declared.notes.Mark.{Mark}
+use Rattle.branch_codegen.specs.paired_code.Code.{moved_on, shift}
+use Rattle.statement_codegen.specs.Rows.{Row}
+use Rattle.statement_codegen.specs.Ranges.{LiesIn, LiesApart, AreNested}
 
 -- ---- one range for each
 

@@ -1,7 +1,7 @@
 use Rattle.rpp_tree.specs.Views.{block_of}
-use Rattle.block_codegen.proofs.Pieces.{marks_few}
-use Rattle.block_codegen.proofs.Arms.{if_ok}
-use Rattle.block_codegen.proofs.blocks.block_code.Goals as goal
+use Rattle.statement_codegen.proofs.Pieces.{marks_few}
+use Rattle.statement_codegen.proofs.Arms.{if_ok}
+use Rattle.statement_codegen.proofs.blocks.block_code.Goals as goal
 
 pub returns-clause-law : goal.returns-clause-law
 returns-clause-law c = if_ok c.block_piece.result (λ p h. h.law) c.block_piece.ensures.piece

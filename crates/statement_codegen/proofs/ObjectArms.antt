@@ -9,23 +9,23 @@ use Rattle.rpp_tree.specs.Tree.{Lvalue, Whole, Creation, Object, Ints, Objects, 
 use Rattle.rpp_tree.specs.Tree.{Delete, Copy, Uncopy, index_nodes, creation_nodes}
 use Rattle.rpp_tree.specs.Views.{source_of}
 use Rattle.rpp_tree.specs.Parts.{creation_tokens, lvalue_tokens}
-use Rattle.refine_objects.specs.paired_code.Code.{Code, unmarked}
-use Rattle.refine_objects.specs.paired_code.Layout.{mirror_cells}
-use Rattle.refine_objects.proofs.paired_code_laws.Mirrored.{length_mirror}
-use Rattle.refine_objects.specs.code_scope.Visible.{Visible, spot_of, free_of, known_in}
-use Rattle.refine_objects.specs.expr_uncompute.Code.{place_words}
-use Rattle.refine_objects.specs.expr_uncompute.Steps.{place_tokens}
-use Rattle.refine_objects.proofs.expr_uncompute_laws.Bounds.{place_words_most}
+use Rattle.branch_codegen.specs.paired_code.Code.{Code, unmarked}
+use Rattle.branch_codegen.specs.paired_code.Layout.{mirror_cells}
+use Rattle.branch_codegen.proofs.paired_code_laws.Mirrored.{length_mirror}
+use Rattle.branch_codegen.specs.code_scope.Visible.{Visible, spot_of, free_of, known_in}
+use Rattle.branch_codegen.specs.expr_uncompute.Code.{place_words}
+use Rattle.branch_codegen.specs.expr_uncompute.Steps.{place_tokens}
+use Rattle.branch_codegen.proofs.expr_uncompute_laws.Bounds.{place_words_most}
 use Rattle.refine_objects.specs.object_codegen.Promises.{CopyLaw}
-use Rattle.block_codegen.specs.Pieces.{StatementStands, InnerPiece}
+use Rattle.statement_codegen.specs.Pieces.{StatementStands, InnerPiece}
 use Rattle.refine_objects.specs.object_codegen.Creations.{creation_words, creation_size, NewLaw}
-use Rattle.refine_objects.specs.refine_form.Held.{Holds}
+use Rattle.refine_form.specs.Held.{Holds}
 use Rattle.statement_codegen.specs.Codes.{with_variable}
 use Rattle.statement_codegen.specs.Laws.{ConstructLaw}
-use Rattle.block_codegen.specs.Pieces.{BlockPiece}
-use Rattle.block_codegen.proofs.Pieces.{tokens_are, place_tokens_are, plain_inner, construct_inner}
-use Rattle.block_codegen.proofs.ObjectStands.{copy_stands, uncopy_stands, few_creation_words, new_stands, delete_stands}
-use Rattle.block_codegen.proofs.ObjectStands.{constructed_new}
+use Rattle.statement_codegen.specs.Pieces.{BlockPiece}
+use Rattle.statement_codegen.proofs.Pieces.{tokens_are, place_tokens_are, plain_inner, construct_inner}
+use Rattle.statement_codegen.proofs.ObjectStands.{copy_stands, uncopy_stands, few_creation_words, new_stands, delete_stands}
+use Rattle.statement_codegen.proofs.ObjectStands.{constructed_new}
 
 -- ---- copies
 

@@ -1,22 +1,26 @@
-// The code of blocks, and of the statements that hold them.
-ghost use Rattle.std.specs.Prelude.{◌≡◌, ◌*◌, ◌≤◌, length, IfOk, OnOk};
+// The code of blocks, and of each of their statements.
+ghost use Rattle.std.specs.Prelude.{◌≡◌, ◌*◌, ◌≤◌, Some, length, IfOk, OnOk};
 ghost use Rattle.rpp_tree.specs.Parts.{block_tokens};
 ghost use Rattle.rpp_tree.specs.Places.{statement_place};
-ghost use Rattle.rpp_tree.specs.Views.{statement_of, block_of};
-ghost use Rattle.refine_objects.specs.pisa_isa.declared.notes.TheConstants.{LAST_PLACE};
-ghost use Rattle.refine_objects.specs.paired_code.Code.{seq_code, marked_code};
+ghost use Rattle.rpp_tree.specs.Tree.{Call};
+ghost use Rattle.rpp_tree.specs.Views.{lvalue_of, optional_lvalue_of, statement_of, block_of};
+ghost use Rattle.branch_codegen.specs.pisa_isa.declared.notes.TheConstants.{LAST_PLACE};
+ghost use Rattle.branch_codegen.specs.paired_code.Code.{seq_code, marked_code};
 ghost use Rattle.statement_codegen.specs.Codes.{IsBlockCode};
-ghost use Rattle.block_codegen.specs.Ranges.{IsCovered};
-ghost use Rattle.block_codegen.specs.Pieces.{StatementStands, StandsIn, HaveMarks, cells_a_token, InnerPiece, BlockPiece};
+ghost use Rattle.statement_codegen.specs.Ranges.{IsCovered};
+ghost use Rattle.statement_codegen.specs.Pieces.{StatementStands, StandsIn, HaveMarks, cells_a_token, InnerPiece, BlockPiece};
 
-use crate::objects::{making_piece, object_var};
-use crate::plain::plain_piece;
+use crate::calls::{call_code, skip_code};
+use crate::elements::element_call_code;
+use crate::locals::{construct_code, local_code, making_piece, object_var};
+use branch_codegen::{from_code, if_code};
 use code_scope::Scope;
-use paired_code::{Piece, empty, marked, seq};
+use expr_uncompute::{swap_code, update_code};
+use object_codegen::{copy_code, new_code};
+use paired_code::{Piece, empty, marked, mirror, seq};
 use rpp_tree::place_of;
-use rpp_tree::tree::{Block, Stmt};
+use rpp_tree::tree::{Block, Ident, Place, Stmt};
 use rpp_words::NoMemory;
-use statement_codegen::{construct_code, from_code, if_code, local_code};
 use std::alloc::Global;
 
 /// The code of a block in this scope: the code of its statements, one after the other, with a mark
@@ -44,6 +48,52 @@ fn then_marked(before: Piece, s: &Stmt, inner: Piece) -> Result<Piece, NoMemory>
     seq(before, marked(place_of(s), inner)?)
 }
 
+// A call or uncall on the object of a variable, or on an element.
+fn call_piece_on(
+    alloc: Global,
+    at: u32,
+    back: bool,
+    receiver: &Place,
+    method: &Ident,
+    args: &[Ident],
+    scope: &mut Scope,
+) -> Result<Piece, NoMemory>
+    requires stands { StatementStands scope.old
+        (Call at back (Some (lvalue_of receiver.now)) method.now args.now) }
+    requires few { length args.now ≤ 32 }
+    ensures piece { IfOk result (λ p. InnerPiece scope.old
+        (Call at back (Some (lvalue_of receiver.now)) method.now args.now) p) }
+    ensures scope { OnOk result (scope.new ≡ scope.old) }
+{
+    match &receiver.index {
+        None => call_code(alloc, back, Some(&receiver.name), method, args, scope),
+        Some(_index) => element_call_code(alloc, at, back, receiver, method, args, scope),
+    }
+}
+
+// A call or uncall.
+fn call_piece(
+    alloc: Global,
+    at: u32,
+    back: bool,
+    receiver: &Option<Place>,
+    method: &Ident,
+    args: &[Ident],
+    scope: &mut Scope,
+) -> Result<Piece, NoMemory>
+    requires stands { StatementStands scope.old
+        (Call at back (optional_lvalue_of receiver.now) method.now args.now) }
+    requires few { length args.now ≤ 32 }
+    ensures piece { IfOk result (λ p. InnerPiece scope.old
+        (Call at back (optional_lvalue_of receiver.now) method.now args.now) p) }
+    ensures scope { OnOk result (scope.new ≡ scope.old) }
+{
+    match receiver {
+        None => call_code(alloc, back, None, method, args, scope),
+        Some(place) => call_piece_on(alloc, at, back, place, method, args, scope),
+    }
+}
+
 #[cycle(blocks)]
 fn block_piece(alloc: Global, body: &Block, scope: &mut Scope) -> Result<Piece, NoMemory>
     requires stands { StandsIn scope.old (block_of body.now) }
@@ -58,7 +108,8 @@ fn block_piece(alloc: Global, body: &Block, scope: &mut Scope) -> Result<Piece, 
     Ok(piece)
 }
 
-// A statement with the marks of those that it holds.
+// A statement with the marks of those that it holds. The code of a delete is that of the new,
+// inverted, and that of an uncopy that of the copy.
 #[cycle(blocks)]
 fn inner_piece(alloc: Global, s: &Stmt, scope: &mut Scope) -> Result<Piece, NoMemory>
     requires stands { StatementStands scope.old (statement_of s.now) }
@@ -114,6 +165,33 @@ fn inner_piece(alloc: Global, s: &Stmt, scope: &mut Scope) -> Result<Piece, NoMe
             scope.pop();
             construct_code(alloc, *at, &var, making, body, scope)
         }
-        _ => plain_piece(alloc, s, scope),
+        Stmt::Update {
+            op,
+            place,
+            value,
+            ..
+        } => update_code(alloc, *op, place, value, scope),
+        Stmt::Swap { left, right, .. } => swap_code(alloc, left, right, scope),
+        Stmt::New { made, place, .. } => new_code(alloc, made, place, scope),
+        Stmt::Delete { made, place, .. } => {
+            let new = new_code(alloc, made, place, scope)?;
+            mirror(alloc, &new)
+        }
+        Stmt::Copy { source, target, .. } => copy_code(alloc, source, target, scope),
+        Stmt::Uncopy { source, target, .. } => {
+            let copy = copy_code(alloc, source, target, scope)?;
+            mirror(alloc, &copy)
+        }
+        Stmt::Call {
+            at,
+            back,
+            receiver,
+            method,
+            args,
+        } => {
+            let _program = scope.checked().program();
+            call_piece(alloc, *at, *back, receiver, method, args, scope)
+        }
+        Stmt::Skip { .. } => skip_code(alloc),
     }
 }

@@ -13,16 +13,16 @@ use Rattle.std.proofs.lemmas.List.Sorted.{IsPermutation-refl, IsPermutation-tran
 use Rattle.std.proofs.lemmas.List.Sorted.{IsPermutation-append_comm, IsPermutation-append_right, IsPermutation-to_front}
 use Rattle.rpp_tree.specs.Tree.{Statement}
 use Rattle.rpp_tree.specs.Places.{statement_place}
-use Rattle.refine_objects.specs.pisa_isa.declared.notes.Mark.{Mark}
-use Rattle.refine_objects.specs.paired_code.declared.part.Symbol.{Symbol}
-use Rattle.refine_objects.specs.paired_code.Code.{Code, moved_on, shift, seq_code, marked_code}
-use Rattle.refine_objects.specs.refine_form.Form.{Scope}
-use Rattle.refine_objects.specs.refine_form.Held.{Holds, HoldsBoth}
-use Rattle.refine_objects.proofs.refine_form_laws.Holding.{both_seq}
-use Rattle.block_codegen.specs.Rows.{Row, row_before}
-use Rattle.block_codegen.specs.Ranges.{LiesIn, IsRange, MarksOf, is_marked, holds_cell, IsCovered}
-use Rattle.block_codegen.proofs.Nesting.{each_append, each_length, each_moved, each_all, shift_same, all_moved}
-use Rattle.block_codegen.proofs.Nesting.{nested_moved, nested_append, nested_whole, IsBetween, apart_by}
+use Rattle.branch_codegen.specs.pisa_isa.declared.notes.Mark.{Mark}
+use Rattle.branch_codegen.specs.paired_code.declared.part.Symbol.{Symbol}
+use Rattle.branch_codegen.specs.paired_code.Code.{Code, moved_on, shift, seq_code, marked_code}
+use Rattle.refine_form.specs.Form.{Scope}
+use Rattle.refine_form.specs.Held.{Holds, HoldsBoth}
+use Rattle.refine_form.proofs.Holding.{both_seq}
+use Rattle.statement_codegen.specs.Rows.{Row, row_before}
+use Rattle.statement_codegen.specs.Ranges.{LiesIn, IsRange, MarksOf, is_marked, holds_cell, IsCovered}
+use Rattle.statement_codegen.proofs.Nesting.{each_append, each_length, each_moved, each_all, shift_same, all_moved}
+use Rattle.statement_codegen.proofs.Nesting.{nested_moved, nested_append, nested_whole, IsBetween, apart_by}
 
 both_same : (xs ys us vs : List Mark) → IsPermutation xs ys → IsPermutation us vs → IsPermutation (xs ++ us) (vs ++ ys)
 both_same xs ys us vs a b = IsPermutation-trans (xs ++ us) (ys ++ vs) (vs ++ ys) (IsPermutation-append xs ys us vs a b)

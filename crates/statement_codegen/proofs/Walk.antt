@@ -9,13 +9,13 @@ use Rattle.rpp_tree.specs.declared.tree.Var.{Var}
 use Rattle.rpp_tree.specs.Tree.{Expression, Statement, Statements, If, From, Construct, Local, End, Then}
 use Rattle.rpp_tree.specs.Parts.{statement_tokens, block_tokens}
 use Rattle.rpp_tree.specs.Views.{statement_of, statements_of}
-use Rattle.refine_objects.specs.pisa_isa.declared.notes.TheConstants.{LAST_PLACE}
-use Rattle.refine_objects.specs.paired_code.Code.{Code, unmarked, seq_code, marked_code}
-use Rattle.refine_objects.specs.code_scope.Visible.{Visible}
+use Rattle.branch_codegen.specs.pisa_isa.declared.notes.TheConstants.{LAST_PLACE}
+use Rattle.branch_codegen.specs.paired_code.Code.{Code, unmarked, seq_code, marked_code}
+use Rattle.branch_codegen.specs.code_scope.Visible.{Visible}
 use Rattle.rpp_tree.specs.Places.{statement_place}
-use Rattle.block_codegen.specs.Pieces.{StatementStands, StandsIn, InnerPiece, BlockPiece}
-use Rattle.block_codegen.proofs.Standing.{own_place, first_stands, rest_stands}
-use Rattle.block_codegen.proofs.Pieces.{LeadsOn, leads_first, leads_next, leads_last, IsMaking}
+use Rattle.statement_codegen.specs.Pieces.{StatementStands, StandsIn, InnerPiece, BlockPiece}
+use Rattle.statement_codegen.proofs.Standing.{own_place, first_stands, rest_stands}
+use Rattle.statement_codegen.proofs.Pieces.{LeadsOn, leads_first, leads_next, leads_last, IsMaking}
 
 -- the statements that are left
 abbrev pub left_of : List Stmt → ℕ → Statements

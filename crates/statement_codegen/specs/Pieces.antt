@@ -1,27 +1,25 @@
 -- The blocks of which code is made, and the fragments of their statements.
-use Rattle.std.specs.Prelude.{◌≡◌, ℕ, ◌+◌, ◌*◌, ◌<◌, ◌≤◌, List, length, Option, All}
+use Rattle.std.specs.Prelude.{◌≡◌, ℕ, ◌+◌, ◌*◌, ◌<◌, ◌≤◌, List, length, All}
 use Rattle.rpp_tree.specs.declared.tree.Ident.{Ident}
 use Rattle.rpp_tree.specs.declared.limits.TheConstants.{MOST_BYTES}
-use Rattle.rpp_tree.specs.Tree.{Lvalue, Statement, Statements, If, From, Construct, Local, New}
-use Rattle.rpp_tree.specs.Tree.{Delete, Copy, Uncopy, Call, Source}
+use Rattle.rpp_tree.specs.Tree.{Statement, Statements, Source}
 use Rattle.rpp_tree.specs.Views.{source_of}
 use Rattle.rpp_tree.specs.Parts.{statement_places, block_places, statement_tokens, block_tokens}
 use Rattle.rpp_tree.specs.Limits.{locals, AreSmall, AreInnerSmall}
-use Rattle.refine_objects.specs.class_table.Statements.{passed, check_statements}
-use Rattle.refine_objects.specs.paired_code.declared.part.Symbol.{Symbol}
-use Rattle.refine_objects.specs.paired_code.Code.{Code}
-use Rattle.refine_objects.specs.meaning_sound.Plain.{StatementIsPlain, BlockHasWords, IsPlain}
-use Rattle.refine_objects.specs.refine_form.Form.{Scope, StmtLaw}
-use Rattle.refine_objects.specs.refine_form.Stands.{shape_of}
-use Rattle.refine_objects.specs.refine_form.Worlds.{Place, world_of}
-use Rattle.refine_objects.specs.code_conventions.declared.memory.TheConstants.{MOST_VARIABLES}
-use Rattle.refine_objects.specs.code_scope.Visible.{Visible}
-use Rattle.refine_objects.specs.refine_calls.Laws.{IsLinked}
-use Rattle.refine_objects.specs.refine_expressions.Typing.{typing_in}
-use Rattle.statement_codegen.specs.declared.elements.CallParts.{CallParts}
+use Rattle.branch_codegen.specs.class_table.Statements.{passed, check_statements}
+use Rattle.branch_codegen.specs.paired_code.declared.part.Symbol.{Symbol}
+use Rattle.branch_codegen.specs.paired_code.Code.{Code}
+use Rattle.branch_codegen.specs.meaning_sound.Plain.{StatementIsPlain, BlockHasWords, IsPlain}
+use Rattle.refine_form.specs.Form.{Scope, StmtLaw}
+use Rattle.refine_form.specs.Stands.{shape_of}
+use Rattle.refine_form.specs.Worlds.{Place, world_of}
+use Rattle.branch_codegen.specs.code_conventions.declared.memory.TheConstants.{MOST_VARIABLES}
+use Rattle.branch_codegen.specs.code_scope.Visible.{Visible}
+use Rattle.branch_codegen.specs.refine_calls.Laws.{IsLinked}
+use Rattle.branch_codegen.specs.refine_expressions.Typing.{typing_in}
 use Rattle.statement_codegen.specs.Codes.{scope_of, IsStatementCode, IsBlockCode, IsAllowed}
-use Rattle.block_codegen.specs.Rows.{inner_rows, block_rows}
-use Rattle.block_codegen.specs.Ranges.{MarksOf, IsCovered}
+use Rattle.statement_codegen.specs.Rows.{inner_rows, block_rows}
+use Rattle.statement_codegen.specs.Ranges.{MarksOf, IsCovered}
 
 -- ---- what code is made for
 
@@ -50,26 +48,6 @@ pub record StandsIn (v : Visible) (body : Statements) : Type 0 where
   pub small : AreSmall body
   pub places : All IsPlace (block_places body)
   pub room : length v.variables + locals body ≤ MOST_VARIABLES
-
--- a statement that holds no block
-abbrev pub HoldsNoBlock : Statement → Type 0
-HoldsNoBlock (If at test taken other after) = ⊥
-HoldsNoBlock (From at entry first again exit) = ⊥
-HoldsNoBlock (Construct at class name body end) = ⊥
-HoldsNoBlock (Local at var value body end_var end_value) = ⊥
-HoldsNoBlock _ = Unit {0}
-
--- one that makes, deletes or copies an object or an array
-abbrev pub IsOfObjects : Statement → Type 0
-IsOfObjects (New at made target) = Unit {0}
-IsOfObjects (Delete at made target) = Unit {0}
-IsOfObjects (Copy at kind source target) = Unit {0}
-IsOfObjects (Uncopy at kind source target) = Unit {0}
-IsOfObjects _ = ⊥
-
--- a call or uncall on a receiver
-abbrev pub call_on : Option Lvalue → CallParts → Statement
-call_on receiver call = Call call.at call.back receiver call.method.now call.args.now
 
 -- ---- what is made
 

@@ -1,16 +1,24 @@
-use Rattle.std.proofs.Common.{arith, map, sym, ap, ◌∙◌, subst}
+use Rattle.std.proofs.Common.{◌≤◌, arith, length, map, sym, ap, ◌∙◌, subst}
+use Rattle.std.specs.Prelude.{IfOk}
 use Rattle.rpp_tree.proofs.Blocks.{block_of-list}
-use Rattle.rpp_tree.specs.Views.{expression_of, statement_of, statements_of, block_of}
-use Rattle.block_codegen.specs.Pieces.{StatementStands, StandsIn}
+use Rattle.rpp_tree.specs.Tree.{Call}
+use Rattle.rpp_tree.specs.Views.{source_of, expression_of, lvalue_of, optional_lvalue_of, creation_of}
+use Rattle.rpp_tree.specs.Views.{statement_of, statements_of, block_of}
+use Rattle.branch_codegen.specs.class_table.Program.{IsAccepted}
+use Rattle.statement_codegen.specs.Pieces.{StatementStands, StandsIn, InnerPiece}
 use Rattle.statement_codegen.specs.Codes.{with_variable}
 use Rattle.rpp_tree.proofs.Statements.{statement_if, statement_from, statement_construct, statement_local}
-use Rattle.block_codegen.proofs.Standing.{taken_stands, other_stands, entered_stands, repeated_stands, inside_stands}
-use Rattle.block_codegen.proofs.Standing.{constructed_stands}
-use Rattle.block_codegen.proofs.Walk.{place_fits, item_stands, making_first, making_next, making_last, item_falls}
-use Rattle.block_codegen.proofs.Walk.{if_falls, from_falls, construct_falls, local_falls}
-use Rattle.block_codegen.proofs.Arms.{if_room, from_room, local_room, if_made, from_made, local_made, popped_is}
-use Rattle.block_codegen.proofs.ObjectArms.{construct_made}
-use Rattle.block_codegen.proofs.blocks.+blocks.Goals as goal
+use Rattle.rpp_tree.proofs.Statements.{statement_update, statement_swap, statement_call, statement_new, statement_delete}
+use Rattle.rpp_tree.proofs.Statements.{statement_copy, statement_uncopy}
+use Rattle.statement_codegen.proofs.Standing.{taken_stands, other_stands, entered_stands, repeated_stands, inside_stands}
+use Rattle.statement_codegen.proofs.Standing.{constructed_stands}
+use Rattle.statement_codegen.proofs.Walk.{place_fits, item_stands, making_first, making_next, making_last, item_falls}
+use Rattle.statement_codegen.proofs.Walk.{if_falls, from_falls, construct_falls, local_falls}
+use Rattle.statement_codegen.proofs.Arms.{if_room, from_room, local_room, if_made, from_made, local_made, popped_is}
+use Rattle.statement_codegen.proofs.Arms.{update_room, swap_room, call_few, update_arm, swap_arm}
+use Rattle.statement_codegen.proofs.ObjectArms.{construct_made, copy_room, uncopy_room, new_room, delete_room}
+use Rattle.statement_codegen.proofs.ObjectArms.{copy_arm, uncopy_arm, new_arm, delete_arm}
+use Rattle.statement_codegen.proofs.blocks.+blocks.Goals as goal
 
 pub block_piece-loop-stmt-init : goal.block_piece-loop-stmt-init
 block_piece-loop-stmt-init t c =
@@ -203,3 +211,110 @@ inner_piece-returns-in_ok-body-in-Local-clause-piece t c =
     c.local_code.result (ap statement_of c.in-Local.is ∙ statement_local _ _ _ _ _ _) c.requires.stands
     c.in_ok-push-in-Local.ensures.pushed c.in_ok-body-in-Local.ensures.scope c.pop.ensures
     c.in_ok-body-in-Local.ensures.piece c.local_code.ensures.law c.local_code.ensures.held c.local_code.ensures.size
+
+pub inner_piece-update_code-requires : goal.inner_piece-update_code-requires
+inner_piece-update_code-requires t c = record {
+  room = update_room c.args.scope.now (statement_of c.args.s.now) c.in-Update.at
+      c.in-Update.op (lvalue_of c.in-Update.place) (expression_of c.in-Update.value)
+      (ap statement_of c.in-Update.is ∙ statement_update _ _ _ _) c.requires.stands;
+}
+
+pub inner_piece-swap_code-requires : goal.inner_piece-swap_code-requires
+inner_piece-swap_code-requires t c = record {
+  room = swap_room c.args.scope.now (statement_of c.args.s.now) c.in-Swap.at
+      (lvalue_of c.in-Swap.left) (lvalue_of c.in-Swap.right) (ap statement_of c.in-Swap.is ∙ statement_swap _ _ _)
+      c.requires.stands;
+}
+
+pub inner_piece-call_piece-requires : goal.inner_piece-call_piece-requires
+inner_piece-call_piece-requires t c = record {
+  stands =
+      subst (StatementStands c.args.scope.now)
+      (ap statement_of c.in-Call.is ∙ statement_call _ _ _ _ _
+      ∙ ap (λ z. Call c.in-Call.at c.in-Call.back (optional_lvalue_of c.in-Call.receiver) c.in-Call.method z)
+      (sym c.deref.ensures.value)) c.requires.stands;
+  few =
+      subst (λ z. length z ≤ 32) (sym c.deref.ensures.value)
+      (call_few c.args.scope.now (statement_of c.args.s.now) c.in-Call.at c.in-Call.back
+      (optional_lvalue_of c.in-Call.receiver) c.in-Call.method c.in-Call.args.items
+      (subst (λ z. IsAccepted (source_of z)) c.checked.ensures c.program-program.ensures.accepted)
+      (ap statement_of c.in-Call.is ∙ statement_call _ _ _ _ _) c.requires.stands);
+}
+
+pub inner_piece-returns-in-Update-clause-piece : goal.inner_piece-returns-in-Update-clause-piece
+inner_piece-returns-in-Update-clause-piece t c =
+    update_arm c.args.scope.now (statement_of c.args.s.now) c.in-Update.at c.in-Update.op (lvalue_of c.in-Update.place)
+    (expression_of c.in-Update.value) c.update_code.result
+    (ap statement_of c.in-Update.is ∙ statement_update _ _ _ _) c.requires.stands c.update_code.ensures.law
+    c.update_code.ensures.marks c.update_code.ensures.size
+
+pub inner_piece-returns-in-Swap-clause-piece : goal.inner_piece-returns-in-Swap-clause-piece
+inner_piece-returns-in-Swap-clause-piece t c =
+    swap_arm c.args.scope.now (statement_of c.args.s.now) c.in-Swap.at (lvalue_of c.in-Swap.left)
+    (lvalue_of c.in-Swap.right) c.swap_code.result
+    (ap statement_of c.in-Swap.is ∙ statement_swap _ _ _) c.requires.stands c.swap_code.ensures.law
+    c.swap_code.ensures.marks c.swap_code.ensures.size
+
+pub inner_piece-returns-in-Call-clause-piece : goal.inner_piece-returns-in-Call-clause-piece
+inner_piece-returns-in-Call-clause-piece t c =
+    subst (λ z. IfOk c.call_piece.result (λ p. InnerPiece c.args.scope.now z p))
+    (sym (ap statement_of c.in-Call.is ∙ statement_call _ _ _ _ _
+    ∙ ap (λ z. Call c.in-Call.at c.in-Call.back (optional_lvalue_of c.in-Call.receiver) c.in-Call.method z)
+    (sym c.deref.ensures.value))) c.call_piece.ensures.piece
+
+pub inner_piece-new_code-requires : goal.inner_piece-new_code-requires
+inner_piece-new_code-requires t c = record {
+  room = new_room c.args.scope.now (statement_of c.args.s.now) c.in-New.at
+      (creation_of c.in-New.made) (lvalue_of c.in-New.place) (ap statement_of c.in-New.is ∙ statement_new _ _ _)
+      c.requires.stands;
+}
+
+pub inner_piece-new_code-requires-in-Delete : goal.inner_piece-new_code-requires-in-Delete
+inner_piece-new_code-requires-in-Delete t c = record {
+  room = delete_room c.args.scope.now (statement_of c.args.s.now) c.in-Delete.at
+      (creation_of c.in-Delete.made) (lvalue_of c.in-Delete.place)
+      (ap statement_of c.in-Delete.is ∙ statement_delete _ _ _) c.requires.stands;
+}
+
+pub inner_piece-copy_code-requires : goal.inner_piece-copy_code-requires
+inner_piece-copy_code-requires t c = record {
+  room = copy_room c.args.scope.now (statement_of c.args.s.now) c.in-Copy.at
+      c.in-Copy.kind (lvalue_of c.in-Copy.source) (lvalue_of c.in-Copy.target)
+      (ap statement_of c.in-Copy.is ∙ statement_copy _ _ _ _) c.requires.stands;
+}
+
+pub inner_piece-copy_code-requires-in-Uncopy : goal.inner_piece-copy_code-requires-in-Uncopy
+inner_piece-copy_code-requires-in-Uncopy t c = record {
+  room = uncopy_room c.args.scope.now (statement_of c.args.s.now) c.in-Uncopy.at
+      c.in-Uncopy.kind (lvalue_of c.in-Uncopy.source) (lvalue_of c.in-Uncopy.target)
+      (ap statement_of c.in-Uncopy.is ∙ statement_uncopy _ _ _ _) c.requires.stands;
+}
+
+pub inner_piece-returns-in-New-clause-piece : goal.inner_piece-returns-in-New-clause-piece
+inner_piece-returns-in-New-clause-piece t c =
+    new_arm c.args.scope.now (statement_of c.args.s.now) c.in-New.at (creation_of c.in-New.made)
+    (lvalue_of c.in-New.place) c.new_code.result
+    (ap statement_of c.in-New.is ∙ statement_new _ _ _) c.requires.stands c.new_code.ensures.law
+    c.new_code.ensures.marks c.new_code.ensures.size
+
+pub inner_piece-returns-in_ok-new-in-Delete-clause-piece : goal.inner_piece-returns-in_ok-new-in-Delete-clause-piece
+inner_piece-returns-in_ok-new-in-Delete-clause-piece t c =
+    delete_arm c.args.scope.now (statement_of c.args.s.now) c.in-Delete.at (creation_of c.in-Delete.made)
+    (lvalue_of c.in-Delete.place) c.in_ok-new-in-Delete.new c.mirror.result
+    (ap statement_of c.in-Delete.is ∙ statement_delete _ _ _) c.requires.stands c.in_ok-new-in-Delete.ensures.law
+    c.in_ok-new-in-Delete.ensures.size c.mirror.ensures.code
+
+pub inner_piece-returns-in-Copy-clause-piece : goal.inner_piece-returns-in-Copy-clause-piece
+inner_piece-returns-in-Copy-clause-piece t c =
+    copy_arm c.args.scope.now (statement_of c.args.s.now) c.in-Copy.at c.in-Copy.kind (lvalue_of c.in-Copy.source)
+    (lvalue_of c.in-Copy.target) c.copy_code.result
+    (ap statement_of c.in-Copy.is ∙ statement_copy _ _ _ _) c.requires.stands c.copy_code.ensures.law
+    c.copy_code.ensures.marks c.copy_code.ensures.size
+
+pub inner_piece-returns-in_ok-copy-in-Uncopy-clause-piece : goal.inner_piece-returns-in_ok-copy-in-Uncopy-clause-piece
+inner_piece-returns-in_ok-copy-in-Uncopy-clause-piece t c =
+    uncopy_arm c.args.scope.now (statement_of c.args.s.now) c.in-Uncopy.at c.in-Uncopy.kind
+    (lvalue_of c.in-Uncopy.source) (lvalue_of c.in-Uncopy.target) c.in_ok-copy-in-Uncopy.copy
+    c.mirror-in-Uncopy.result
+    (ap statement_of c.in-Uncopy.is ∙ statement_uncopy _ _ _ _) c.requires.stands c.in_ok-copy-in-Uncopy.ensures.law
+    c.in_ok-copy-in-Uncopy.ensures.size c.mirror-in-Uncopy.ensures.code
