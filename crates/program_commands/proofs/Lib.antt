@@ -5,5 +5,4 @@ pub mod Reported
 pub mod Turned
 pub mod ProgramTargets
 pub mod Sizes
-pub mod Telling
 pub mod Watched

@@ -20,8 +20,6 @@ use Rattle.store_report.specs.roopl_semantics.Run.{Run, Done as OverWith, Fault,
 use Rattle.store_report.specs.roopl_semantics.Store.{State}
 use Rattle.store_report.specs.roopl_semantics.Source.{source}
 use Rattle.command_plan.specs.pisa_loader.Limiting.{limits_refusal}
-use Rattle.store_report.specs.source_meaning.declared.whole.TheConstants.{MOST_OPEN}
-use Rattle.program_commands.specs.Explained.{explained, IsExplainedInput, IsExplainedWithin, IsExplainPlan, Explains}
 use Rattle.command_plan.proofs.Writes.{along}
 use Rattle.run_settings.proofs.RefusedRuns.{judged_writes, refused_writes}
 
@@ -100,31 +98,3 @@ pub profiles_file_writes : (before after : List Watch) (count counted : ℕ) (fi
     → WritesOnly p None
 profiles_file_writes before after count counted file heap deep steps told p h =
     profile_writes before after count counted h.text [] heap deep steps p h.holds
-
-explained_writes : (program : Source) (run : Run State) (p : Planned) → p ≡ explained program run → WritesOnly p None
-explained_writes program (OverWith end cost) p h = along p _ None h (inl refl)
-explained_writes program (Fault code cost) p h = along p _ None h (inl refl)
-explained_writes program More p h = along p _ None h (inl refl)
-
-explained_input_writes : (input : Result (List FieldWord) LoadError) (program : Source) (limits : Limits) (fuel : ℕ)
-    (p : Planned) → IsExplainedInput input program limits fuel p → WritesOnly p None
-explained_input_writes (Err e) program limits fuel p h = along p _ None h (inl refl)
-explained_input_writes (Ok input) program limits fuel p h =
-    explained_writes program (source program limits input fuel) p h
-
-explained_within_writes : (refusal : Option LoadError) (given : List ℕ) (program : Source) (limits : Limits) (fuel : ℕ)
-    (p : Planned) → IsExplainedWithin refusal given program limits fuel p → WritesOnly p None
-explained_within_writes (Some e) given program limits fuel p h = along p _ None h (inl refl)
-explained_within_writes None given program limits fuel p h =
-    explained_input_writes (given_input program given) program limits fuel p h
-
-explain_writes : (text given : List ℕ) (heap deep fuel : ℕ) (p : Planned) → IsExplainPlan text given heap deep fuel p
-    → WritesOnly p None
-explain_writes text given heap deep fuel p g =
-    judged_writes g.judgement _ None p (λ program q h. explained_within_writes (limits_refusal heap deep MOST_OPEN)
-    given program (record { heap = heap; deep = deep }) fuel q h) g.plan
-
-pub explains_writes : (file : List ℕ) (input : Option (List ℕ)) (heap deep fuel : ℕ) (told : Option Texts) (p : Planned)
-    → Explains file input heap deep fuel told p → WritesOnly p None
-explains_writes file input heap deep fuel told p h =
-    explain_writes h.text h.holds.text heap deep fuel p h.holds.holds

@@ -8,13 +8,11 @@ pub use Rattle.command_plan.specs.pisa_image
 pub use Rattle.command_plan.specs.pisa_loader
 pub use Rattle.command_plan.specs.pisa_scripts
 pub use Rattle.store_report.specs.roopl_semantics
-pub use Rattle.store_report.specs.meaning_points
 pub use Rattle.store_report.specs as store_report
 pub use Rattle.command_plan.specs as command_plan
 pub use Rattle.roopl_judge.specs as roopl_judge
 pub use Rattle.run_settings.specs as run_settings
 pub mod ProgramPlans
 pub mod GoRun
-pub mod Explained
 pub mod RunPlans
 pub mod ToldShort

@@ -11,7 +11,7 @@ use Rattle.image_commands.specs.DebugPlans.{IsDebugPlan}
 use Rattle.wrap_commands.specs.program_commands.ProgramPlans.{IsCheckPlan, IsCompilePlan}
 use Rattle.wrap_commands.specs.program_commands.RunPlans.{IsGoPlan, IsTurnPlan, IsProfilePlan}
 use Rattle.wrap_commands.specs.program_commands.ToldShort.{IsTurnShort, IsProfileShort}
-use Rattle.wrap_commands.specs.program_commands.Explained.{IsExplainPlan}
+use Rattle.explain_commands.specs.Explained.{IsExplainPlan}
 use Rattle.cluster_commands.specs.ClusterPlans.{IsClusterPlan, images_at}
 use Rattle.wrap_commands.specs.WrapPlans.{IsWrapPlan}
 use Rattle.trace_commands.specs.TracePlans.{IsTracePlan}

@@ -9,7 +9,7 @@ use Rattle.image_commands.specs.DebugPlans.{DebugsFile}
 use Rattle.wrap_commands.specs.program_commands.ProgramPlans.{ChecksFile, CompilesFile}
 use Rattle.wrap_commands.specs.program_commands.RunPlans.{GoesOn, TurnsFile, ProfilesFile}
 use Rattle.wrap_commands.specs.program_commands.ToldShort.{TurnsFileShort, ProfilesFileShort}
-use Rattle.wrap_commands.specs.program_commands.Explained.{Explains}
+use Rattle.explain_commands.specs.Explained.{Explains}
 use Rattle.cluster_commands.specs.ClusterPlans.{ClustersFiles}
 use Rattle.wrap_commands.specs.WrapPlans.{WrapsFile}
 use Rattle.trace_commands.specs.TracePlans.{Traces}

@@ -22,6 +22,7 @@ use crate::reading::wanted_files;
 use cluster_commands::cluster;
 use command_line::{Line, read_words};
 use command_plan::{Broken, NoPlan, Plan, Room, Sizes, Verdict, status_of};
+use explain_commands::explain;
 use image_commands::{asm, debug, flip, list, run};
 use pisa_machine::Steps;
 use rpp_ports::{Shelf, Sink};
@@ -31,7 +32,7 @@ use std::marker::Brand;
 use std::sync::ledger::{Blank, Ledger};
 use text_commands::{generate, show_inverse};
 use trace_commands::trace;
-use wrap_commands::{check, compile_file, explain, go, profile, turn, wrap};
+use wrap_commands::{check, compile_file, go, profile, turn, wrap};
 
 /// Does what the words say, and returns the status of the program.
 pub fn rooplpp<S: Shelf, K: Sink, P: Probes>(

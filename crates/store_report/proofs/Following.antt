@@ -25,7 +25,7 @@ use Rattle.pisa_machine.specs.pisa_isa.Loaded.{statics_at}
 use Rattle.pisa_machine.specs.pisa_isa.Machine.{word_at}
 use Rattle.refine_frame.specs.meaning_sound.Sound.{is_live, Descending, AllFit, cell_kinds}
 use Rattle.refine_frame.proofs.meaning_sound_laws.Stores.{live_object, holders_inside}
-use Rattle.source_meaning.proofs.meaning_reached_laws.Numbering.{unmet, unmet_all, new_count}
+use Rattle.meaning_reached.proofs.Numbering.{unmet, unmet_all, new_count}
 use Rattle.store_report.specs.Told.{values_told, head_told, object_told, address_of, lines_told, report_told}
 use Rattle.store_report.proofs.Texts.{AllGood, ValueGood, ValuesGood, number_there, fields_there, lines_there}
 use Rattle.store_report.proofs.Telling.{IsGood, Facts, there, kind_told, told_apart, head_is_told, Match, Rel}

@@ -27,7 +27,7 @@ use Rattle.refine_frame.specs.Open.{Setup, base_of, address_of, memory, IsGround
 use Rattle.refine_frame.proofs.Memory.{base_above, address_other, read_main, read_part, memory_length, memory_is_layout}
 use Rattle.refine_frame.proofs.Tells.{IsReference, name_word, names_tell, read_head, read_count}
 use Rattle.refine_frame.proofs.Entering.{setup, starting_grounded, grounded_on}
-use Rattle.source_meaning.proofs.meaning_reached_laws.Final.{reached_store, starting_reaches, ends_reached}
+use Rattle.meaning_reached.proofs.Final.{reached_store, starting_reaches, ends_reached}
 use Rattle.store_report.specs.Told.{report_told}
 use Rattle.store_report.specs.Memory.{IsMemoryOf, IsFirstMemoryOf}
 use Rattle.store_report.proofs.Telling.{IsGood, Facts}

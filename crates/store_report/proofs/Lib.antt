@@ -8,5 +8,3 @@ pub mod Counting
 pub mod Grounding
 pub mod Leading
 pub mod Placed
-pub mod Walked
-pub mod Lining

@@ -1,7 +1,5 @@
 pub use Rattle.pisa_machine.specs as pisa_machine
 pub use Rattle.static_layout.specs.roopl_semantics
-pub use Rattle.source_meaning.specs.meaning_points
-pub use Rattle.source_meaning.specs as source_meaning
 pub mod Ascii
 pub mod Memory
 pub mod Told

@@ -1,14 +1,12 @@
-//! The printed reports of a store, and of a machine's memory. The report of a memory follows the
-//! references in its cells. The layers above may use `report` and `report_store`, and
-//! `specs/Told.antt`, which says what any memory means.
+//! The printed report of a machine's memory. It follows the references in the cells. The layers
+//! above may use `report`, the lines that a report of a store has too, and `specs/Told.antt`, which
+//! says what any memory means.
 #![tactic(auto)]
 
 mod leads;
 mod lines;
-mod meeting;
 mod memories;
-mod stores;
 mod walking;
 
+pub use lines::{add_bytes, add_live, add_name, add_word, class_name};
 pub use memories::report;
-pub use stores::report_store;

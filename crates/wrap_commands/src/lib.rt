@@ -11,4 +11,4 @@ mod running;
 mod shown;
 
 pub use planning::wrap;
-pub use program_commands::{check, compile_file, explain, go, profile, turn};
+pub use program_commands::{check, compile_file, go, profile, turn};

@@ -1,0 +1,4 @@
+pub mod Walked
+pub mod Lining
+pub mod Telling
+pub mod ExplainTargets

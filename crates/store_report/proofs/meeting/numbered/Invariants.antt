@@ -1,5 +1,0 @@
-use Rattle.store_report.proofs.Walked.{IsWalking}
-use Rattle.store_report.proofs.meeting.numbered.Given as goal
-
-abbrev pub invariant-loop-next : goal.invariant-loop-next
-invariant-loop-next l = IsWalking l.heap.store l.size l.next l.names.keys

@@ -1,5 +1,0 @@
-use Rattle.std.proofs.Common.{◌∙◌, ap}
-use Rattle.store_report.proofs.stores.main_class.Goals as goal
-
-pub returns : goal.returns
-returns c = ap (λ m. m.class) (c.main-main.ensures ∙ ap (λ t. t.main) c.table-table.ensures.table)
