@@ -27,14 +27,22 @@ pub data Asked : Type 0 where
   ShowInverse : (file out : List ℕ) → Asked
   Generate : (seed size : ℕ) (out : List ℕ) → Asked
   Cluster : (script : List ℕ) (cells : ℕ) (images : List (List ℕ)) → Asked
-  RunImage : (image : List ℕ) (heap deep steps : ℕ) (state save : Option (List ℕ)) → Asked
-  Debug : (image : List ℕ) (heap deep : ℕ) (script : List ℕ) → Asked
-  Trace : (file : List ℕ) (heap deep : ℕ) (script : List ℕ) (input : Option (List ℕ)) → Asked
-  Go : (file : List ℕ) (heap deep steps : ℕ) (input : Option (List ℕ)) → Asked
-  Turn : (file : List ℕ) (heap deep steps : ℕ) (input : Option (List ℕ)) → Asked
-  Profile : (file : List ℕ) (heap deep steps : ℕ) → Asked
-  Wrap : (file : List ℕ) (heap deep steps : ℕ) (names : List ℕ) (input : Option (List ℕ)) → Asked
-  Explain : (file : List ℕ) (heap deep fuel : ℕ) (input : Option (List ℕ)) → Asked
+  RunImage : (image : List ℕ) (sizes : Sizes) (state save : Option (List ℕ)) → Asked
+  Debug : (image : List ℕ) (room : Room) (script : List ℕ) → Asked
+  Trace : (file : List ℕ) (room : Room) (script : List ℕ) (input : Option (List ℕ)) → Asked
+  Go : (file : List ℕ) (sizes : Sizes) (input : Option (List ℕ)) → Asked
+  Turn : (file : List ℕ) (sizes : Sizes) (input : Option (List ℕ)) → Asked
+  Profile : (file : List ℕ) (sizes : Sizes) → Asked
+  Wrap : (file : List ℕ) (sizes : Sizes) (names : List ℕ) (input : Option (List ℕ)) → Asked
+  Explain : (file : List ℕ) (sizes : Sizes) (input : Option (List ℕ)) → Asked
+
+-- H and D as a line has them
+abbrev pub room_at : (heap deep : ℕ) → Room
+room_at heap deep = record { heap = heap; deep = deep }
+
+-- H, D and STEPS as a line has them
+abbrev pub sizes_at : (heap deep steps : ℕ) → Sizes
+sizes_at heap deep steps = record { room = room_at heap deep; bound = steps }
 
 abbrev pub asked : Line → Asked
 asked (line.Check file) = Check (string_bytes file)
@@ -47,20 +55,24 @@ asked (line.Generate seed size out) = Generate seed size (string_bytes out)
 asked (line.Cluster script cells images) =
     Cluster (string_bytes script) cells (map string_bytes images.items)
 asked (line.Run image heap deep steps names) =
-    RunImage (string_bytes image) heap deep steps (state_of_names names) (save_of_names names)
-asked (line.Debug image heap deep script) = Debug (string_bytes image) heap deep
-    (string_bytes script)
+    RunImage (string_bytes image) (sizes_at heap deep steps) (state_of_names names)
+    (save_of_names names)
+asked (line.Debug image heap deep script) =
+    Debug (string_bytes image) (room_at heap deep) (string_bytes script)
 asked (line.Trace file heap deep script input) =
-    Trace (string_bytes file) heap deep (string_bytes script) (option_map string_bytes input)
+    Trace (string_bytes file) (room_at heap deep) (string_bytes script)
+    (option_map string_bytes input)
 asked (line.Go file heap deep steps input) =
-    Go (string_bytes file) heap deep steps (option_map string_bytes input)
+    Go (string_bytes file) (sizes_at heap deep steps) (option_map string_bytes input)
 asked (line.Turn file heap deep steps input) =
-    Turn (string_bytes file) heap deep steps (option_map string_bytes input)
-asked (line.Profile file heap deep steps) = Profile (string_bytes file) heap deep steps
+    Turn (string_bytes file) (sizes_at heap deep steps) (option_map string_bytes input)
+asked (line.Profile file heap deep steps) =
+    Profile (string_bytes file) (sizes_at heap deep steps)
 asked (line.Wrap file heap deep steps names input) =
-    Wrap (string_bytes file) heap deep steps (string_bytes names) (option_map string_bytes input)
+    Wrap (string_bytes file) (sizes_at heap deep steps) (string_bytes names)
+    (option_map string_bytes input)
 asked (line.Explain file heap deep fuel input) =
-    Explain (string_bytes file) heap deep fuel (option_map string_bytes input)
+    Explain (string_bytes file) (sizes_at heap deep fuel) (option_map string_bytes input)
 
 -- the number that the digits of a word write
 unfoldable pub number_of : List ℕ → Option ℕ
@@ -88,13 +100,13 @@ abbrev pub sizes_of : (heap deep steps : List ℕ) → Option Sizes
 sizes_of heap deep steps = sizes_with (room_of heap deep) (number_of steps)
 
 -- a file, the sizes of a run, and the file of an input, if there is one
-abbrev pub program_with : (List ℕ → (heap deep steps : ℕ) → Option (List ℕ) → Asked)
+abbrev pub program_with : (List ℕ → Sizes → Option (List ℕ) → Asked)
     → List ℕ → Option Sizes → Option (List ℕ) → Option Asked
 program_with make file (Some sizes) input =
-    Some (make file sizes.room.heap sizes.room.deep sizes.bound input)
+    Some (make file sizes input)
 program_with make file None input = None
 
-abbrev pub program_line_of : (List ℕ → (heap deep steps : ℕ) → Option (List ℕ) → Asked)
+abbrev pub program_line_of : (List ℕ → Sizes → Option (List ℕ) → Asked)
     → List (List ℕ) → Option Asked
 program_line_of make (file ∷ heap ∷ deep ∷ steps ∷ []) =
     program_with make file (sizes_of heap deep steps) None
@@ -103,7 +115,7 @@ program_line_of make (file ∷ heap ∷ deep ∷ steps ∷ input ∷ []) =
 program_line_of make _ = None
 
 -- the line of each command of these words
-abbrev pub line_of_program : ProgramCommand → List ℕ → (heap deep steps : ℕ) → Option (List ℕ)
+abbrev pub line_of_program : ProgramCommand → List ℕ → Sizes → Option (List ℕ)
     → Asked
 line_of_program program.Go = Go
 line_of_program program.Turn = Turn
@@ -111,7 +123,7 @@ line_of_program program.Explain = Explain
 
 -- a file, and the sizes of a run
 abbrev pub profile_with : List ℕ → Option Sizes → Option Asked
-profile_with file (Some sizes) = Some (Profile file sizes.room.heap sizes.room.deep sizes.bound)
+profile_with file (Some sizes) = Some (Profile file sizes)
 profile_with file None = None
 
 abbrev pub profile_line_of : List (List ℕ) → Option Asked
@@ -121,7 +133,7 @@ profile_line_of _ = None
 -- a file, the sizes of a run, the names of results, and the file of an input, if there is one
 abbrev pub wrap_with : List ℕ → Option Sizes → (names : List ℕ) → Option (List ℕ) → Option Asked
 wrap_with file (Some sizes) names input =
-    Some (Wrap file sizes.room.heap sizes.room.deep sizes.bound names input)
+    Some (Wrap file sizes names input)
 wrap_with file None names input = None
 
 abbrev pub wrap_line_of : List (List ℕ) → Option Asked
@@ -134,7 +146,7 @@ wrap_line_of _ = None
 -- an image, the sizes of a run, and the files of two states, if there are such
 abbrev pub run_with : List ℕ → Option Sizes → (state save : Option (List ℕ)) → Option Asked
 run_with image (Some sizes) state save =
-    Some (RunImage image sizes.room.heap sizes.room.deep sizes.bound state save)
+    Some (RunImage image sizes state save)
 run_with image None state save = None
 
 abbrev pub run_line_of : List (List ℕ) → Option Asked
@@ -169,7 +181,7 @@ cluster_line_of _ = None
 
 -- an image, the sizes of a memory, and the file of a script
 abbrev pub debug_with : List ℕ → Option Room → List ℕ → Option Asked
-debug_with image (Some room) script = Some (Debug image room.heap room.deep script)
+debug_with image (Some room) script = Some (Debug image room script)
 debug_with image None script = None
 
 abbrev pub debug_line_of : List (List ℕ) → Option Asked
@@ -178,7 +190,7 @@ debug_line_of _ = None
 
 -- a program, the sizes of a memory, the file of a script, and that of an input, if there is one
 abbrev pub trace_with : List ℕ → Option Room → (script : List ℕ) → Option (List ℕ) → Option Asked
-trace_with file (Some room) script input = Some (Trace file room.heap room.deep script input)
+trace_with file (Some room) script input = Some (Trace file room script input)
 trace_with file None script input = None
 
 abbrev pub trace_line_of : List (List ℕ) → Option Asked
@@ -253,17 +265,11 @@ HasShortNumbers (ShowInverse file out) = Unit {0}
 HasShortNumbers (Generate seed size out) = Unit {0}
 HasShortNumbers (Cluster script cells images) = (1 ≤ length images) × (length images ≤ 8)
     × (1 ≤ cells) × (cells ≤ 65536)
-HasShortNumbers (RunImage image heap deep steps state save) = (heap < 10 ^ 18) × (deep < 10 ^ 18)
-    × (steps < 10 ^ 18)
-HasShortNumbers (Debug image heap deep script) = (heap < 10 ^ 18) × (deep < 10 ^ 18)
-HasShortNumbers (Trace file heap deep script input) = (heap < 10 ^ 18) × (deep < 10 ^ 18)
-HasShortNumbers (Go file heap deep steps input) =
-    (heap < 10 ^ 18) × (deep < 10 ^ 18) × (steps < 10 ^ 18)
-HasShortNumbers (Turn file heap deep steps input) = (heap < 10 ^ 18) × (deep < 10 ^ 18)
-    × (steps < 10 ^ 18)
-HasShortNumbers (Profile file heap deep steps) =
-    (heap < 10 ^ 18) × (deep < 10 ^ 18) × (steps < 10 ^ 18)
-HasShortNumbers (Wrap file heap deep steps names input) = (heap < 10 ^ 18) × (deep < 10 ^ 18)
-    × (steps < 10 ^ 18)
-HasShortNumbers (Explain file heap deep fuel input) = (heap < 10 ^ 18) × (deep < 10 ^ 18)
-    × (fuel < 10 ^ 18)
+HasShortNumbers (RunImage image sizes state save) = HasShortSizes sizes
+HasShortNumbers (Debug image room script) = HasShortRoom room
+HasShortNumbers (Trace file room script input) = HasShortRoom room
+HasShortNumbers (Go file sizes input) = HasShortSizes sizes
+HasShortNumbers (Turn file sizes input) = HasShortSizes sizes
+HasShortNumbers (Profile file sizes) = HasShortSizes sizes
+HasShortNumbers (Wrap file sizes names input) = HasShortSizes sizes
+HasShortNumbers (Explain file sizes input) = HasShortSizes sizes

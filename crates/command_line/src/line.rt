@@ -394,8 +394,8 @@ fn program_with(
 
 fn with_sizes(command: ProgramCommand, file: String, sizes: Sizes, input: Option<String>) -> Line
     requires { HasShortSizes sizes }
-    ensures line { asked result ≡ line_of_program command (string_bytes file) sizes.room.heap
-        sizes.room.deep sizes.bound (option_map string_bytes input) }
+    ensures line { asked result ≡ line_of_program command (string_bytes file) sizes
+        (option_map string_bytes input) }
     ensures numbers { HasShortNumbers (asked result) }
 {
     match command {

@@ -5,6 +5,7 @@ use Rattle.std.specs.Prelude.{Result}
 use Rattle.roopl_judge.specs.rpp_words.declared.input.FieldWord.{FieldWord}
 use Rattle.roopl_judge.specs.rpp_words.declared.input.Limits.{Limits}
 use Rattle.roopl_judge.specs.rpp_tree.Tree.{Source}
+use Rattle.command_plan.specs.declared.plan.Sizes.{Sizes}
 use Rattle.command_plan.specs.rpp_ports.Ports.{Texts}
 use Rattle.command_plan.specs.pisa_loader.Limiting.{limits_refusal}
 use Rattle.command_plan.specs.pisa_loader.declared.error.LoadError.{LoadError}
@@ -35,13 +36,14 @@ explained_within_writes (Some e) given program limits fuel p h = along p _ None 
 explained_within_writes None given program limits fuel p h =
     explained_input_writes (given_input program given) program limits fuel p h
 
-explain_writes : (text given : List ℕ) (heap deep fuel : ℕ) (p : Planned) → IsExplainPlan text given heap deep fuel p
+explain_writes : (text given : List ℕ) (sizes : Sizes) (p : Planned) → IsExplainPlan text given sizes p
     → WritesOnly p None
-explain_writes text given heap deep fuel p g =
-    judged_writes g.judgement _ None p (λ program q h. explained_within_writes (limits_refusal heap deep MOST_OPEN)
-    given program (record { heap = heap; deep = deep }) fuel q h) g.plan
+explain_writes text given sizes p g =
+    judged_writes g.judgement _ None p (λ program q h. explained_within_writes
+    (limits_refusal sizes.room.heap sizes.room.deep MOST_OPEN)
+    given program (record { heap = sizes.room.heap; deep = sizes.room.deep }) sizes.bound q h) g.plan
 
-pub explains_writes : (file : List ℕ) (input : Option (List ℕ)) (heap deep fuel : ℕ) (told : Option Texts) (p : Planned)
-    → Explains file input heap deep fuel told p → WritesOnly p None
-explains_writes file input heap deep fuel told p h =
-    explain_writes h.text h.holds.text heap deep fuel p h.holds.holds
+pub explains_writes : (file : List ℕ) (input : Option (List ℕ)) (sizes : Sizes) (told : Option Texts) (p : Planned)
+    → Explains file input sizes told p → WritesOnly p None
+explains_writes file input sizes told p h =
+    explain_writes h.text h.holds.text sizes p h.holds.holds

@@ -7,6 +7,7 @@ use Rattle.roopl_judge.specs.rpp_words.declared.input.FieldWord.{FieldWord}
 use Rattle.roopl_judge.specs.rpp_words.declared.input.Limits.{Limits}
 use Rattle.roopl_judge.specs.rpp_tree.declared.limits.TheConstants.{MOST_BYTES}
 use Rattle.roopl_judge.specs.rpp_tree.Tree.{Source}
+use Rattle.command_plan.specs.declared.plan.Sizes.{Sizes}
 use Rattle.command_plan.specs.rpp_ports.Ports.{Texts}
 use Rattle.command_plan.specs.pisa_loader.Limiting.{limits_refusal}
 use Rattle.command_plan.specs.pisa_loader.declared.error.LoadError.{LoadError}
@@ -55,15 +56,16 @@ IsExplainedWithin (Some e) given program limits fuel p = p ≡ prints InputRefus
 IsExplainedWithin None given program limits fuel p =
     IsExplainedInput (given_input program given) program limits fuel p
 
-abbrev pub IsExplainPlan : (text given : List ℕ) → (heap deep fuel : ℕ) → Planned → Type 0
-IsExplainPlan text given heap deep fuel p =
-    IsJudgedPlan text (λ program. IsExplainedWithin (limits_refusal heap deep MOST_OPEN) given
-    program (record { heap = heap; deep = deep }) fuel) p
+abbrev pub IsExplainPlan : (text given : List ℕ) → (sizes : Sizes) → Planned → Type 0
+IsExplainPlan text given sizes p =
+    IsJudgedPlan text (λ program. IsExplainedWithin
+    (limits_refusal sizes.room.heap sizes.room.deep MOST_OPEN) given
+    program (record { heap = sizes.room.heap; deep = sizes.room.deep }) sizes.bound) p
 
 -- the plan of `explain` of this file, on an input if there is one
-abbrev pub Explains : (file : List ℕ) → (input : Option (List ℕ)) → (heap deep fuel : ℕ)
+abbrev pub Explains : (file : List ℕ) → (input : Option (List ℕ)) → (sizes : Sizes)
     → Option Texts
     → Planned → Type 0
-Explains file input heap deep fuel told p =
+Explains file input sizes told p =
     WithText told file MOST_BYTES
-    (λ text. WithInput told input (λ given. IsExplainPlan text given heap deep fuel p))
+    (λ text. WithInput told input (λ given. IsExplainPlan text given sizes p))

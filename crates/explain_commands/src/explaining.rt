@@ -36,8 +36,7 @@ pub fn explain<S: Shelf>(
     sizes: Sizes,
 ) -> Result<Plan, NoPlan>
     ensures plan { GivesPlan (S.texts shelf.old)
-        (Explains file.now (option_map string_bytes input.now) sizes.room.heap sizes.room.deep
-        sizes.bound) result }
+        (Explains file.now (option_map string_bytes input.now) sizes) result }
     ensures reads { OnlyReads (S.texts shelf.old) (S.texts shelf.new) (S.faults shelf.old)
         (S.faults shelf.new)
         (source file.now ∷ input_files (option_map string_bytes input.now)) result }
@@ -49,8 +48,7 @@ pub fn explain<S: Shelf>(
 fn explain_text(alloc: Global, text: &[u8], given: &[u8], sizes: Sizes) -> Result<Plan, NoMemory>
     requires text { length text.now ≤ MOST_BYTES }
     requires given { length given.now ≤ MOST_INPUT }
-    ensures { IfOk result (λ plan. IsExplainPlan text.now given.now sizes.room.heap sizes.room.deep
-        sizes.bound (planned plan)) }
+    ensures { IfOk result (λ plan. IsExplainPlan text.now given.now sizes (planned plan)) }
 {
     match judge(alloc, text) {
         Ok(checked) => explain_within(alloc, &checked, given, sizes),

@@ -2,6 +2,8 @@
 use Rattle.std.proofs.Common.{◌≡◌, ℕ, List, None, Some, Ok, Err, inl, inr, option_map, refl}
 use Rattle.std.specs.declared.option.Option.{Option}
 use Rattle.std.specs.Prelude.{Result}
+use Rattle.command_plan.specs.declared.plan.Room.{Room}
+use Rattle.command_plan.specs.declared.plan.Sizes.{Sizes}
 use Rattle.command_plan.specs.rpp_words.declared.input.Limits.{Limits}
 use Rattle.command_plan.specs.rpp_ports.Ports.{Texts}
 use Rattle.command_plan.specs.pisa_loader.declared.error.LoadError.{LoadError}
@@ -64,10 +66,10 @@ sized_writes (Some e) n limits state save steps count counted p h = along p _ sa
 sized_writes None n limits state save steps count counted p h =
     ran_writes (first_of n.image limits state) n.notes save steps count counted p h
 
-run_writes : (read : Result NotedImage ImageError) (heap deep steps : ℕ) (state save : Option (List ℕ))
-    (count counted : ℕ) (p : Planned) → IsRunPlan read heap deep steps state save count counted p → WritesOnly p save
-run_writes read heap deep steps state save count counted p h = run_image_writes read _ save count counted p
-    (λ n q k. sized_writes _ n _ state save steps count counted q k) h
+run_writes : (read : Result NotedImage ImageError) (sizes : Sizes) (state save : Option (List ℕ))
+    (count counted : ℕ) (p : Planned) → IsRunPlan read sizes state save count counted p → WritesOnly p save
+run_writes read sizes state save count counted p h = run_image_writes read _ save count counted p
+    (λ n q k. sized_writes _ n _ state save sizes.bound count counted q k) h
 
 pub assembles_file_writes : (text image : List ℕ) (told : Option Texts) (p : Planned) → AssemblesFile text image told p
     → WritesOnly p (Some image)
@@ -81,11 +83,11 @@ pub flips_file_writes : (image flipped : List ℕ) (told : Option Texts) (p : Pl
     → WritesOnly p (Some flipped)
 flips_file_writes image flipped told p h = flip_writes (image_at h.text) flipped p h.holds
 
-pub runs_file_writes : (image : List ℕ) (heap deep steps : ℕ) (state save : Option (List ℕ)) (count counted : ℕ)
-    (told : Option Texts) (p : Planned) → RunsFile image heap deep steps state save count counted told p
+pub runs_file_writes : (image : List ℕ) (sizes : Sizes) (state save : Option (List ℕ)) (count counted : ℕ)
+    (told : Option Texts) (p : Planned) → RunsFile image sizes state save count counted told p
     → WritesOnly p save
-runs_file_writes image heap deep steps state save count counted told p h =
-    run_writes (image_at h.text) heap deep steps h.holds.text save count counted p h.holds.holds
+runs_file_writes image sizes state save count counted told p h =
+    run_writes (image_at h.text) sizes h.holds.text save count counted p h.holds.holds
 
 script_writes : (read : Result (List Command) ScriptError) (image : Segments) (limits : Limits) (count counted : ℕ)
     (p : Planned) → IsScriptPlan read image limits count counted p → WritesOnly p None
@@ -99,12 +101,12 @@ room_writes (Some e) image limits script count counted p h = along p _ None h.0 
 room_writes None image limits script count counted p h =
     script_writes (script_of script) image limits count counted p h
 
-debug_writes : (read : Result NotedImage ImageError) (heap deep : ℕ) (script : List ℕ) (count counted : ℕ)
-    (p : Planned) → IsDebugPlan read heap deep script count counted p → WritesOnly p None
-debug_writes read heap deep script count counted p h = run_image_writes read _ None count counted p
+debug_writes : (read : Result NotedImage ImageError) (room : Room) (script : List ℕ) (count counted : ℕ)
+    (p : Planned) → IsDebugPlan read room script count counted p → WritesOnly p None
+debug_writes read room script count counted p h = run_image_writes read _ None count counted p
     (λ image q k. room_writes _ image.image _ script count counted q k) h
 
-pub debugs_file_writes : (image : List ℕ) (heap deep : ℕ) (script : List ℕ) (count counted : ℕ)
-    (told : Option Texts) (p : Planned) → DebugsFile image heap deep script count counted told p → WritesOnly p None
-debugs_file_writes image heap deep script count counted told p h =
-    debug_writes (image_at h.text) heap deep h.holds.text count counted p h.holds.holds
+pub debugs_file_writes : (image : List ℕ) (room : Room) (script : List ℕ) (count counted : ℕ)
+    (told : Option Texts) (p : Planned) → DebugsFile image room script count counted told p → WritesOnly p None
+debugs_file_writes image room script count counted told p h =
+    debug_writes (image_at h.text) room h.holds.text count counted p h.holds.holds

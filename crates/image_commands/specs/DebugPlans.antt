@@ -2,6 +2,7 @@
 -- `counted` as it is left.
 use Rattle.std.specs.Prelude.{◌≡◌, ◌⊎◌, ℕ, ◌+◌, List, [], take, None, Some, Result, Ok, Err}
 use Rattle.std.specs.declared.option.Option.{Option}
+use Rattle.command_plan.specs.declared.plan.Room.{Room}
 use Rattle.command_plan.specs.rpp_words.declared.input.Limits.{Limits}
 use Rattle.command_plan.specs.rpp_words.declared.input.TheConstants.{MOST_DEEP}
 use Rattle.command_plan.specs.rpp_ports.Ports.{Texts}
@@ -52,19 +53,19 @@ IsRoomPlan (Some e) image limits script count counted p =
 IsRoomPlan None image limits script count counted p =
     IsScriptPlan (script_of script) image limits count counted p
 
-abbrev pub IsDebugPlan : Result NotedImage ImageError → (heap deep : ℕ) → (script : List ℕ)
+abbrev pub IsDebugPlan : Result NotedImage ImageError → (room : Room) → (script : List ℕ)
     → (count counted : ℕ) → Planned → Type 0
-IsDebugPlan read heap deep script count counted p =
-    OfRunImage count counted (λ n. IsRoomPlan (limits_refusal heap deep MOST_DEEP) n.image
-    (record { heap = heap; deep = deep }) script count counted) read p
+IsDebugPlan read room script count counted p =
+    OfRunImage count counted (λ n. IsRoomPlan (limits_refusal room.heap room.deep MOST_DEEP) n.image
+    (record { heap = room.heap; deep = room.deep }) script count counted) read p
 
 -- the plan of `debug` of this file, by the script of another
-abbrev pub DebugsFile : (image : List ℕ) → (heap deep : ℕ) → (script : List ℕ)
+abbrev pub DebugsFile : (image : List ℕ) → (room : Room) → (script : List ℕ)
     → (count counted : ℕ) → Option Texts → Planned → Type 0
-DebugsFile image heap deep script count counted told p =
+DebugsFile image room script count counted told p =
     WithText told image MOST_IMAGE
     (λ bytes. WithText told script MOST_SCRIPT
-    (λ text. IsDebugPlan (image_at bytes) heap deep text count counted p))
+    (λ text. IsDebugPlan (image_at bytes) room text count counted p))
 
 -- the counter if memory runs out: some first commands made their moves, and no others did
 pub record MovesSome (commands : List Command) (first : Position) (count counted : ℕ) : Type 0 where
@@ -83,18 +84,19 @@ IsRoomShort (Some e) image limits script count counted = ⊥
 IsRoomShort None image limits script count counted =
     IsScriptShort (script_of script) image limits count counted
 
-abbrev pub IsDebugShort : Result NotedImage ImageError → (heap deep : ℕ) → (script : List ℕ)
+abbrev pub IsDebugShort : Result NotedImage ImageError → (room : Room) → (script : List ℕ)
     → (count counted : ℕ) → Type 0
-IsDebugShort (Err e) heap deep script count counted = ⊥
-IsDebugShort (Ok n) heap deep script count counted =
-    IsRoomShort (limits_refusal heap deep MOST_DEEP) n.image (record { heap = heap; deep = deep })
+IsDebugShort (Err e) room script count counted = ⊥
+IsDebugShort (Ok n) room script count counted =
+    IsRoomShort (limits_refusal room.heap room.deep MOST_DEEP) n.image
+    (record { heap = room.heap; deep = room.deep })
     script count counted
 
 -- no step was made, or those of some first commands of the script
-abbrev pub DebugsFileShort : (image : List ℕ) → (heap deep : ℕ) → (script : List ℕ)
+abbrev pub DebugsFileShort : (image : List ℕ) → (room : Room) → (script : List ℕ)
     → (count counted : ℕ) → Option Texts → Type 0
-DebugsFileShort image heap deep script count counted told =
+DebugsFileShort image room script count counted told =
     (counted ≡ count)
     ⊎ WithText told image MOST_IMAGE
     (λ bytes. WithText told script MOST_SCRIPT
-    (λ text. IsDebugShort (image_at bytes) heap deep text count counted))
+    (λ text. IsDebugShort (image_at bytes) room text count counted))

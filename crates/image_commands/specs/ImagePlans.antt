@@ -2,6 +2,7 @@
 -- counter as it is passed, and `counted` as it is left.
 use Rattle.std.specs.Prelude.{◌≡◌, ℕ, ◌+◌, List, [], length, None, Some, Result, Ok, Err, codes}
 use Rattle.std.specs.declared.option.Option.{Option}
+use Rattle.command_plan.specs.declared.plan.Sizes.{Sizes}
 use Rattle.command_plan.specs.rpp_ports.Ports.{Texts}
 use Rattle.command_plan.specs.pisa_image.Reading.{image_at}
 use Rattle.command_plan.specs.pisa_asm.declared.assembler.TheConstants.{MOST_TEXT}
@@ -9,7 +10,8 @@ use Rattle.command_plan.specs.pisa_asm.Passes.{noted_of_text}
 use Rattle.command_plan.specs.declared.reading.TheConstants.{MOST_IMAGE}
 use Rattle.command_plan.specs.rpp_words.declared.input.Limits.{Limits}
 use Rattle.image_inverter.specs.pisa_isa.declared.machine.Stop.{Stop}
-use Rattle.image_inverter.specs.pisa_isa.declared.machine.Stop.TheVariants.{Finished, Trap, Bound as AtBound}
+use Rattle.image_inverter.specs.pisa_isa.declared.machine.Stop.TheVariants.{Finished, Trap}
+use Rattle.image_inverter.specs.pisa_isa.declared.machine.Stop.TheVariants.{Bound as AtBound}
 use Rattle.image_inverter.specs.pisa_isa.Image.{Segments}
 use Rattle.image_inverter.specs.pisa_isa.Notes.{NoteLists, NotedImage, flipped_noted}
 use Rattle.command_plan.specs.pisa_image.declared.error.ImageError.{ImageError}
@@ -91,10 +93,12 @@ IsSizedPlan None n limits state save steps count counted p =
     IsRanPlan (first_of n.image limits state) n.notes save steps count counted p
 
 abbrev pub IsRunPlan : Result NotedImage ImageError
-    → (heap deep steps : ℕ) (state save : Option (List ℕ)) → (count counted : ℕ) → Planned → Type 0
-IsRunPlan read heap deep steps state save count counted p =
-    OfRunImage count counted (λ n. IsSizedPlan (limits_refusal heap deep MOST_DEEP) n
-    (record { heap = heap; deep = deep }) state save steps count counted) read p
+    → (sizes : Sizes) (state save : Option (List ℕ)) → (count counted : ℕ) → Planned → Type 0
+IsRunPlan read sizes state save count counted p =
+    OfRunImage count counted (λ n. IsSizedPlan (limits_refusal sizes.room.heap sizes.room.deep
+    MOST_DEEP) n
+    (record { heap = sizes.room.heap; deep = sizes.room.deep }) state save sizes.bound count
+    counted) read p
 
 -- the image that an assembly text writes is written with its debug information, or its first
 -- refusal is reported
@@ -130,9 +134,9 @@ FlipsFile image flipped told p =
     WithText told image MOST_IMAGE (λ bytes. IsFlipPlan (image_at bytes) flipped p)
 
 -- the plan of `run` of this file, from a state if one is named, to one if it is to be saved
-abbrev pub RunsFile : (image : List ℕ) → (heap deep steps : ℕ) → (state save : Option (List ℕ))
+abbrev pub RunsFile : (image : List ℕ) → (sizes : Sizes) → (state save : Option (List ℕ))
     → (count counted : ℕ) → Option Texts → Planned → Type 0
-RunsFile image heap deep steps state save count counted told p =
+RunsFile image sizes state save count counted told p =
     WithText told image MOST_IMAGE
-    (λ bytes. WithState told state (λ given. IsRunPlan (image_at bytes) heap deep steps given
+    (λ bytes. WithState told state (λ given. IsRunPlan (image_at bytes) sizes given
     save count counted p))

@@ -37,9 +37,9 @@ pub fn debug<S: Shelf, L: Ledger>(
     steps: &mut Steps<L>,
 ) -> Result<Plan, NoPlan>
     ensures plan { GivesPlan (S.texts shelf.old)
-        (DebugsFile image.now room.heap room.deep script.now steps.old steps.new) result }
+        (DebugsFile image.now room script.now steps.old steps.new) result }
     ensures unread { IfErr result (UnreadCause (steps.new ≡ steps.old)) }
-    ensures short { IfErr result (λ _. DebugsFileShort image.now room.heap room.deep script.now
+    ensures short { IfErr result (λ _. DebugsFileShort image.now room script.now
         steps.old steps.new (S.texts shelf.old)) }
     ensures reads { OnlyReads (S.texts shelf.old) (S.texts shelf.new) (S.faults shelf.old)
         (S.faults shelf.new)
@@ -64,10 +64,10 @@ fn debug_over<L: Ledger>(
     steps: &mut Steps<L>,
 ) -> Result<Plan, NoMemory>
     requires { length script.now ≤ MOST_SCRIPT }
-    ensures plan { IfOk result (λ plan. IsDebugPlan (image_at bytes.now) room.heap room.deep
+    ensures plan { IfOk result (λ plan. IsDebugPlan (image_at bytes.now) room
         script.now steps.old steps.new (planned plan)) }
     ensures short { IfErr result (λ _. (steps.new ≡ steps.old)
-        ⊎ IsDebugShort (image_at bytes.now) room.heap room.deep script.now steps.old steps.new) }
+        ⊎ IsDebugShort (image_at bytes.now) room script.now steps.old steps.new) }
 {
     match read_image(alloc, bytes) {
         Ok(noted) => debug_sized(alloc, noted.into_parts().0, script, room, steps),

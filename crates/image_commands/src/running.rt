@@ -36,7 +36,7 @@ pub fn run<S: Shelf, L: Ledger>(
 ) -> Result<Plan, NoPlan>
     requires { sizes.bound < 2 ^ 63 }
     ensures plan { GivesPlan (S.texts shelf.old)
-        (RunsFile image.now sizes.room.heap sizes.room.deep sizes.bound (state_of_names states.now)
+        (RunsFile image.now sizes (state_of_names states.now)
         (save_of_names states.now) steps.old steps.new) result }
     ensures within { steps.new ≤ steps.old + sizes.bound }
     ensures unread { IfErr result (UnreadCause (steps.new ≡ steps.old)) }
@@ -57,8 +57,8 @@ fn run_over<L: Ledger>(
     steps: &mut Steps<L>,
 ) -> Result<Plan, NoMemory>
     requires { sizes.bound < 2 ^ 63 }
-    ensures plan { IfOk result (λ plan. IsRunPlan (image_at bytes.now) sizes.room.heap
-        sizes.room.deep sizes.bound (option_map (λ v. v.items) state.now)
+    ensures plan { IfOk result (λ plan. IsRunPlan (image_at bytes.now) sizes
+        (option_map (λ v. v.items) state.now)
         (save_of_names states.now) steps.old steps.new (planned plan)) }
     ensures within { steps.new ≤ steps.old + sizes.bound }
 {

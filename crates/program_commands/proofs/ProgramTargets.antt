@@ -5,7 +5,9 @@ use Rattle.std.specs.Prelude.{Result}
 use Rattle.roopl_judge.specs.rpp_words.declared.input.Limits.{Limits}
 use Rattle.roopl_judge.specs.rpp_tree.Tree.{Source}
 use Rattle.image_inverter.specs.pisa_isa.declared.machine.Stop.{Stop}
-use Rattle.image_inverter.specs.pisa_isa.declared.machine.Stop.TheVariants.{Finished, Trap, Bound, Returned, BadAddress, OffCode}
+use Rattle.image_inverter.specs.pisa_isa.declared.machine.Stop.TheVariants.{Finished, Trap, Bound, Returned, BadAddress}
+use Rattle.image_inverter.specs.pisa_isa.declared.machine.Stop.TheVariants.{OffCode}
+use Rattle.command_plan.specs.declared.plan.Sizes.{Sizes}
 use Rattle.command_plan.specs.rpp_ports.Ports.{Texts}
 use Rattle.roopl_judge.specs.rpp_words.declared.input.FieldWord.{FieldWord}
 use Rattle.command_plan.specs.pisa_loader.declared.error.LoadError.{LoadError}
@@ -39,32 +41,32 @@ image_writes : (turns : Bool) (count counted : ℕ) (program : Source) (limits :
 image_writes turns count counted program limits input steps p runs =
     stop_writes turns _ program limits input _ _ steps p runs.reports
 
-go_writes : (count counted : ℕ) (text given : List ℕ) (heap deep steps : ℕ) (p : Planned)
-    → IsGoPlan count counted text given heap deep steps p → WritesOnly p None
-go_writes count counted text given heap deep steps p (inl refused) =
-    refused_writes text given heap deep p refused.0
-go_writes count counted text given heap deep steps p (inr to) =
-    image_writes false count counted to.program to.limits to.input steps p to.run
+go_writes : (count counted : ℕ) (text given : List ℕ) (sizes : Sizes) (p : Planned)
+    → IsGoPlan count counted text given sizes p → WritesOnly p None
+go_writes count counted text given sizes p (inl refused) =
+    refused_writes text given sizes.room p refused.0
+go_writes count counted text given sizes p (inr to) =
+    image_writes false count counted to.program to.limits to.input sizes.bound p to.run
 
-turn_writes : (before after : List Watch) (count counted : ℕ) (text given : List ℕ) (heap deep steps : ℕ) (p : Planned)
-    → IsTurnPlan before after count counted text given heap deep steps p → WritesOnly p None
-turn_writes before after count counted text given heap deep steps p (inl refused) =
-    refused_writes text given heap deep p refused.0
-turn_writes before after count counted text given heap deep steps p (inr to) =
-    image_writes true count counted to.program to.limits to.input steps p to.run.runs
+turn_writes : (before after : List Watch) (count counted : ℕ) (text given : List ℕ) (sizes : Sizes) (p : Planned)
+    → IsTurnPlan before after count counted text given sizes p → WritesOnly p None
+turn_writes before after count counted text given sizes p (inl refused) =
+    refused_writes text given sizes.room p refused.0
+turn_writes before after count counted text given sizes p (inr to) =
+    image_writes true count counted to.program to.limits to.input sizes.bound p to.run.runs
 
 -- a longer text writes no more
 longer_writes : (said p : Planned) (text : List ℕ) → p ≡ record said { text = text } → WritesOnly said None
     → WritesOnly p None
 longer_writes said p text is h = along p (record said { text = text }) None is h
 
-profile_writes : (before after : List Watch) (count counted : ℕ) (text given : List ℕ) (heap deep steps : ℕ)
-    (p : Planned) → IsProfilePlan before after count counted text given heap deep steps p → WritesOnly p None
-profile_writes before after count counted text given heap deep steps p (inl refused) =
-    refused_writes text given heap deep p refused.0
-profile_writes before after count counted text given heap deep steps p (inr to) =
-    longer_writes to.run.said p _ to.run.reported (image_writes false count counted to.program to.limits to.input steps
-    to.run.said to.run.runs)
+profile_writes : (before after : List Watch) (count counted : ℕ) (text given : List ℕ) (sizes : Sizes)
+    (p : Planned) → IsProfilePlan before after count counted text given sizes p → WritesOnly p None
+profile_writes before after count counted text given sizes p (inl refused) =
+    refused_writes text given sizes.room p refused.0
+profile_writes before after count counted text given sizes p (inr to) =
+    longer_writes to.run.said p _ to.run.reported (image_writes false count counted to.program to.limits to.input
+    sizes.bound to.run.said to.run.runs)
 
 check_writes : (text : List ℕ) (p : Planned) → IsCheckPlan text p → WritesOnly p None
 check_writes text p g = judged_writes g.judgement _ None p (λ program q h. along q _ None h (inl refl)) g.plan
@@ -82,19 +84,19 @@ pub compiles_file_writes : (file image : List ℕ) (told : Option Texts) (p : Pl
     → WritesOnly p (Some image)
 compiles_file_writes file image told p h = compile_writes h.text image p h.holds
 
-pub goes_on_writes : (count counted : ℕ) (file : List ℕ) (input : Option (List ℕ)) (heap deep steps : ℕ)
-    (told : Option Texts) (p : Planned) → GoesOn count counted file input heap deep steps told p → WritesOnly p None
-goes_on_writes count counted file input heap deep steps told p h =
-    go_writes count counted h.text h.holds.text heap deep steps p h.holds.holds
+pub goes_on_writes : (count counted : ℕ) (file : List ℕ) (input : Option (List ℕ)) (sizes : Sizes)
+    (told : Option Texts) (p : Planned) → GoesOn count counted file input sizes told p → WritesOnly p None
+goes_on_writes count counted file input sizes told p h =
+    go_writes count counted h.text h.holds.text sizes p h.holds.holds
 
 pub turns_file_writes : (before after : List Watch) (count counted : ℕ) (file : List ℕ) (input : Option (List ℕ))
-    (heap deep steps : ℕ) (told : Option Texts) (p : Planned)
-    → TurnsFile before after count counted file input heap deep steps told p → WritesOnly p None
-turns_file_writes before after count counted file input heap deep steps told p h =
-    turn_writes before after count counted h.text h.holds.text heap deep steps p h.holds.holds
+    (sizes : Sizes) (told : Option Texts) (p : Planned)
+    → TurnsFile before after count counted file input sizes told p → WritesOnly p None
+turns_file_writes before after count counted file input sizes told p h =
+    turn_writes before after count counted h.text h.holds.text sizes p h.holds.holds
 
-pub profiles_file_writes : (before after : List Watch) (count counted : ℕ) (file : List ℕ) (heap deep steps : ℕ)
-    (told : Option Texts) (p : Planned) → ProfilesFile before after count counted file heap deep steps told p
+pub profiles_file_writes : (before after : List Watch) (count counted : ℕ) (file : List ℕ) (sizes : Sizes)
+    (told : Option Texts) (p : Planned) → ProfilesFile before after count counted file sizes told p
     → WritesOnly p None
-profiles_file_writes before after count counted file heap deep steps told p h =
-    profile_writes before after count counted h.text [] heap deep steps p h.holds
+profiles_file_writes before after count counted file sizes told p h =
+    profile_writes before after count counted h.text [] sizes p h.holds

@@ -7,9 +7,11 @@ use Rattle.roopl_judge.specs.rpp_words.declared.input.FieldWord.{FieldWord}
 use Rattle.roopl_judge.specs.rpp_words.declared.input.Limits.{Limits}
 use Rattle.roopl_judge.specs.rpp_tree.declared.limits.TheConstants.{MOST_BYTES}
 use Rattle.roopl_judge.specs.rpp_tree.Tree.{Source}
+use Rattle.command_plan.specs.declared.plan.Sizes.{Sizes}
 use Rattle.command_plan.specs.rpp_ports.Ports.{Texts}
 use Rattle.command_plan.specs.rpp_probes.declared.probe.StepAt.{StepAt}
-use Rattle.command_plan.specs.rpp_probes.Tally.{Watch, left_after, lines_after, lines_shown, line_of}
+use Rattle.command_plan.specs.rpp_probes.Tally.{Watch, left_after, lines_after, lines_shown}
+use Rattle.command_plan.specs.rpp_probes.Tally.{line_of}
 use Rattle.image_inverter.specs.pisa_isa.declared.cell.Cell.{Cell}
 use Rattle.image_inverter.specs.pisa_isa.declared.machine.Stop.{Stop}
 use Rattle.image_inverter.specs.pisa_isa.declared.machine.Stop.TheVariants.{Finished}
@@ -25,12 +27,12 @@ use Rattle.run_settings.specs.Runnable.{RefusesRun, RunsTo}
 use Rattle.program_commands.specs.ProgramPlans.{RunsImage}
 
 -- the plan of `go` of a text on an input
-abbrev pub IsGoPlan : (count counted : ℕ) → (text given : List ℕ) → (heap deep steps : ℕ)
+abbrev pub IsGoPlan : (count counted : ℕ) → (text given : List ℕ) → (sizes : Sizes)
     → Planned → Type 0
-IsGoPlan count counted text given heap deep steps p =
-    (RefusesRun text given heap deep p × (counted ≡ count))
-    ⊎ RunsTo text given heap deep (λ program limits input. RunsImage false count counted program
-    limits input steps p)
+IsGoPlan count counted text given sizes p =
+    (RefusesRun text given sizes.room p × (counted ≡ count))
+    ⊎ RunsTo text given sizes.room (λ program limits input. RunsImage false count counted program
+    limits input sizes.bound p)
 
 -- the steps that `turn` reports: after a finish only those of the run of the inverse image from
 -- there
@@ -49,11 +51,11 @@ pub record TurnsImage (before after : List Watch) (count counted : ℕ) (program
 
 -- the plan of `turn` of a text on an input
 abbrev pub IsTurnPlan : (before after : List Watch) → (count counted : ℕ)
-    → (text given : List ℕ) → (heap deep steps : ℕ) → Planned → Type 0
-IsTurnPlan before after count counted text given heap deep steps p =
-    (RefusesRun text given heap deep p × ((after ≡ before) × (counted ≡ count)))
-    ⊎ RunsTo text given heap deep (λ program limits input. TurnsImage before after count counted
-    program limits input steps p)
+    → (text given : List ℕ) → (sizes : Sizes) → Planned → Type 0
+IsTurnPlan before after count counted text given sizes p =
+    (RefusesRun text given sizes.room p × ((after ≡ before) × (counted ≡ count)))
+    ⊎ RunsTo text given sizes.room (λ program limits input. TurnsImage before after count counted
+    program limits input sizes.bound p)
 
 -- the counted steps of the run of an image
 abbrev pub run_steps : Segments → Limits → List FieldWord → ℕ → List StepAt
@@ -75,30 +77,30 @@ pub record ProfilesImage (before after : List Watch) (count counted : ℕ) (prog
 
 -- the plan of `profile` of a text
 abbrev pub IsProfilePlan : (before after : List Watch) → (count counted : ℕ)
-    → (text given : List ℕ) → (heap deep steps : ℕ) → Planned → Type 0
-IsProfilePlan before after count counted text given heap deep steps p =
-    (RefusesRun text given heap deep p × ((after ≡ before) × (counted ≡ count)))
-    ⊎ RunsTo text given heap deep (λ program limits input. ProfilesImage before after count counted
-    program limits input steps p)
+    → (text given : List ℕ) → (sizes : Sizes) → Planned → Type 0
+IsProfilePlan before after count counted text given sizes p =
+    (RefusesRun text given sizes.room p × ((after ≡ before) × (counted ≡ count)))
+    ⊎ RunsTo text given sizes.room (λ program limits input. ProfilesImage before after count counted
+    program limits input sizes.bound p)
 
 -- the plan of `go` of this file, on an input if there is one
 abbrev pub GoesOn : (count counted : ℕ) → (file : List ℕ) → (input : Option (List ℕ))
-    → (heap deep steps : ℕ) → Option Texts → Planned → Type 0
-GoesOn count counted file input heap deep steps told p =
+    → (sizes : Sizes) → Option Texts → Planned → Type 0
+GoesOn count counted file input sizes told p =
     WithText told file MOST_BYTES
-    (λ text. WithInput told input (λ given. IsGoPlan count counted text given heap deep steps p))
+    (λ text. WithInput told input (λ given. IsGoPlan count counted text given sizes p))
 
 -- that of `turn`
 abbrev pub TurnsFile : (before after : List Watch) → (count counted : ℕ) → (file : List ℕ)
-    → (input : Option (List ℕ)) → (heap deep steps : ℕ) → Option Texts → Planned → Type 0
-TurnsFile before after count counted file input heap deep steps told p =
+    → (input : Option (List ℕ)) → (sizes : Sizes) → Option Texts → Planned → Type 0
+TurnsFile before after count counted file input sizes told p =
     WithText told file MOST_BYTES
-    (λ text. WithInput told input (λ given. IsTurnPlan before after count counted text given heap
-    deep steps p))
+    (λ text. WithInput told input (λ given. IsTurnPlan before after count counted text given sizes
+    p))
 
 -- that of `profile`, which takes no input
 abbrev pub ProfilesFile : (before after : List Watch) → (count counted : ℕ) → (file : List ℕ)
-    → (heap deep steps : ℕ) → Option Texts → Planned → Type 0
-ProfilesFile before after count counted file heap deep steps told p =
+    → (sizes : Sizes) → Option Texts → Planned → Type 0
+ProfilesFile before after count counted file sizes told p =
     WithText told file MOST_BYTES
-    (λ text. IsProfilePlan before after count counted text [] heap deep steps p)
+    (λ text. IsProfilePlan before after count counted text [] sizes p)

@@ -6,6 +6,7 @@ use Rattle.roopl_judge.specs.rpp_words.declared.input.FieldWord.{FieldWord}
 use Rattle.roopl_judge.specs.rpp_words.declared.input.Limits.{Limits}
 use Rattle.roopl_judge.specs.rpp_tree.declared.limits.TheConstants.{MOST_BYTES}
 use Rattle.roopl_judge.specs.rpp_tree.Tree.{Source}
+use Rattle.command_plan.specs.declared.plan.Sizes.{Sizes}
 use Rattle.command_plan.specs.rpp_ports.Ports.{Texts}
 use Rattle.command_plan.specs.rpp_probes.declared.probe.StepAt.{StepAt}
 use Rattle.command_plan.specs.rpp_probes.Tally.{Watch, left_after, IsCutShort}
@@ -60,31 +61,32 @@ pub record ProfilesShort (before after : List Watch) (program : Source) (limits 
 
 -- they are as they were passed, or observed a run of the text on an input
 abbrev pub IsTurnShort : (before after : List Watch) → (text given : List ℕ)
-    → (heap deep steps : ℕ) → Type 0
-IsTurnShort before after text given heap deep steps =
+    → (sizes : Sizes) → Type 0
+IsTurnShort before after text given sizes =
     (after ≡ before)
-    ⊎ RunsTo text given heap deep (λ program limits input. TurnsShort before after program limits
-    input steps)
+    ⊎ RunsTo text given sizes.room (λ program limits input. TurnsShort before after program limits
+    input sizes.bound)
 
 abbrev pub IsProfileShort : (before after : List Watch) → (text given : List ℕ)
-    → (heap deep steps : ℕ) → Type 0
-IsProfileShort before after text given heap deep steps =
+    → (sizes : Sizes) → Type 0
+IsProfileShort before after text given sizes =
     (after ≡ before)
-    ⊎ RunsTo text given heap deep (λ program limits input. ProfilesShort before after program limits
-    input steps)
+    ⊎ RunsTo text given sizes.room (λ program limits input. ProfilesShort before after program
+    limits
+    input sizes.bound)
 
 -- the same of `turn` of this file, on an input if there is one
 abbrev pub TurnsFileShort : (before after : List Watch) → (file : List ℕ)
-    → (input : Option (List ℕ)) → (heap deep steps : ℕ) → Option Texts → Type 0
-TurnsFileShort before after file input heap deep steps told =
+    → (input : Option (List ℕ)) → (sizes : Sizes) → Option Texts → Type 0
+TurnsFileShort before after file input sizes told =
     (after ≡ before)
     ⊎ WithText told file MOST_BYTES
     (λ text. WithInput told input
-    (λ given. IsTurnShort before after text given heap deep steps))
+    (λ given. IsTurnShort before after text given sizes))
 
 -- and of `profile`, which takes no input
 abbrev pub ProfilesFileShort : (before after : List Watch) → (file : List ℕ)
-    → (heap deep steps : ℕ) → Option Texts → Type 0
-ProfilesFileShort before after file heap deep steps told =
+    → (sizes : Sizes) → Option Texts → Type 0
+ProfilesFileShort before after file sizes told =
     (after ≡ before)
-    ⊎ WithText told file MOST_BYTES (λ text. IsProfileShort before after text [] heap deep steps)
+    ⊎ WithText told file MOST_BYTES (λ text. IsProfileShort before after text [] sizes)

@@ -40,7 +40,7 @@ pub fn go<S: Shelf, L: Ledger>(
 ) -> Result<Plan, NoPlan>
     requires { sizes.bound < 2 ^ 63 }
     ensures plan { GivesPlan (S.texts shelf.old) (GoesOn steps.old steps.new file.now
-        (option_map string_bytes input.now) sizes.room.heap sizes.room.deep sizes.bound) result }
+        (option_map string_bytes input.now) sizes) result }
     ensures within { steps.new ≤ steps.old + sizes.bound }
     ensures unread { IfErr result (UnreadCause (steps.new ≡ steps.old)) }
     ensures reads { OnlyReads (S.texts shelf.old) (S.texts shelf.new) (S.faults shelf.old)
@@ -62,7 +62,7 @@ fn go_over<L: Ledger>(
     requires given { length given.now ≤ MOST_INPUT }
     requires bound { sizes.bound < 2 ^ 63 }
     ensures plan { IfOk result (λ plan. IsGoPlan steps.old steps.new text.now given.now
-        sizes.room.heap sizes.room.deep sizes.bound (planned plan)) }
+        sizes (planned plan)) }
     ensures within { steps.new ≤ steps.old + sizes.bound }
 {
     match ready(alloc, text, given, sizes)? {

@@ -33,14 +33,14 @@ pub fn profile<S: Shelf, P: Probes, L: Ledger>(
     requires { sizes.bound < 2 ^ 63 }
     ensures plan { GivesPlan (S.texts shelf.old)
         (ProfilesFile (P.watches probes.old) (P.watches probes.new) steps.old steps.new file.now
-        sizes.room.heap sizes.room.deep sizes.bound) result }
+        sizes) result }
     ensures within { steps.new ≤ steps.old + sizes.bound }
     ensures unread { IfErr result (UnreadCause (steps.new ≡ steps.old)) }
     ensures reads { OnlyReads (S.texts shelf.old) (S.texts shelf.new) (S.faults shelf.old)
         (S.faults shelf.new) (source file.now ∷ []) result }
     ensures untold { IfErr result (UnreadCause (P.watches probes.new ≡ P.watches probes.old)) }
     ensures short { IfErr result (λ _. ProfilesFileShort (P.watches probes.old)
-        (P.watches probes.new) file.now sizes.room.heap sizes.room.deep sizes.bound
+        (P.watches probes.new) file.now sizes
         (S.texts shelf.old)) }
 {
     let text = read_file(alloc, shelf, file, MOST_BYTES as u64)?;
@@ -57,11 +57,11 @@ fn profile_text<P: Probes, L: Ledger>(
     requires text { length text.now ≤ MOST_BYTES }
     requires bound { sizes.bound < 2 ^ 63 }
     ensures plan { IfOk result (λ plan. IsProfilePlan (P.watches probes.old) (P.watches probes.new)
-        steps.old steps.new text.now [] sizes.room.heap sizes.room.deep sizes.bound
+        steps.old steps.new text.now [] sizes
         (planned plan)) }
     ensures within { steps.new ≤ steps.old + sizes.bound }
     ensures short { IfErr result (λ _. IsProfileShort (P.watches probes.old) (P.watches probes.new)
-        text.now [] sizes.room.heap sizes.room.deep sizes.bound) }
+        text.now [] sizes) }
 {
     match ready(alloc, text, &[], sizes)? {
         Ready::Refused(plan) => Ok(plan),

@@ -45,7 +45,7 @@ pub fn turn<S: Shelf, P: Probes, L: Ledger>(
     ensures plan { GivesPlan (S.texts shelf.old)
         (TurnsFile (P.watches probes.old) (P.watches probes.new)
         steps.old steps.new file.now (option_map string_bytes input.now)
-        sizes.room.heap sizes.room.deep sizes.bound) result }
+        sizes) result }
     ensures within { steps.new ≤ steps.old + (sizes.bound + sizes.bound) }
     ensures unread { IfErr result (UnreadCause (steps.new ≡ steps.old)) }
     ensures reads { OnlyReads (S.texts shelf.old) (S.texts shelf.new) (S.faults shelf.old)
@@ -53,7 +53,7 @@ pub fn turn<S: Shelf, P: Probes, L: Ledger>(
         (source file.now ∷ input_files (option_map string_bytes input.now)) result }
     ensures untold { IfErr result (UnreadCause (P.watches probes.new ≡ P.watches probes.old)) }
     ensures short { IfErr result (λ _. TurnsFileShort (P.watches probes.old) (P.watches probes.new)
-        file.now (option_map string_bytes input.now) sizes.room.heap sizes.room.deep sizes.bound
+        file.now (option_map string_bytes input.now) sizes
         (S.texts shelf.old)) }
 {
     let given = read_given(alloc, shelf, file, input)?;
@@ -72,11 +72,11 @@ fn turn_over<P: Probes, L: Ledger>(
     requires given { length given.now ≤ MOST_INPUT }
     requires bound { sizes.bound < 2 ^ 63 }
     ensures plan { IfOk result (λ plan. IsTurnPlan (P.watches probes.old) (P.watches probes.new)
-        steps.old steps.new text.now given.now sizes.room.heap sizes.room.deep sizes.bound
+        steps.old steps.new text.now given.now sizes
         (planned plan)) }
     ensures within { steps.new ≤ steps.old + (sizes.bound + sizes.bound) }
     ensures short { IfErr result (λ _. IsTurnShort (P.watches probes.old) (P.watches probes.new)
-        text.now given.now sizes.room.heap sizes.room.deep sizes.bound) }
+        text.now given.now sizes) }
 {
     match ready(alloc, text, given, sizes)? {
         Ready::Refused(plan) => Ok(plan),

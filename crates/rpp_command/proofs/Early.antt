@@ -59,8 +59,8 @@ keeps_same (Some xs) = refl
 
 pub leaves_same : (line : Asked) (probes : List Watch) (told : Option Texts) → LeavesProbes line probes probes told
 unfolding LeavesProbes
-leaves_same (Turn file heap deep steps input) probes told = inl refl
-leaves_same (Profile file heap deep steps) probes told = inl refl
+leaves_same (Turn file sizes input) probes told = inl refl
+leaves_same (Profile file sizes) probes told = inl refl
 leaves_same _ probes told = refl
 
 -- no memory was found to read the words, and all is as before

@@ -44,20 +44,20 @@ placed_files (Generate seed size out) = refl
 placed_files (Cluster script cells images) =
     let first : Needed = record { name = []; limit = MOST_SCRIPT } in
     ap (λ (files : List Needed). first ∷ files) (images_placed (97 ∷ []) images)
-placed_files (RunImage image heap deep steps None save) = refl
-placed_files (RunImage image heap deep steps (Some state) save) = refl
-placed_files (Debug image heap deep script) = refl
-placed_files (Trace file heap deep script None) = refl
-placed_files (Trace file heap deep script (Some input)) = refl
-placed_files (Go file heap deep steps None) = refl
-placed_files (Go file heap deep steps (Some input)) = refl
-placed_files (Turn file heap deep steps None) = refl
-placed_files (Turn file heap deep steps (Some input)) = refl
-placed_files (Profile file heap deep steps) = refl
-placed_files (Wrap file heap deep steps names None) = refl
-placed_files (Wrap file heap deep steps names (Some input)) = refl
-placed_files (Explain file heap deep fuel None) = refl
-placed_files (Explain file heap deep fuel (Some input)) = refl
+placed_files (RunImage image sizes None save) = refl
+placed_files (RunImage image sizes (Some state) save) = refl
+placed_files (Debug image room script) = refl
+placed_files (Trace file room script None) = refl
+placed_files (Trace file room script (Some input)) = refl
+placed_files (Go file sizes None) = refl
+placed_files (Go file sizes (Some input)) = refl
+placed_files (Turn file sizes None) = refl
+placed_files (Turn file sizes (Some input)) = refl
+placed_files (Profile file sizes) = refl
+placed_files (Wrap file sizes names None) = refl
+placed_files (Wrap file sizes names (Some input)) = refl
+placed_files (Explain file sizes None) = refl
+placed_files (Explain file sizes (Some input)) = refl
 
 -- where no file is missing or too long, and no call ever fails, none is unread
 pub none_unread : (held : Texts) (files : List Needed) → ¬ LacksOne held files

@@ -95,13 +95,13 @@ plan_told (ShowInverse file out) before after count counted told (text ∷ other
     absurd gave.1
 plan_told (ShowInverse file out) before after count counted told (text ∷ []) old new p gave h =
     text_told told file MOST_BYTES text (λ (text : List ℕ). IsInversePlan text out p) gave.0 h
-plan_told (Profile file heap deep steps) before after count counted told [] old new p gave h =
+plan_told (Profile file sizes) before after count counted told [] old new p gave h =
     absurd gave
-plan_told (Profile file heap deep steps) before after count counted told (text ∷ other ∷ texts) old new p gave h =
+plan_told (Profile file sizes) before after count counted told (text ∷ other ∷ texts) old new p gave h =
     absurd gave.1
-plan_told (Profile file heap deep steps) before after count counted told (text ∷ []) old new p gave h =
-    text_told told file MOST_BYTES text (λ (text : List ℕ). IsProfilePlan before after count counted text [] heap deep
-    steps p) gave.0 h
+plan_told (Profile file sizes) before after count counted told (text ∷ []) old new p gave h =
+    text_told told file MOST_BYTES text (λ (text : List ℕ). IsProfilePlan before after count counted text [] sizes p)
+    gave.0 h
 plan_told (Generate seed size out) before after count counted told [] old new p gave h =
     h
 plan_told (Generate seed size out) before after count counted told (text ∷ texts) old new p gave h =
@@ -112,178 +112,178 @@ plan_told (Cluster script cells images) before after count counted told (text �
     text_told told script MOST_SCRIPT text (λ (text : List ℕ). WithImages told images
     (λ read. IsClusterPlan (images_at read) text cells p)) gave.0
     (images_told told images texts _ new (λ read. IsClusterPlan (images_at read) text cells p) gave.1 h)
-plan_told (RunImage image heap deep steps None save) before after count counted told [] old new p gave h =
+plan_told (RunImage image sizes None save) before after count counted told [] old new p gave h =
     absurd gave
-plan_told (RunImage image heap deep steps None save) before after count counted told (bytes ∷ other ∷ texts) old new p
+plan_told (RunImage image sizes None save) before after count counted told (bytes ∷ other ∷ texts) old new p
     gave h =
     absurd gave.1
-plan_told (RunImage image heap deep steps None save) before after count counted told (bytes ∷ []) old new p gave h =
+plan_told (RunImage image sizes None save) before after count counted told (bytes ∷ []) old new p gave h =
     text_told told image MOST_IMAGE bytes (λ (bytes : List ℕ). WithState told None
-    (λ (given : Option (List ℕ)). IsRunPlan (image_at bytes) heap deep steps given save count counted p)) gave.0
+    (λ (given : Option (List ℕ)). IsRunPlan (image_at bytes) sizes given save count counted p)) gave.0
     (record { text = None; is_text = refl; holds = h })
-plan_told (RunImage image heap deep steps (Some state) save) before after count counted told [] old new p gave h =
+plan_told (RunImage image sizes (Some state) save) before after count counted told [] old new p gave h =
     absurd gave
-plan_told (RunImage image heap deep steps (Some state) save) before after count counted told (bytes ∷ []) old new p gave
+plan_told (RunImage image sizes (Some state) save) before after count counted told (bytes ∷ []) old new p gave
     h =
     absurd gave.1
-plan_told (RunImage image heap deep steps (Some state) save) before after count counted told
+plan_told (RunImage image sizes (Some state) save) before after count counted told
     (bytes ∷ text ∷ other ∷ texts) old new p gave h =
     absurd gave.1.1
-plan_told (RunImage image heap deep steps (Some state) save) before after count counted told (bytes ∷ text ∷ []) old new
+plan_told (RunImage image sizes (Some state) save) before after count counted told (bytes ∷ text ∷ []) old new
     p gave h =
     text_told told image MOST_IMAGE bytes (λ (bytes : List ℕ). WithState told (Some state)
-    (λ (given : Option (List ℕ)). IsRunPlan (image_at bytes) heap deep steps given save count counted p))
+    (λ (given : Option (List ℕ)). IsRunPlan (image_at bytes) sizes given save count counted p))
     gave.0 (record { text = Some text; is_text = gave.1.0; holds = h })
-plan_told (Debug image heap deep script) before after count counted told [] old new p gave h =
+plan_told (Debug image room script) before after count counted told [] old new p gave h =
     absurd gave
-plan_told (Debug image heap deep script) before after count counted told (bytes ∷ []) old new p gave h =
+plan_told (Debug image room script) before after count counted told (bytes ∷ []) old new p gave h =
     absurd gave.1
-plan_told (Debug image heap deep script) before after count counted told (bytes ∷ text ∷ other ∷ texts) old new p gave h
+plan_told (Debug image room script) before after count counted told (bytes ∷ text ∷ other ∷ texts) old new p gave h
     =
     absurd gave.1.1
-plan_told (Debug image heap deep script) before after count counted told (bytes ∷ text ∷ []) old new p gave h =
+plan_told (Debug image room script) before after count counted told (bytes ∷ text ∷ []) old new p gave h =
     text_told told image MOST_IMAGE bytes (λ (bytes : List ℕ). WithText told script MOST_SCRIPT
-    (λ (text : List ℕ). IsDebugPlan (image_at bytes) heap deep text count counted p)) gave.0
-    (text_told told script MOST_SCRIPT text (λ (text : List ℕ). IsDebugPlan (image_at bytes) heap deep text count
+    (λ (text : List ℕ). IsDebugPlan (image_at bytes) room text count counted p)) gave.0
+    (text_told told script MOST_SCRIPT text (λ (text : List ℕ). IsDebugPlan (image_at bytes) room text count
     counted p) gave.1.0 h)
-plan_told (Trace file heap deep script None) before after count counted told [] old new p gave h =
+plan_told (Trace file room script None) before after count counted told [] old new p gave h =
     absurd gave
-plan_told (Trace file heap deep script None) before after count counted told (text ∷ []) old new p gave h =
+plan_told (Trace file room script None) before after count counted told (text ∷ []) old new p gave h =
     absurd gave.1
-plan_told (Trace file heap deep script None) before after count counted told (text ∷ commands ∷ other ∷ texts) old new p
+plan_told (Trace file room script None) before after count counted told (text ∷ commands ∷ other ∷ texts) old new p
     gave h =
     absurd gave.1.1
-plan_told (Trace file heap deep script None) before after count counted told (text ∷ commands ∷ []) old new p gave h =
+plan_told (Trace file room script None) before after count counted told (text ∷ commands ∷ []) old new p gave h =
     text_told told file MOST_BYTES text (λ (text : List ℕ). WithText told script MOST_SCRIPT
-    (λ (commands : List ℕ). WithInput told None (λ (given : List ℕ). IsTracePlan text commands given heap deep p)))
+    (λ (commands : List ℕ). WithInput told None (λ (given : List ℕ). IsTracePlan text commands given room p)))
     gave.0
     (text_told told script MOST_SCRIPT commands (λ (commands : List ℕ). WithInput told None
-    (λ (given : List ℕ). IsTracePlan text commands given heap deep p)) gave.1.0
-    (input_empty told (λ (given : List ℕ). IsTracePlan text commands given heap deep p) h))
-plan_told (Trace file heap deep script (Some input)) before after count counted told [] old new p gave h =
+    (λ (given : List ℕ). IsTracePlan text commands given room p)) gave.1.0
+    (input_empty told (λ (given : List ℕ). IsTracePlan text commands given room p) h))
+plan_told (Trace file room script (Some input)) before after count counted told [] old new p gave h =
     absurd gave
-plan_told (Trace file heap deep script (Some input)) before after count counted told (text ∷ []) old new p gave h =
+plan_told (Trace file room script (Some input)) before after count counted told (text ∷ []) old new p gave h =
     absurd gave.1
-plan_told (Trace file heap deep script (Some input)) before after count counted told (text ∷ commands ∷ []) old new p
+plan_told (Trace file room script (Some input)) before after count counted told (text ∷ commands ∷ []) old new p
     gave h =
     absurd gave.1.1
-plan_told (Trace file heap deep script (Some input)) before after count counted told
+plan_told (Trace file room script (Some input)) before after count counted told
     (text ∷ commands ∷ given ∷ other ∷ texts) old new p gave h =
     absurd gave.1.1.1
-plan_told (Trace file heap deep script (Some input)) before after count counted told (text ∷ commands ∷ given ∷ []) old
+plan_told (Trace file room script (Some input)) before after count counted told (text ∷ commands ∷ given ∷ []) old
     new p gave h =
     text_told told file MOST_BYTES text (λ (text : List ℕ). WithText told script MOST_SCRIPT
-    (λ (commands : List ℕ). WithInput told (Some input) (λ (given : List ℕ). IsTracePlan text commands given heap deep
+    (λ (commands : List ℕ). WithInput told (Some input) (λ (given : List ℕ). IsTracePlan text commands given room
     p))) gave.0
     (text_told told script MOST_SCRIPT commands (λ (commands : List ℕ). WithInput told (Some input)
-    (λ (given : List ℕ). IsTracePlan text commands given heap deep p)) gave.1.0
-    (input_told told input given (λ (given : List ℕ). IsTracePlan text commands given heap deep p) gave.1.1.0 h))
-plan_told (Go file heap deep steps None) before after count counted told [] old new p gave h =
+    (λ (given : List ℕ). IsTracePlan text commands given room p)) gave.1.0
+    (input_told told input given (λ (given : List ℕ). IsTracePlan text commands given room p) gave.1.1.0 h))
+plan_told (Go file sizes None) before after count counted told [] old new p gave h =
     absurd gave
-plan_told (Go file heap deep steps None) before after count counted told (text ∷ other ∷ texts) old new p gave h =
+plan_told (Go file sizes None) before after count counted told (text ∷ other ∷ texts) old new p gave h =
     absurd gave.1
-plan_told (Go file heap deep steps None) before after count counted told (text ∷ []) old new p gave h =
+plan_told (Go file sizes None) before after count counted told (text ∷ []) old new p gave h =
     text_told told file MOST_BYTES text (λ (text : List ℕ). WithInput told None
-    (λ (given : List ℕ). IsGoPlan count counted text given heap deep steps p)) gave.0
-    (input_empty told (λ (given : List ℕ). IsGoPlan count counted text given heap deep steps p) h)
-plan_told (Go file heap deep steps (Some input)) before after count counted told [] old new p gave h =
+    (λ (given : List ℕ). IsGoPlan count counted text given sizes p)) gave.0
+    (input_empty told (λ (given : List ℕ). IsGoPlan count counted text given sizes p) h)
+plan_told (Go file sizes (Some input)) before after count counted told [] old new p gave h =
     absurd gave
-plan_told (Go file heap deep steps (Some input)) before after count counted told (text ∷ []) old new p gave h =
+plan_told (Go file sizes (Some input)) before after count counted told (text ∷ []) old new p gave h =
     absurd gave.1
-plan_told (Go file heap deep steps (Some input)) before after count counted told (text ∷ given ∷ other ∷ texts) old new
+plan_told (Go file sizes (Some input)) before after count counted told (text ∷ given ∷ other ∷ texts) old new
     p gave h =
     absurd gave.1.1
-plan_told (Go file heap deep steps (Some input)) before after count counted told (text ∷ given ∷ []) old new p gave h =
+plan_told (Go file sizes (Some input)) before after count counted told (text ∷ given ∷ []) old new p gave h =
     text_told told file MOST_BYTES text (λ (text : List ℕ). WithInput told (Some input)
-    (λ (given : List ℕ). IsGoPlan count counted text given heap deep steps p)) gave.0
-    (input_told told input given (λ (given : List ℕ). IsGoPlan count counted text given heap deep steps p) gave.1.0 h)
-plan_told (Turn file heap deep steps None) before after count counted told [] old new p gave h =
+    (λ (given : List ℕ). IsGoPlan count counted text given sizes p)) gave.0
+    (input_told told input given (λ (given : List ℕ). IsGoPlan count counted text given sizes p) gave.1.0 h)
+plan_told (Turn file sizes None) before after count counted told [] old new p gave h =
     absurd gave
-plan_told (Turn file heap deep steps None) before after count counted told (text ∷ other ∷ texts) old new p gave h =
+plan_told (Turn file sizes None) before after count counted told (text ∷ other ∷ texts) old new p gave h =
     absurd gave.1
-plan_told (Turn file heap deep steps None) before after count counted told (text ∷ []) old new p gave h =
+plan_told (Turn file sizes None) before after count counted told (text ∷ []) old new p gave h =
     text_told told file MOST_BYTES text (λ (text : List ℕ). WithInput told None
-    (λ (given : List ℕ). IsTurnPlan before after count counted text given heap deep steps p)) gave.0
-    (input_empty told (λ (given : List ℕ). IsTurnPlan before after count counted text given heap deep steps p) h)
-plan_told (Turn file heap deep steps (Some input)) before after count counted told [] old new p gave h =
+    (λ (given : List ℕ). IsTurnPlan before after count counted text given sizes p)) gave.0
+    (input_empty told (λ (given : List ℕ). IsTurnPlan before after count counted text given sizes p) h)
+plan_told (Turn file sizes (Some input)) before after count counted told [] old new p gave h =
     absurd gave
-plan_told (Turn file heap deep steps (Some input)) before after count counted told (text ∷ []) old new p gave h =
+plan_told (Turn file sizes (Some input)) before after count counted told (text ∷ []) old new p gave h =
     absurd gave.1
-plan_told (Turn file heap deep steps (Some input)) before after count counted told (text ∷ given ∷ other ∷ texts) old
+plan_told (Turn file sizes (Some input)) before after count counted told (text ∷ given ∷ other ∷ texts) old
     new p gave h =
     absurd gave.1.1
-plan_told (Turn file heap deep steps (Some input)) before after count counted told (text ∷ given ∷ []) old new p gave h
+plan_told (Turn file sizes (Some input)) before after count counted told (text ∷ given ∷ []) old new p gave h
     =
     text_told told file MOST_BYTES text (λ (text : List ℕ). WithInput told (Some input)
-    (λ (given : List ℕ). IsTurnPlan before after count counted text given heap deep steps p)) gave.0
-    (input_told told input given (λ (given : List ℕ). IsTurnPlan before after count counted text given heap deep steps
+    (λ (given : List ℕ). IsTurnPlan before after count counted text given sizes p)) gave.0
+    (input_told told input given (λ (given : List ℕ). IsTurnPlan before after count counted text given sizes
     p) gave.1.0 h)
-plan_told (Wrap file heap deep steps names None) before after count counted told [] old new p gave h =
+plan_told (Wrap file sizes names None) before after count counted told [] old new p gave h =
     absurd gave
-plan_told (Wrap file heap deep steps names None) before after count counted told (text ∷ other ∷ texts) old new p gave h
+plan_told (Wrap file sizes names None) before after count counted told (text ∷ other ∷ texts) old new p gave h
     =
     absurd gave.1
-plan_told (Wrap file heap deep steps names None) before after count counted told (text ∷ []) old new p gave h =
+plan_told (Wrap file sizes names None) before after count counted told (text ∷ []) old new p gave h =
     text_told told file MOST_BYTES text (λ (text : List ℕ). WithInput told None
-    (λ (given : List ℕ). IsWrapPlan count counted text names given heap deep steps p)) gave.0
-    (input_empty told (λ (given : List ℕ). IsWrapPlan count counted text names given heap deep steps p) h)
-plan_told (Wrap file heap deep steps names (Some input)) before after count counted told [] old new p gave h =
+    (λ (given : List ℕ). IsWrapPlan count counted text names given sizes p)) gave.0
+    (input_empty told (λ (given : List ℕ). IsWrapPlan count counted text names given sizes p) h)
+plan_told (Wrap file sizes names (Some input)) before after count counted told [] old new p gave h =
     absurd gave
-plan_told (Wrap file heap deep steps names (Some input)) before after count counted told (text ∷ []) old new p gave h =
+plan_told (Wrap file sizes names (Some input)) before after count counted told (text ∷ []) old new p gave h =
     absurd gave.1
-plan_told (Wrap file heap deep steps names (Some input)) before after count counted told (text ∷ given ∷ other ∷ texts)
+plan_told (Wrap file sizes names (Some input)) before after count counted told (text ∷ given ∷ other ∷ texts)
     old new p gave h =
     absurd gave.1.1
-plan_told (Wrap file heap deep steps names (Some input)) before after count counted told (text ∷ given ∷ []) old new p
+plan_told (Wrap file sizes names (Some input)) before after count counted told (text ∷ given ∷ []) old new p
     gave h =
     text_told told file MOST_BYTES text (λ (text : List ℕ). WithInput told (Some input)
-    (λ (given : List ℕ). IsWrapPlan count counted text names given heap deep steps p)) gave.0
-    (input_told told input given (λ (given : List ℕ). IsWrapPlan count counted text names given heap deep steps p)
+    (λ (given : List ℕ). IsWrapPlan count counted text names given sizes p)) gave.0
+    (input_told told input given (λ (given : List ℕ). IsWrapPlan count counted text names given sizes p)
     gave.1.0 h)
-plan_told (Explain file heap deep fuel None) before after count counted told [] old new p gave h =
+plan_told (Explain file sizes None) before after count counted told [] old new p gave h =
     absurd gave
-plan_told (Explain file heap deep fuel None) before after count counted told (text ∷ other ∷ texts) old new p gave h =
+plan_told (Explain file sizes None) before after count counted told (text ∷ other ∷ texts) old new p gave h =
     absurd gave.1
-plan_told (Explain file heap deep fuel None) before after count counted told (text ∷ []) old new p gave h =
+plan_told (Explain file sizes None) before after count counted told (text ∷ []) old new p gave h =
     text_told told file MOST_BYTES text (λ (text : List ℕ). WithInput told None
-    (λ (given : List ℕ). IsExplainPlan text given heap deep fuel p)) gave.0
-    (input_empty told (λ (given : List ℕ). IsExplainPlan text given heap deep fuel p) h)
-plan_told (Explain file heap deep fuel (Some input)) before after count counted told [] old new p gave h =
+    (λ (given : List ℕ). IsExplainPlan text given sizes p)) gave.0
+    (input_empty told (λ (given : List ℕ). IsExplainPlan text given sizes p) h)
+plan_told (Explain file sizes (Some input)) before after count counted told [] old new p gave h =
     absurd gave
-plan_told (Explain file heap deep fuel (Some input)) before after count counted told (text ∷ []) old new p gave h =
+plan_told (Explain file sizes (Some input)) before after count counted told (text ∷ []) old new p gave h =
     absurd gave.1
-plan_told (Explain file heap deep fuel (Some input)) before after count counted told (text ∷ given ∷ other ∷ texts) old
+plan_told (Explain file sizes (Some input)) before after count counted told (text ∷ given ∷ other ∷ texts) old
     new p gave h =
     absurd gave.1.1
-plan_told (Explain file heap deep fuel (Some input)) before after count counted told (text ∷ given ∷ []) old new p gave
+plan_told (Explain file sizes (Some input)) before after count counted told (text ∷ given ∷ []) old new p gave
     h =
     text_told told file MOST_BYTES text (λ (text : List ℕ). WithInput told (Some input)
-    (λ (given : List ℕ). IsExplainPlan text given heap deep fuel p)) gave.0
-    (input_told told input given (λ (given : List ℕ). IsExplainPlan text given heap deep fuel p) gave.1.0 h)
+    (λ (given : List ℕ). IsExplainPlan text given sizes p)) gave.0
+    (input_told told input given (λ (given : List ℕ). IsExplainPlan text given sizes p) gave.1.0 h)
 
 -- and so of what is left of the probes where there is no plan
 pub leaves_told : (line : Asked) (before after : List Watch) (told : Option Texts)
     (texts : List (List ℕ)) (old new : List Event) → Gave told (files_of line) texts old new
     → LeavesOf line before after texts → LeavesProbes line before after told
 unfolding LeavesProbes LeavesOf files_of
-leaves_told (Turn file heap deep steps None) before after told [] old new gave h = absurd gave
-leaves_told (Turn file heap deep steps None) before after told (text ∷ other ∷ texts) old new gave h = absurd gave.1
-leaves_told (Turn file heap deep steps None) before after told (text ∷ []) old new gave h = inr (
+leaves_told (Turn file sizes None) before after told [] old new gave h = absurd gave
+leaves_told (Turn file sizes None) before after told (text ∷ other ∷ texts) old new gave h = absurd gave.1
+leaves_told (Turn file sizes None) before after told (text ∷ []) old new gave h = inr (
     text_told told file MOST_BYTES text (λ (text : List ℕ). WithInput told None
-    (λ (given : List ℕ). IsTurnShort before after text given heap deep steps)) gave.0
-    (input_empty told (λ (given : List ℕ). IsTurnShort before after text given heap deep steps) h))
-leaves_told (Turn file heap deep steps (Some input)) before after told [] old new gave h = absurd gave
-leaves_told (Turn file heap deep steps (Some input)) before after told (text ∷ []) old new gave h = absurd gave.1
-leaves_told (Turn file heap deep steps (Some input)) before after told (text ∷ given ∷ other ∷ texts) old new gave h =
+    (λ (given : List ℕ). IsTurnShort before after text given sizes)) gave.0
+    (input_empty told (λ (given : List ℕ). IsTurnShort before after text given sizes) h))
+leaves_told (Turn file sizes (Some input)) before after told [] old new gave h = absurd gave
+leaves_told (Turn file sizes (Some input)) before after told (text ∷ []) old new gave h = absurd gave.1
+leaves_told (Turn file sizes (Some input)) before after told (text ∷ given ∷ other ∷ texts) old new gave h =
     absurd gave.1.1
-leaves_told (Turn file heap deep steps (Some input)) before after told (text ∷ given ∷ []) old new gave h = inr (
+leaves_told (Turn file sizes (Some input)) before after told (text ∷ given ∷ []) old new gave h = inr (
     text_told told file MOST_BYTES text (λ (text : List ℕ). WithInput told (Some input)
-    (λ (given : List ℕ). IsTurnShort before after text given heap deep steps)) gave.0
-    (input_told told input given (λ (given : List ℕ). IsTurnShort before after text given heap deep steps) gave.1.0 h))
-leaves_told (Profile file heap deep steps) before after told [] old new gave h = absurd gave
-leaves_told (Profile file heap deep steps) before after told (text ∷ other ∷ texts) old new gave h = absurd gave.1
-leaves_told (Profile file heap deep steps) before after told (text ∷ []) old new gave h = inr
-    (text_told told file MOST_BYTES text (λ (text : List ℕ). IsProfileShort before after text [] heap deep steps) gave.0
+    (λ (given : List ℕ). IsTurnShort before after text given sizes)) gave.0
+    (input_told told input given (λ (given : List ℕ). IsTurnShort before after text given sizes) gave.1.0 h))
+leaves_told (Profile file sizes) before after told [] old new gave h = absurd gave
+leaves_told (Profile file sizes) before after told (text ∷ other ∷ texts) old new gave h = absurd gave.1
+leaves_told (Profile file sizes) before after told (text ∷ []) old new gave h = inr
+    (text_told told file MOST_BYTES text (λ (text : List ℕ). IsProfileShort before after text [] sizes) gave.0
     h)
 leaves_told (Check file) before after told texts old new gave h = h
 leaves_told (Compile file image) before after told texts old new gave h = h
@@ -293,9 +293,9 @@ leaves_told (Flip image flipped) before after told texts old new gave h = h
 leaves_told (ShowInverse file out) before after told texts old new gave h = h
 leaves_told (Generate seed size out) before after told texts old new gave h = h
 leaves_told (Cluster script cells images) before after told texts old new gave h = h
-leaves_told (RunImage image heap deep steps state save) before after told texts old new gave h = h
-leaves_told (Debug image heap deep script) before after told texts old new gave h = h
-leaves_told (Trace file heap deep script input) before after told texts old new gave h = h
-leaves_told (Go file heap deep steps input) before after told texts old new gave h = h
-leaves_told (Wrap file heap deep steps names input) before after told texts old new gave h = h
-leaves_told (Explain file heap deep fuel input) before after told texts old new gave h = h
+leaves_told (RunImage image sizes state save) before after told texts old new gave h = h
+leaves_told (Debug image room script) before after told texts old new gave h = h
+leaves_told (Trace file room script input) before after told texts old new gave h = h
+leaves_told (Go file sizes input) before after told texts old new gave h = h
+leaves_told (Wrap file sizes names input) before after told texts old new gave h = h
+leaves_told (Explain file sizes input) before after told texts old new gave h = h

@@ -117,13 +117,13 @@ plan_of_texts (ShowInverse file out) before after count counted told held (text 
     absurd gave.1
 plan_of_texts (ShowInverse file out) before after count counted told held (text ∷ []) old new p gave has h =
     text_at held [] MOST_BYTES text (λ (text : List ℕ). IsInversePlan text out p) has.0 h
-plan_of_texts (Profile file heap deep steps) before after count counted told held [] old new p gave has h =
+plan_of_texts (Profile file sizes) before after count counted told held [] old new p gave has h =
     absurd gave
-plan_of_texts (Profile file heap deep steps) before after count counted told held (text ∷ other ∷ texts) old new p gave
+plan_of_texts (Profile file sizes) before after count counted told held (text ∷ other ∷ texts) old new p gave
     has h =
     absurd gave.1
-plan_of_texts (Profile file heap deep steps) before after count counted told held (text ∷ []) old new p gave has h =
-    text_at held [] MOST_BYTES text (λ (text : List ℕ). IsProfilePlan before after count counted text [] heap deep steps
+plan_of_texts (Profile file sizes) before after count counted told held (text ∷ []) old new p gave has h =
+    text_at held [] MOST_BYTES text (λ (text : List ℕ). IsProfilePlan before after count counted text [] sizes
     p) has.0 h
 plan_of_texts (Generate seed size out) before after count counted told held [] old new p gave has h =
     h
@@ -135,206 +135,206 @@ plan_of_texts (Cluster script cells images) before after count counted told held
     images_at_places told held (97 ∷ []) images texts _ new (λ read. IsClusterPlan (images_at read) text cells p) gave.1
     has.1 (text_at held [] MOST_SCRIPT text (λ (text : List ℕ). WithImages (Some held) (names_from (97 ∷ []) images)
     (λ read. IsClusterPlan (images_at read) text cells p)) has.0 h)
-plan_of_texts (RunImage image heap deep steps None save) before after count counted told held [] old new p gave has h =
+plan_of_texts (RunImage image sizes None save) before after count counted told held [] old new p gave has h =
     absurd gave
-plan_of_texts (RunImage image heap deep steps None save) before after count counted told held (bytes ∷ other ∷ texts)
+plan_of_texts (RunImage image sizes None save) before after count counted told held (bytes ∷ other ∷ texts)
     old new p gave has h =
     absurd gave.1
-plan_of_texts (RunImage image heap deep steps None save) before after count counted told held (bytes ∷ []) old new p
+plan_of_texts (RunImage image sizes None save) before after count counted told held (bytes ∷ []) old new p
     gave has h =
-    state_none held (λ (given : Option (List ℕ)). IsRunPlan (image_at bytes) heap deep steps given save count counted p)
+    state_none held (λ (given : Option (List ℕ)). IsRunPlan (image_at bytes) sizes given save count counted p)
     (text_at held [] MOST_IMAGE bytes (λ (bytes : List ℕ). WithState (Some held) None
-    (λ (given : Option (List ℕ)). IsRunPlan (image_at bytes) heap deep steps given save count counted p)) has.0
+    (λ (given : Option (List ℕ)). IsRunPlan (image_at bytes) sizes given save count counted p)) has.0
     h)
-plan_of_texts (RunImage image heap deep steps (Some state) save) before after count counted told held [] old new p gave
+plan_of_texts (RunImage image sizes (Some state) save) before after count counted told held [] old new p gave
     has h =
     absurd gave
-plan_of_texts (RunImage image heap deep steps (Some state) save) before after count counted told held (bytes ∷ []) old
+plan_of_texts (RunImage image sizes (Some state) save) before after count counted told held (bytes ∷ []) old
     new p gave has h =
     absurd gave.1
-plan_of_texts (RunImage image heap deep steps (Some state) save) before after count counted told held
+plan_of_texts (RunImage image sizes (Some state) save) before after count counted told held
     (bytes ∷ text ∷ other ∷ texts) old new p gave has h =
     absurd gave.1.1
-plan_of_texts (RunImage image heap deep steps (Some state) save) before after count counted told held
+plan_of_texts (RunImage image sizes (Some state) save) before after count counted told held
     (bytes ∷ text ∷ []) old new p gave has h =
-    state_at held (97 ∷ []) text (λ (given : Option (List ℕ)). IsRunPlan (image_at bytes) heap deep steps given save
+    state_at held (97 ∷ []) text (λ (given : Option (List ℕ)). IsRunPlan (image_at bytes) sizes given save
     count counted p) has.1.0
     (text_at held [] MOST_IMAGE bytes (λ (bytes : List ℕ). WithState (Some held) (Some (97 ∷ []))
-    (λ (given : Option (List ℕ)). IsRunPlan (image_at bytes) heap deep steps given save count counted p)) has.0
+    (λ (given : Option (List ℕ)). IsRunPlan (image_at bytes) sizes given save count counted p)) has.0
     h)
-plan_of_texts (Debug image heap deep script) before after count counted told held [] old new p gave has h =
+plan_of_texts (Debug image room script) before after count counted told held [] old new p gave has h =
     absurd gave
-plan_of_texts (Debug image heap deep script) before after count counted told held (bytes ∷ []) old new p gave has h =
+plan_of_texts (Debug image room script) before after count counted told held (bytes ∷ []) old new p gave has h =
     absurd gave.1
-plan_of_texts (Debug image heap deep script) before after count counted told held (bytes ∷ text ∷ other ∷ texts) old new
+plan_of_texts (Debug image room script) before after count counted told held (bytes ∷ text ∷ other ∷ texts) old new
     p gave has h =
     absurd gave.1.1
-plan_of_texts (Debug image heap deep script) before after count counted told held (bytes ∷ text ∷ []) old new p gave has
+plan_of_texts (Debug image room script) before after count counted told held (bytes ∷ text ∷ []) old new p gave has
     h =
-    text_at held (97 ∷ []) MOST_SCRIPT text (λ (text : List ℕ). IsDebugPlan (image_at bytes) heap deep text count
+    text_at held (97 ∷ []) MOST_SCRIPT text (λ (text : List ℕ). IsDebugPlan (image_at bytes) room text count
     counted p) has.1.0
     (text_at held [] MOST_IMAGE bytes (λ (bytes : List ℕ). WithText (Some held) (97 ∷ []) MOST_SCRIPT
-    (λ (text : List ℕ). IsDebugPlan (image_at bytes) heap deep text count counted p))
+    (λ (text : List ℕ). IsDebugPlan (image_at bytes) room text count counted p))
     has.0 h)
-plan_of_texts (Trace file heap deep script None) before after count counted told held [] old new p gave has h =
+plan_of_texts (Trace file room script None) before after count counted told held [] old new p gave has h =
     absurd gave
-plan_of_texts (Trace file heap deep script None) before after count counted told held (text ∷ []) old new p gave has h =
+plan_of_texts (Trace file room script None) before after count counted told held (text ∷ []) old new p gave has h =
     absurd gave.1
-plan_of_texts (Trace file heap deep script None) before after count counted told held (text ∷ commands ∷ other ∷ texts)
+plan_of_texts (Trace file room script None) before after count counted told held (text ∷ commands ∷ other ∷ texts)
     old new p gave has h =
     absurd gave.1.1
-plan_of_texts (Trace file heap deep script None) before after count counted told held (text ∷ commands ∷ []) old new p
+plan_of_texts (Trace file room script None) before after count counted told held (text ∷ commands ∷ []) old new p
     gave has h =
-    input_none held (λ (given : List ℕ). IsTracePlan text commands given heap deep p)
+    input_none held (λ (given : List ℕ). IsTracePlan text commands given room p)
     (text_at held (97 ∷ []) MOST_SCRIPT commands (λ (commands : List ℕ). WithInput (Some held) None
-    (λ (given : List ℕ). IsTracePlan text commands given heap deep p))
+    (λ (given : List ℕ). IsTracePlan text commands given room p))
     has.1.0 (text_at held [] MOST_BYTES text (λ (text : List ℕ). WithText (Some held) (97 ∷ []) MOST_SCRIPT
-    (λ (commands : List ℕ). WithInput (Some held) None (λ (given : List ℕ). IsTracePlan text commands given heap deep
+    (λ (commands : List ℕ). WithInput (Some held) None (λ (given : List ℕ). IsTracePlan text commands given room
     p))) has.0 h))
-plan_of_texts (Trace file heap deep script (Some input)) before after count counted told held [] old new p gave has h =
+plan_of_texts (Trace file room script (Some input)) before after count counted told held [] old new p gave has h =
     absurd gave
-plan_of_texts (Trace file heap deep script (Some input)) before after count counted told held (text ∷ []) old new p gave
+plan_of_texts (Trace file room script (Some input)) before after count counted told held (text ∷ []) old new p gave
     has h =
     absurd gave.1
-plan_of_texts (Trace file heap deep script (Some input)) before after count counted told held (text ∷ commands ∷ []) old
+plan_of_texts (Trace file room script (Some input)) before after count counted told held (text ∷ commands ∷ []) old
     new p gave has h =
     absurd gave.1.1
-plan_of_texts (Trace file heap deep script (Some input)) before after count counted told held
+plan_of_texts (Trace file room script (Some input)) before after count counted told held
     (text ∷ commands ∷ given ∷ other ∷ texts) old new p gave has h =
     absurd gave.1.1.1
-plan_of_texts (Trace file heap deep script (Some input)) before after count counted told held
+plan_of_texts (Trace file room script (Some input)) before after count counted told held
     (text ∷ commands ∷ given ∷ []) old new p gave has h =
-    input_at held (97 ∷ 97 ∷ []) given (λ (given : List ℕ). IsTracePlan text commands given heap deep p) has.1.1.0
+    input_at held (97 ∷ 97 ∷ []) given (λ (given : List ℕ). IsTracePlan text commands given room p) has.1.1.0
     (text_at held (97 ∷ []) MOST_SCRIPT commands (λ (commands : List ℕ). WithInput (Some held) (Some (97 ∷ 97 ∷ []))
-    (λ (given : List ℕ). IsTracePlan text commands given heap deep p))
+    (λ (given : List ℕ). IsTracePlan text commands given room p))
     has.1.0 (text_at held [] MOST_BYTES text (λ (text : List ℕ). WithText (Some held) (97 ∷ []) MOST_SCRIPT
     (λ (commands : List ℕ). WithInput (Some held) (Some (97 ∷ 97 ∷ []))
-    (λ (given : List ℕ). IsTracePlan text commands given heap deep p))) has.0 h))
-plan_of_texts (Go file heap deep steps None) before after count counted told held [] old new p gave has h =
+    (λ (given : List ℕ). IsTracePlan text commands given room p))) has.0 h))
+plan_of_texts (Go file sizes None) before after count counted told held [] old new p gave has h =
     absurd gave
-plan_of_texts (Go file heap deep steps None) before after count counted told held (text ∷ other ∷ texts) old new p gave
+plan_of_texts (Go file sizes None) before after count counted told held (text ∷ other ∷ texts) old new p gave
     has h =
     absurd gave.1
-plan_of_texts (Go file heap deep steps None) before after count counted told held (text ∷ []) old new p gave has h =
-    input_none held (λ (given : List ℕ). IsGoPlan count counted text given heap deep steps p)
+plan_of_texts (Go file sizes None) before after count counted told held (text ∷ []) old new p gave has h =
+    input_none held (λ (given : List ℕ). IsGoPlan count counted text given sizes p)
     (text_at held [] MOST_BYTES text (λ (text : List ℕ). WithInput (Some held) None
-    (λ (given : List ℕ). IsGoPlan count counted text given heap deep steps p)) has.0 h)
-plan_of_texts (Go file heap deep steps (Some input)) before after count counted told held [] old new p gave has h =
+    (λ (given : List ℕ). IsGoPlan count counted text given sizes p)) has.0 h)
+plan_of_texts (Go file sizes (Some input)) before after count counted told held [] old new p gave has h =
     absurd gave
-plan_of_texts (Go file heap deep steps (Some input)) before after count counted told held (text ∷ []) old new p gave has
+plan_of_texts (Go file sizes (Some input)) before after count counted told held (text ∷ []) old new p gave has
     h =
     absurd gave.1
-plan_of_texts (Go file heap deep steps (Some input)) before after count counted told held (text ∷ given ∷ other ∷ texts)
+plan_of_texts (Go file sizes (Some input)) before after count counted told held (text ∷ given ∷ other ∷ texts)
     old new p gave has h =
     absurd gave.1.1
-plan_of_texts (Go file heap deep steps (Some input)) before after count counted told held (text ∷ given ∷ []) old new p
+plan_of_texts (Go file sizes (Some input)) before after count counted told held (text ∷ given ∷ []) old new p
     gave has h =
-    input_at held (97 ∷ []) given (λ (given : List ℕ). IsGoPlan count counted text given heap deep steps p) has.1.0
+    input_at held (97 ∷ []) given (λ (given : List ℕ). IsGoPlan count counted text given sizes p) has.1.0
     (text_at held [] MOST_BYTES text (λ (text : List ℕ). WithInput (Some held) (Some (97 ∷ []))
-    (λ (given : List ℕ). IsGoPlan count counted text given heap deep steps p)) has.0 h)
-plan_of_texts (Turn file heap deep steps None) before after count counted told held [] old new p gave has h =
+    (λ (given : List ℕ). IsGoPlan count counted text given sizes p)) has.0 h)
+plan_of_texts (Turn file sizes None) before after count counted told held [] old new p gave has h =
     absurd gave
-plan_of_texts (Turn file heap deep steps None) before after count counted told held (text ∷ other ∷ texts) old new p
+plan_of_texts (Turn file sizes None) before after count counted told held (text ∷ other ∷ texts) old new p
     gave has h =
     absurd gave.1
-plan_of_texts (Turn file heap deep steps None) before after count counted told held (text ∷ []) old new p gave has h =
-    input_none held (λ (given : List ℕ). IsTurnPlan before after count counted text given heap deep steps p)
+plan_of_texts (Turn file sizes None) before after count counted told held (text ∷ []) old new p gave has h =
+    input_none held (λ (given : List ℕ). IsTurnPlan before after count counted text given sizes p)
     (text_at held [] MOST_BYTES text (λ (text : List ℕ). WithInput (Some held) None
-    (λ (given : List ℕ). IsTurnPlan before after count counted text given heap deep steps p)) has.0 h)
-plan_of_texts (Turn file heap deep steps (Some input)) before after count counted told held [] old new p gave has h =
+    (λ (given : List ℕ). IsTurnPlan before after count counted text given sizes p)) has.0 h)
+plan_of_texts (Turn file sizes (Some input)) before after count counted told held [] old new p gave has h =
     absurd gave
-plan_of_texts (Turn file heap deep steps (Some input)) before after count counted told held (text ∷ []) old new p gave
+plan_of_texts (Turn file sizes (Some input)) before after count counted told held (text ∷ []) old new p gave
     has h =
     absurd gave.1
-plan_of_texts (Turn file heap deep steps (Some input)) before after count counted told held
+plan_of_texts (Turn file sizes (Some input)) before after count counted told held
     (text ∷ given ∷ other ∷ texts) old new p gave has h =
     absurd gave.1.1
-plan_of_texts (Turn file heap deep steps (Some input)) before after count counted told held (text ∷ given ∷ []) old new
+plan_of_texts (Turn file sizes (Some input)) before after count counted told held (text ∷ given ∷ []) old new
     p gave has h =
-    input_at held (97 ∷ []) given (λ (given : List ℕ). IsTurnPlan before after count counted text given heap deep steps
+    input_at held (97 ∷ []) given (λ (given : List ℕ). IsTurnPlan before after count counted text given sizes
     p) has.1.0
     (text_at held [] MOST_BYTES text (λ (text : List ℕ). WithInput (Some held) (Some (97 ∷ []))
-    (λ (given : List ℕ). IsTurnPlan before after count counted text given heap deep steps p)) has.0 h)
-plan_of_texts (Wrap file heap deep steps names None) before after count counted told held [] old new p gave has h =
+    (λ (given : List ℕ). IsTurnPlan before after count counted text given sizes p)) has.0 h)
+plan_of_texts (Wrap file sizes names None) before after count counted told held [] old new p gave has h =
     absurd gave
-plan_of_texts (Wrap file heap deep steps names None) before after count counted told held (text ∷ other ∷ texts) old new
+plan_of_texts (Wrap file sizes names None) before after count counted told held (text ∷ other ∷ texts) old new
     p gave has h =
     absurd gave.1
-plan_of_texts (Wrap file heap deep steps names None) before after count counted told held (text ∷ []) old new p gave has
+plan_of_texts (Wrap file sizes names None) before after count counted told held (text ∷ []) old new p gave has
     h =
-    input_none held (λ (given : List ℕ). IsWrapPlan count counted text names given heap deep steps p)
+    input_none held (λ (given : List ℕ). IsWrapPlan count counted text names given sizes p)
     (text_at held [] MOST_BYTES text (λ (text : List ℕ). WithInput (Some held) None
-    (λ (given : List ℕ). IsWrapPlan count counted text names given heap deep steps p)) has.0 h)
-plan_of_texts (Wrap file heap deep steps names (Some input)) before after count counted told held [] old new p gave has
+    (λ (given : List ℕ). IsWrapPlan count counted text names given sizes p)) has.0 h)
+plan_of_texts (Wrap file sizes names (Some input)) before after count counted told held [] old new p gave has
     h =
     absurd gave
-plan_of_texts (Wrap file heap deep steps names (Some input)) before after count counted told held (text ∷ []) old new p
+plan_of_texts (Wrap file sizes names (Some input)) before after count counted told held (text ∷ []) old new p
     gave has h =
     absurd gave.1
-plan_of_texts (Wrap file heap deep steps names (Some input)) before after count counted told held
+plan_of_texts (Wrap file sizes names (Some input)) before after count counted told held
     (text ∷ given ∷ other ∷ texts) old new p gave has h =
     absurd gave.1.1
-plan_of_texts (Wrap file heap deep steps names (Some input)) before after count counted told held (text ∷ given ∷ [])
+plan_of_texts (Wrap file sizes names (Some input)) before after count counted told held (text ∷ given ∷ [])
     old new p gave has h =
-    input_at held (97 ∷ []) given (λ (given : List ℕ). IsWrapPlan count counted text names given heap deep steps p)
+    input_at held (97 ∷ []) given (λ (given : List ℕ). IsWrapPlan count counted text names given sizes p)
     has.1.0
     (text_at held [] MOST_BYTES text (λ (text : List ℕ). WithInput (Some held) (Some (97 ∷ []))
-    (λ (given : List ℕ). IsWrapPlan count counted text names given heap deep steps p)) has.0 h)
-plan_of_texts (Explain file heap deep fuel None) before after count counted told held [] old new p gave has h =
+    (λ (given : List ℕ). IsWrapPlan count counted text names given sizes p)) has.0 h)
+plan_of_texts (Explain file sizes None) before after count counted told held [] old new p gave has h =
     absurd gave
-plan_of_texts (Explain file heap deep fuel None) before after count counted told held (text ∷ other ∷ texts) old new p
+plan_of_texts (Explain file sizes None) before after count counted told held (text ∷ other ∷ texts) old new p
     gave has h =
     absurd gave.1
-plan_of_texts (Explain file heap deep fuel None) before after count counted told held (text ∷ []) old new p gave has h =
-    input_none held (λ (given : List ℕ). IsExplainPlan text given heap deep fuel p)
+plan_of_texts (Explain file sizes None) before after count counted told held (text ∷ []) old new p gave has h =
+    input_none held (λ (given : List ℕ). IsExplainPlan text given sizes p)
     (text_at held [] MOST_BYTES text (λ (text : List ℕ). WithInput (Some held) None
-    (λ (given : List ℕ). IsExplainPlan text given heap deep fuel p)) has.0 h)
-plan_of_texts (Explain file heap deep fuel (Some input)) before after count counted told held [] old new p gave has h =
+    (λ (given : List ℕ). IsExplainPlan text given sizes p)) has.0 h)
+plan_of_texts (Explain file sizes (Some input)) before after count counted told held [] old new p gave has h =
     absurd gave
-plan_of_texts (Explain file heap deep fuel (Some input)) before after count counted told held (text ∷ []) old new p gave
+plan_of_texts (Explain file sizes (Some input)) before after count counted told held (text ∷ []) old new p gave
     has h =
     absurd gave.1
-plan_of_texts (Explain file heap deep fuel (Some input)) before after count counted told held
+plan_of_texts (Explain file sizes (Some input)) before after count counted told held
     (text ∷ given ∷ other ∷ texts) old new p gave has h =
     absurd gave.1.1
-plan_of_texts (Explain file heap deep fuel (Some input)) before after count counted told held (text ∷ given ∷ []) old
+plan_of_texts (Explain file sizes (Some input)) before after count counted told held (text ∷ given ∷ []) old
     new p gave has h =
-    input_at held (97 ∷ []) given (λ (given : List ℕ). IsExplainPlan text given heap deep fuel p) has.1.0
+    input_at held (97 ∷ []) given (λ (given : List ℕ). IsExplainPlan text given sizes p) has.1.0
     (text_at held [] MOST_BYTES text (λ (text : List ℕ). WithInput (Some held) (Some (97 ∷ []))
-    (λ (given : List ℕ). IsExplainPlan text given heap deep fuel p)) has.0 h)
+    (λ (given : List ℕ). IsExplainPlan text given sizes p)) has.0 h)
 
 -- and what is left of the probes where there is no plan
 pub leaves_of_texts : (line : Asked) (before after : List Watch) (told : Option Texts) (held : Texts)
     (texts : List (List ℕ)) (old new : List Event) → Gave told (files_of line) texts old new
     → HasPlaces held [] texts → LeavesProbes (placed line) before after (Some held) → LeavesOf line before after texts
 unfolding LeavesProbes LeavesOf files_of placed
-leaves_of_texts (Turn file heap deep steps None) before after told held [] old new gave has h = absurd gave
-leaves_of_texts (Turn file heap deep steps None) before after told held (text ∷ other ∷ texts) old new gave has h =
+leaves_of_texts (Turn file sizes None) before after told held [] old new gave has h = absurd gave
+leaves_of_texts (Turn file sizes None) before after told held (text ∷ other ∷ texts) old new gave has h =
     absurd gave.1
-leaves_of_texts (Turn file heap deep steps None) before after told held (text ∷ []) old new gave has (inl same) =
+leaves_of_texts (Turn file sizes None) before after told held (text ∷ []) old new gave has (inl same) =
     inl same
-leaves_of_texts (Turn file heap deep steps None) before after told held (text ∷ []) old new gave has (inr h) =
-    input_none held (λ (given : List ℕ). IsTurnShort before after text given heap deep steps)
+leaves_of_texts (Turn file sizes None) before after told held (text ∷ []) old new gave has (inr h) =
+    input_none held (λ (given : List ℕ). IsTurnShort before after text given sizes)
     (text_at held [] MOST_BYTES text (λ (text : List ℕ). WithInput (Some held) None
-    (λ (given : List ℕ). IsTurnShort before after text given heap deep steps)) has.0 h)
-leaves_of_texts (Turn file heap deep steps (Some input)) before after told held [] old new gave has h = absurd gave
-leaves_of_texts (Turn file heap deep steps (Some input)) before after told held (text ∷ []) old new gave has h =
+    (λ (given : List ℕ). IsTurnShort before after text given sizes)) has.0 h)
+leaves_of_texts (Turn file sizes (Some input)) before after told held [] old new gave has h = absurd gave
+leaves_of_texts (Turn file sizes (Some input)) before after told held (text ∷ []) old new gave has h =
     absurd gave.1
-leaves_of_texts (Turn file heap deep steps (Some input)) before after told held (text ∷ given ∷ other ∷ texts) old new
+leaves_of_texts (Turn file sizes (Some input)) before after told held (text ∷ given ∷ other ∷ texts) old new
     gave has h = absurd gave.1.1
-leaves_of_texts (Turn file heap deep steps (Some input)) before after told held (text ∷ given ∷ []) old new gave has
+leaves_of_texts (Turn file sizes (Some input)) before after told held (text ∷ given ∷ []) old new gave has
     (inl same) = inl same
-leaves_of_texts (Turn file heap deep steps (Some input)) before after told held (text ∷ given ∷ []) old new gave has
-    (inr h) = input_at held (97 ∷ []) given (λ (given : List ℕ). IsTurnShort before after text given heap deep steps)
+leaves_of_texts (Turn file sizes (Some input)) before after told held (text ∷ given ∷ []) old new gave has
+    (inr h) = input_at held (97 ∷ []) given (λ (given : List ℕ). IsTurnShort before after text given sizes)
     has.1.0
     (text_at held [] MOST_BYTES text (λ (text : List ℕ). WithInput (Some held) (Some (97 ∷ []))
-    (λ (given : List ℕ). IsTurnShort before after text given heap deep steps)) has.0 h)
-leaves_of_texts (Profile file heap deep steps) before after told held [] old new gave has h = absurd gave
-leaves_of_texts (Profile file heap deep steps) before after told held (text ∷ other ∷ texts) old new gave has h =
+    (λ (given : List ℕ). IsTurnShort before after text given sizes)) has.0 h)
+leaves_of_texts (Profile file sizes) before after told held [] old new gave has h = absurd gave
+leaves_of_texts (Profile file sizes) before after told held (text ∷ other ∷ texts) old new gave has h =
     absurd gave.1
-leaves_of_texts (Profile file heap deep steps) before after told held (text ∷ []) old new gave has (inl same) = inl same
-leaves_of_texts (Profile file heap deep steps) before after told held (text ∷ []) old new gave has (inr h) =
-    text_at held [] MOST_BYTES text (λ (text : List ℕ). IsProfileShort before after text [] heap deep steps) has.0 h
+leaves_of_texts (Profile file sizes) before after told held (text ∷ []) old new gave has (inl same) = inl same
+leaves_of_texts (Profile file sizes) before after told held (text ∷ []) old new gave has (inr h) =
+    text_at held [] MOST_BYTES text (λ (text : List ℕ). IsProfileShort before after text [] sizes) has.0 h
 leaves_of_texts (Check file) before after told held texts old new gave has h = h
 leaves_of_texts (Compile file image) before after told held texts old new gave has h = h
 leaves_of_texts (Asm file image) before after told held texts old new gave has h = h
@@ -343,9 +343,9 @@ leaves_of_texts (Flip image flipped) before after told held texts old new gave h
 leaves_of_texts (ShowInverse file out) before after told held texts old new gave has h = h
 leaves_of_texts (Generate seed size out) before after told held texts old new gave has h = h
 leaves_of_texts (Cluster script cells images) before after told held texts old new gave has h = h
-leaves_of_texts (RunImage image heap deep steps state save) before after told held texts old new gave has h = h
-leaves_of_texts (Debug image heap deep script) before after told held texts old new gave has h = h
-leaves_of_texts (Trace file heap deep script input) before after told held texts old new gave has h = h
-leaves_of_texts (Go file heap deep steps input) before after told held texts old new gave has h = h
-leaves_of_texts (Wrap file heap deep steps names input) before after told held texts old new gave has h = h
-leaves_of_texts (Explain file heap deep fuel input) before after told held texts old new gave has h = h
+leaves_of_texts (RunImage image sizes state save) before after told held texts old new gave has h = h
+leaves_of_texts (Debug image room script) before after told held texts old new gave has h = h
+leaves_of_texts (Trace file room script input) before after told held texts old new gave has h = h
+leaves_of_texts (Go file sizes input) before after told held texts old new gave has h = h
+leaves_of_texts (Wrap file sizes names input) before after told held texts old new gave has h = h
+leaves_of_texts (Explain file sizes input) before after told held texts old new gave has h = h

@@ -8,7 +8,8 @@ use Rattle.command_line.specs.Lines.{RunImage, Debug, Trace, Go, Turn, Profile, 
 use Rattle.command_line.specs.command_plan.Plans.{Planned, Written, WritesOnly}
 use Rattle.rpp_command.specs.Plans.{IsPlan}
 use Rattle.rpp_command.specs.Causes.{target_of, KeepsButTarget}
-use Rattle.wrap_commands.proofs.program_commands_laws.ProgramTargets.{checks_file_writes, compiles_file_writes, goes_on_writes}
+use Rattle.wrap_commands.proofs.program_commands_laws.ProgramTargets.{checks_file_writes, compiles_file_writes}
+use Rattle.wrap_commands.proofs.program_commands_laws.ProgramTargets.{goes_on_writes}
 use Rattle.wrap_commands.proofs.program_commands_laws.ProgramTargets.{turns_file_writes, profiles_file_writes}
 use Rattle.explain_commands.proofs.ExplainTargets.{explains_writes}
 use Rattle.cluster_commands.proofs.ClusterTargets.{clusters_files_writes}
@@ -30,22 +31,22 @@ plan_writes (ShowInverse file out) before after count counted told p h = shows_i
 plan_writes (Generate seed size out) before after count counted told p h = generates_writes seed size out told p h
 plan_writes (Cluster script cells images) before after count counted told p h =
     clusters_files_writes script cells images told p h
-plan_writes (RunImage image heap deep steps state save) before after count counted told p h =
-    runs_file_writes image heap deep steps state save count counted told p h
-plan_writes (Debug image heap deep script) before after count counted told p h =
-    debugs_file_writes image heap deep script count counted told p h
-plan_writes (Trace file heap deep script input) before after count counted told p h =
-    traces_writes file script input heap deep told p h
-plan_writes (Go file heap deep steps input) before after count counted told p h =
-    goes_on_writes count counted file input heap deep steps told p h
-plan_writes (Turn file heap deep steps input) before after count counted told p h =
-    turns_file_writes before after count counted file input heap deep steps told p h
-plan_writes (Profile file heap deep steps) before after count counted told p h =
-    profiles_file_writes before after count counted file heap deep steps told p h
-plan_writes (Wrap file heap deep steps names input) before after count counted told p h =
-    wraps_file_writes count counted file names input heap deep steps told p h
-plan_writes (Explain file heap deep fuel input) before after count counted told p h =
-    explains_writes file input heap deep fuel told p h
+plan_writes (RunImage image sizes state save) before after count counted told p h =
+    runs_file_writes image sizes state save count counted told p h
+plan_writes (Debug image room script) before after count counted told p h =
+    debugs_file_writes image room script count counted told p h
+plan_writes (Trace file room script input) before after count counted told p h =
+    traces_writes file script input room told p h
+plan_writes (Go file sizes input) before after count counted told p h =
+    goes_on_writes count counted file input sizes told p h
+plan_writes (Turn file sizes input) before after count counted told p h =
+    turns_file_writes before after count counted file input sizes told p h
+plan_writes (Profile file sizes) before after count counted told p h =
+    profiles_file_writes before after count counted file sizes told p h
+plan_writes (Wrap file sizes names input) before after count counted told p h =
+    wraps_file_writes count counted file names input sizes told p h
+plan_writes (Explain file sizes input) before after count counted told p h =
+    explains_writes file input sizes told p h
 
 -- if nothing is written, each name keeps its text
 kept_all : (old new : Option Texts) (name : Option (List ℕ)) → KeepsButTarget old new None → KeepsButTarget old new name

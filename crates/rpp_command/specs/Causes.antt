@@ -5,7 +5,8 @@ use Rattle.command_line.specs.rpp_ports.Ports.{Texts, KeepsOthers}
 use Rattle.command_line.specs.Lines.{Asked, Check, Compile, Asm, ListImage, Flip, ShowInverse}
 use Rattle.command_line.specs.Lines.{Generate, Cluster, RunImage, Debug, Trace, Go, Turn, Profile}
 use Rattle.command_line.specs.Lines.{Wrap, Explain}
-use Rattle.command_line.specs.command_plan.Files.{Needed, source, assembly, image_file, script_file, input_files}
+use Rattle.command_line.specs.command_plan.Files.{Needed, source, assembly, image_file, script_file}
+use Rattle.command_line.specs.command_plan.Files.{input_files}
 use Rattle.command_line.specs.command_plan.Files.{state_files}
 use Rattle.cluster_commands.specs.ClusterPlans.{cluster_files}
 
@@ -19,14 +20,14 @@ files_of (Flip image flipped) = image_file image ∷ []
 files_of (ShowInverse file out) = source file ∷ []
 files_of (Generate seed size out) = []
 files_of (Cluster script cells images) = cluster_files script images
-files_of (RunImage image heap deep steps state save) = image_file image ∷ state_files state
-files_of (Debug image heap deep script) = image_file image ∷ script_file script ∷ []
-files_of (Trace file heap deep script given) = source file ∷ script_file script ∷ input_files given
-files_of (Go file heap deep steps given) = source file ∷ input_files given
-files_of (Turn file heap deep steps given) = source file ∷ input_files given
-files_of (Profile file heap deep steps) = source file ∷ []
-files_of (Wrap file heap deep steps names given) = source file ∷ input_files given
-files_of (Explain file heap deep fuel given) = source file ∷ input_files given
+files_of (RunImage image sizes state save) = image_file image ∷ state_files state
+files_of (Debug image room script) = image_file image ∷ script_file script ∷ []
+files_of (Trace file room script given) = source file ∷ script_file script ∷ input_files given
+files_of (Go file sizes given) = source file ∷ input_files given
+files_of (Turn file sizes given) = source file ∷ input_files given
+files_of (Profile file sizes) = source file ∷ []
+files_of (Wrap file sizes names given) = source file ∷ input_files given
+files_of (Explain file sizes given) = source file ∷ input_files given
 
 -- the files that the words have read, none if they are no line
 abbrev pub needed : Option Asked → List Needed
@@ -43,14 +44,14 @@ target_of (Flip image flipped) = Some flipped
 target_of (ShowInverse file out) = Some out
 target_of (Generate seed size out) = Some out
 target_of (Cluster script cells images) = None
-target_of (RunImage image heap deep steps state save) = save
-target_of (Debug image heap deep script) = None
-target_of (Trace file heap deep script given) = None
-target_of (Go file heap deep steps given) = None
-target_of (Turn file heap deep steps given) = None
-target_of (Profile file heap deep steps) = None
-target_of (Wrap file heap deep steps names given) = None
-target_of (Explain file heap deep fuel given) = None
+target_of (RunImage image sizes state save) = save
+target_of (Debug image room script) = None
+target_of (Trace file room script given) = None
+target_of (Go file sizes given) = None
+target_of (Turn file sizes given) = None
+target_of (Profile file sizes) = None
+target_of (Wrap file sizes names given) = None
+target_of (Explain file sizes given) = None
 
 -- the file that the words may have written
 abbrev pub target : Option Asked → Option (List ℕ)
@@ -66,8 +67,8 @@ KeepsButTarget (Some old) (Some new) (Some name) = KeepsOthers old new name
 
 -- whether the probes of a line may observe steps
 unfoldable pub tells : Asked → Bool
-tells (Turn file heap deep steps given) = true
-tells (Profile file heap deep steps) = true
+tells (Turn file sizes given) = true
+tells (Profile file sizes) = true
 tells _ = false
 
 -- whether the words may

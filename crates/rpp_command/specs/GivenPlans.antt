@@ -46,28 +46,28 @@ IsPlanOf (ShowInverse file out) before after count counted (text ∷ []) p = IsI
 IsPlanOf (Generate seed size out) before after count counted [] p = Generates seed size out None p
 IsPlanOf (Cluster script cells images) before after count counted (text ∷ read) p =
     IsClusterPlan (images_at read) text cells p
-IsPlanOf (RunImage image heap deep steps state save) before after count counted (bytes ∷ given) p =
-    IsRunPlan (image_at bytes) heap deep steps (state_of given) save count counted p
-IsPlanOf (Debug image heap deep script) before after count counted (bytes ∷ text ∷ []) p =
-    IsDebugPlan (image_at bytes) heap deep text count counted p
-IsPlanOf (Trace file heap deep script input) before after count counted (text ∷ commands ∷ given) p
-    = IsTracePlan text commands (input_of given) heap deep p
-IsPlanOf (Go file heap deep steps input) before after count counted (text ∷ given) p =
-    IsGoPlan count counted text (input_of given) heap deep steps p
-IsPlanOf (Turn file heap deep steps input) before after count counted (text ∷ given) p =
-    IsTurnPlan before after count counted text (input_of given) heap deep steps p
-IsPlanOf (Profile file heap deep steps) before after count counted (text ∷ []) p =
-    IsProfilePlan before after count counted text [] heap deep steps p
-IsPlanOf (Wrap file heap deep steps names input) before after count counted (text ∷ given) p =
-    IsWrapPlan count counted text names (input_of given) heap deep steps p
-IsPlanOf (Explain file heap deep fuel input) before after count counted (text ∷ given) p =
-    IsExplainPlan text (input_of given) heap deep fuel p
+IsPlanOf (RunImage image sizes state save) before after count counted (bytes ∷ given) p =
+    IsRunPlan (image_at bytes) sizes (state_of given) save count counted p
+IsPlanOf (Debug image room script) before after count counted (bytes ∷ text ∷ []) p =
+    IsDebugPlan (image_at bytes) room text count counted p
+IsPlanOf (Trace file room script input) before after count counted (text ∷ commands ∷ given) p
+    = IsTracePlan text commands (input_of given) room p
+IsPlanOf (Go file sizes input) before after count counted (text ∷ given) p =
+    IsGoPlan count counted text (input_of given) sizes p
+IsPlanOf (Turn file sizes input) before after count counted (text ∷ given) p =
+    IsTurnPlan before after count counted text (input_of given) sizes p
+IsPlanOf (Profile file sizes) before after count counted (text ∷ []) p =
+    IsProfilePlan before after count counted text [] sizes p
+IsPlanOf (Wrap file sizes names input) before after count counted (text ∷ given) p =
+    IsWrapPlan count counted text names (input_of given) sizes p
+IsPlanOf (Explain file sizes input) before after count counted (text ∷ given) p =
+    IsExplainPlan text (input_of given) sizes p
 IsPlanOf _ before after count counted texts p = ⊥
 
 -- what is left of the probes if memory runs out before there is a plan of these texts
 unfoldable pub LeavesOf : Asked → (before after : List Watch) → (texts : List (List ℕ)) → Type 0
-LeavesOf (Turn file heap deep steps input) before after (text ∷ given) =
-    IsTurnShort before after text (input_of given) heap deep steps
-LeavesOf (Profile file heap deep steps) before after (text ∷ []) =
-    IsProfileShort before after text [] heap deep steps
+LeavesOf (Turn file sizes input) before after (text ∷ given) =
+    IsTurnShort before after text (input_of given) sizes
+LeavesOf (Profile file sizes) before after (text ∷ []) =
+    IsProfileShort before after text [] sizes
 LeavesOf _ before after texts = after ≡ before

@@ -48,14 +48,14 @@ placed (Flip image flipped) = Flip [] flipped
 placed (ShowInverse file out) = ShowInverse [] out
 placed (Generate seed size out) = Generate seed size out
 placed (Cluster script cells images) = Cluster [] cells (names_from (97 ∷ []) images)
-placed (RunImage image heap deep steps state save) =
-    RunImage [] heap deep steps (at_place (97 ∷ []) state) save
-placed (Debug image heap deep script) = Debug [] heap deep (97 ∷ [])
-placed (Trace file heap deep script input) =
-    Trace [] heap deep (97 ∷ []) (at_place (97 ∷ 97 ∷ []) input)
-placed (Go file heap deep steps input) = Go [] heap deep steps (at_place (97 ∷ []) input)
-placed (Turn file heap deep steps input) = Turn [] heap deep steps (at_place (97 ∷ []) input)
-placed (Profile file heap deep steps) = Profile [] heap deep steps
-placed (Wrap file heap deep steps names input) =
-    Wrap [] heap deep steps names (at_place (97 ∷ []) input)
-placed (Explain file heap deep fuel input) = Explain [] heap deep fuel (at_place (97 ∷ []) input)
+placed (RunImage image sizes state save) =
+    RunImage [] sizes (at_place (97 ∷ []) state) save
+placed (Debug image room script) = Debug [] room (97 ∷ [])
+placed (Trace file room script input) =
+    Trace [] room (97 ∷ []) (at_place (97 ∷ 97 ∷ []) input)
+placed (Go file sizes input) = Go [] sizes (at_place (97 ∷ []) input)
+placed (Turn file sizes input) = Turn [] sizes (at_place (97 ∷ []) input)
+placed (Profile file sizes) = Profile [] sizes
+placed (Wrap file sizes names input) =
+    Wrap [] sizes names (at_place (97 ∷ []) input)
+placed (Explain file sizes input) = Explain [] sizes (at_place (97 ∷ []) input)

@@ -31,28 +31,28 @@ IsPlan (Flip image flipped) before after count counted = FlipsFile image flipped
 IsPlan (ShowInverse file out) before after count counted = ShowsInverse file out
 IsPlan (Generate seed size out) before after count counted = Generates seed size out
 IsPlan (Cluster script cells images) before after count counted = ClustersFiles script cells images
-IsPlan (RunImage image heap deep steps state save) before after count counted =
-    RunsFile image heap deep steps state save count counted
-IsPlan (Debug image heap deep script) before after count counted =
-    DebugsFile image heap deep script count counted
-IsPlan (Trace file heap deep script input) before after count counted =
-    Traces file script input heap deep
-IsPlan (Go file heap deep steps input) before after count counted =
-    GoesOn count counted file input heap deep steps
-IsPlan (Turn file heap deep steps input) before after count counted =
-    TurnsFile before after count counted file input heap deep steps
-IsPlan (Profile file heap deep steps) before after count counted =
-    ProfilesFile before after count counted file heap deep steps
-IsPlan (Wrap file heap deep steps names input) before after count counted =
-    WrapsFile count counted file names input heap deep steps
-IsPlan (Explain file heap deep fuel input) before after count counted =
-    Explains file input heap deep fuel
+IsPlan (RunImage image sizes state save) before after count counted =
+    RunsFile image sizes state save count counted
+IsPlan (Debug image room script) before after count counted =
+    DebugsFile image room script count counted
+IsPlan (Trace file room script input) before after count counted =
+    Traces file script input room
+IsPlan (Go file sizes input) before after count counted =
+    GoesOn count counted file input sizes
+IsPlan (Turn file sizes input) before after count counted =
+    TurnsFile before after count counted file input sizes
+IsPlan (Profile file sizes) before after count counted =
+    ProfilesFile before after count counted file sizes
+IsPlan (Wrap file sizes names input) before after count counted =
+    WrapsFile count counted file names input sizes
+IsPlan (Explain file sizes input) before after count counted =
+    Explains file input sizes
 
 -- what is left of the probes if memory runs out, or a file that could not be read keeps the line
 -- from a plan
 unfoldable pub LeavesProbes : Asked → (before after : List Watch) → Option Texts → Type 0
-LeavesProbes (Turn file heap deep steps input) before after told =
-    TurnsFileShort before after file input heap deep steps told
-LeavesProbes (Profile file heap deep steps) before after told =
-    ProfilesFileShort before after file heap deep steps told
+LeavesProbes (Turn file sizes input) before after told =
+    TurnsFileShort before after file input sizes told
+LeavesProbes (Profile file sizes) before after told =
+    ProfilesFileShort before after file sizes told
 LeavesProbes _ before after told = after ≡ before

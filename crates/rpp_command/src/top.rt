@@ -1,7 +1,7 @@
 // The top call.
 ghost use Rattle.std.specs.Prelude.{◌≡◌, ◌≢◌, Some, false, ◌⊎◌, ◌≤◌, ◌<◌, OnOk, map, string_bytes, IfOk, IfErr, IfSome, IsErrOf, IsTrue};
 ghost use Rattle.command_line.specs.rpp_ports.Ports.{Rose};
-ghost use Rattle.command_line.specs.Lines.{asked, line_of, HasShortNumbers};
+ghost use Rattle.command_line.specs.Lines.{asked, line_of, room_at, sizes_at, HasShortNumbers};
 ghost use Rattle.command_line.specs.command_plan.Plans.{GivesPlan, code_of, planned};
 ghost use Rattle.command_line.specs.command_plan.Statuses.{served_status};
 ghost use Rattle.command_line.specs.command_plan.declared.plan.NoPlan.TheVariants.{NoMemory};
@@ -289,13 +289,7 @@ fn plan_line<S: Shelf, P: Probes, L: Ledger>(
                 shelf,
                 "",
                 &states,
-                Sizes {
-                    room: Room {
-                        heap: *heap,
-                        deep: *deep,
-                    },
-                    bound: *steps,
-                },
+                sizes(*heap, *deep, *steps),
                 counter,
             )
         }
@@ -304,17 +298,7 @@ fn plan_line<S: Shelf, P: Probes, L: Ledger>(
             heap,
             deep,
             script: _,
-        } => debug(
-            alloc,
-            shelf,
-            "",
-            "a",
-            Room {
-                heap: *heap,
-                deep: *deep,
-            },
-            counter,
-        ),
+        } => debug(alloc, shelf, "", "a", room(*heap, *deep), counter),
         Line::Trace {
             file: _,
             heap,
@@ -323,17 +307,7 @@ fn plan_line<S: Shelf, P: Probes, L: Ledger>(
             input,
         } => {
             let input = place_input(alloc, input, "aa")?;
-            trace(
-                alloc,
-                shelf,
-                "",
-                "a",
-                &input,
-                Room {
-                    heap: *heap,
-                    deep: *deep,
-                },
-            )
+            trace(alloc, shelf, "", "a", &input, room(*heap, *deep))
         }
         Line::Go {
             file: _,
@@ -348,13 +322,7 @@ fn plan_line<S: Shelf, P: Probes, L: Ledger>(
                 shelf,
                 "",
                 &input,
-                Sizes {
-                    room: Room {
-                        heap: *heap,
-                        deep: *deep,
-                    },
-                    bound: *steps,
-                },
+                sizes(*heap, *deep, *steps),
                 counter,
             )
         }
@@ -371,13 +339,7 @@ fn plan_line<S: Shelf, P: Probes, L: Ledger>(
                 shelf,
                 "",
                 &input,
-                Sizes {
-                    room: Room {
-                        heap: *heap,
-                        deep: *deep,
-                    },
-                    bound: *steps,
-                },
+                sizes(*heap, *deep, *steps),
                 probes,
                 counter,
             )
@@ -391,13 +353,7 @@ fn plan_line<S: Shelf, P: Probes, L: Ledger>(
             alloc,
             shelf,
             "",
-            Sizes {
-                room: Room {
-                    heap: *heap,
-                    deep: *deep,
-                },
-                bound: *steps,
-            },
+            sizes(*heap, *deep, *steps),
             probes,
             counter,
         ),
@@ -416,13 +372,7 @@ fn plan_line<S: Shelf, P: Probes, L: Ledger>(
                 "",
                 names.as_str(),
                 &input,
-                Sizes {
-                    room: Room {
-                        heap: *heap,
-                        deep: *deep,
-                    },
-                    bound: *steps,
-                },
+                sizes(*heap, *deep, *steps),
                 counter,
             )
         }
@@ -434,19 +384,24 @@ fn plan_line<S: Shelf, P: Probes, L: Ledger>(
             input,
         } => {
             let input = place_input(alloc, input, "a")?;
-            explain(
-                alloc,
-                shelf,
-                "",
-                &input,
-                Sizes {
-                    room: Room {
-                        heap: *heap,
-                        deep: *deep,
-                    },
-                    bound: *fuel,
-                },
-            )
+            explain(alloc, shelf, "", &input, sizes(*heap, *deep, *fuel))
         }
+    }
+}
+
+// H and D of a line.
+fn room(heap: u64, deep: u64) -> Room
+    ensures { result ≡ room_at heap deep }
+{
+    Room { heap, deep }
+}
+
+// H, D and STEPS of a line.
+fn sizes(heap: u64, deep: u64, steps: u64) -> Sizes
+    ensures { result ≡ sizes_at heap deep steps }
+{
+    Sizes {
+        room: room(heap, deep),
+        bound: steps,
     }
 }

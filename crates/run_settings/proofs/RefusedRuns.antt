@@ -5,6 +5,7 @@ use Rattle.std.specs.Prelude.{Result}
 use Rattle.roopl_judge.specs.rpp_words.declared.input.FieldWord.{FieldWord}
 use Rattle.roopl_judge.specs.rpp_tree.Tree.{Source}
 use Rattle.roopl_judge.specs.class_table.Refusal.{Refusal}
+use Rattle.command_plan.specs.declared.plan.Room.{Room}
 use Rattle.command_plan.specs.pisa_loader.declared.error.LoadError.{LoadError}
 use Rattle.command_plan.specs.Plans.{Planned, WritesOnly}
 use Rattle.command_plan.proofs.Writes.{along}
@@ -28,7 +29,7 @@ sizes_refused_writes : (refusal : Option LoadError) (given : List ℕ) (program 
 sizes_refused_writes (Some e) given program p h = along p _ None h (inl refl)
 sizes_refused_writes None given program p h = input_refused_writes (given_input program given) p h
 
-pub refused_writes : (text given : List ℕ) (heap deep : ℕ) (p : Planned) → RefusesRun text given heap deep p
+pub refused_writes : (text given : List ℕ) (room : Room) (p : Planned) → RefusesRun text given room p
     → WritesOnly p None
-refused_writes text given heap deep p g =
+refused_writes text given room p g =
     judged_writes g.judgement _ None p (λ program q h. sizes_refused_writes _ given program q h) g.plan

@@ -6,6 +6,7 @@ use Rattle.roopl_judge.specs.rpp_words.declared.input.Limits.{Limits}
 use Rattle.roopl_judge.specs.rpp_words.declared.input.TheConstants.{MOST_DEEP}
 use Rattle.roopl_judge.specs.rpp_tree.Tree.{Source}
 use Rattle.roopl_judge.specs.class_table.Refusal.{Refusal}
+use Rattle.command_plan.specs.declared.plan.Room.{Room}
 use Rattle.command_plan.specs.pisa_loader.Limiting.{limits_refusal}
 use Rattle.command_plan.specs.pisa_loader.declared.error.LoadError.{LoadError}
 use Rattle.roopl_judge.specs.Judged.{IsJudged}
@@ -38,23 +39,23 @@ RefusesSizes None given program p = RefusesInput (given_input program given) p
 
 -- the plan reports the first refusal of a text that is to be run: of the text, of the sizes, of the
 -- input
-abbrev pub RefusesRun : (text given : List ℕ) → (heap deep : ℕ) → Planned → Type 0
-RefusesRun text given heap deep p =
-    IsJudgedPlan text (RefusesSizes (limits_refusal heap deep MOST_DEEP) given) p
+abbrev pub RefusesRun : (text given : List ℕ) → (room : Room) → Planned → Type 0
+RefusesRun text given room p =
+    IsJudgedPlan text (RefusesSizes (limits_refusal room.heap room.deep MOST_DEEP) given) p
 
 -- nothing of it is refused: the text is this program, which is run with these sizes on this input
-pub record CanRun (text given : List ℕ) (heap deep : ℕ) (program : Source) (limits : Limits)
+pub record CanRun (text given : List ℕ) (room : Room) (program : Source) (limits : Limits)
     (input : List FieldWord) : Type 0 where
   pub judged : IsJudged text (Ok program)
-  pub sizes : limits_refusal heap deep MOST_DEEP ≡ None
-  pub limits_are : limits ≡ record { heap = heap; deep = deep }
+  pub sizes : limits_refusal room.heap room.deep MOST_DEEP ≡ None
+  pub limits_are : limits ≡ record { heap = room.heap; deep = room.deep }
   pub input_is : given_input program given ≡ Ok input
 
 -- a text can be run, and P holds for its run
-pub record RunsTo (text given : List ℕ) (heap deep : ℕ)
+pub record RunsTo (text given : List ℕ) (room : Room)
     (P : Source → Limits → List FieldWord → Type 0) : Type 0 where
   pub program : Source
   pub limits : Limits
   pub input : List FieldWord
-  pub can_run : CanRun text given heap deep program limits input
+  pub can_run : CanRun text given room program limits input
   pub run : P program limits input

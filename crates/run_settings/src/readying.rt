@@ -25,8 +25,8 @@ pub fn ready(alloc: Global, text: &[u8], given: &[u8], sizes: Sizes) -> Result<R
     requires given { length given.now ≤ MOST_INPUT }
     requires bound { sizes.bound < 2 ^ 63 }
     ensures { IfOk result (λ ready.
-        IsReadied (RefusesRun text.now given.now sizes.room.heap sizes.room.deep)
-        (CanRun text.now given.now sizes.room.heap sizes.room.deep) sizes.bound ready) }
+        IsReadied (RefusesRun text.now given.now sizes.room)
+        (CanRun text.now given.now sizes.room) sizes.bound ready) }
 {
     match judge(alloc, text) {
         Ok(checked) => ready_sized(alloc, checked, given, sizes),

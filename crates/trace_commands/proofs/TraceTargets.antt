@@ -14,6 +14,7 @@ use Rattle.run_settings.specs.command_plan.Plans.{Planned, WritesOnly}
 use Rattle.run_settings.proofs.command_plan_laws.Writes.{along}
 use Rattle.run_settings.proofs.RefusedRuns.{refused_writes}
 use Rattle.trace_commands.specs.TracePlans.{IsScriptPlan, IsTracePlan, Traces}
+use Rattle.command_plan.specs.declared.plan.Room.{Room}
 
 script_writes : (read : Result (List Command) ScriptError) (program : Source) (limits : Limits) (input : List FieldWord)
     (p : Planned) → IsScriptPlan read program limits input p → WritesOnly p None
@@ -21,13 +22,13 @@ script_writes (Err (BadCommand line)) program limits input p h = along p _ None 
 script_writes (Err NoMemory) program limits input p h = absurd h
 script_writes (Ok commands) program limits input p h = along p _ None h.2 (inl refl)
 
-trace_writes : (text script given : List ℕ) (heap deep : ℕ) (p : Planned) → IsTracePlan text script given heap deep p
+trace_writes : (text script given : List ℕ) (room : Room) (p : Planned) → IsTracePlan text script given room p
     → WritesOnly p None
-trace_writes text script given heap deep p (inl refused) = refused_writes text given heap deep p refused
-trace_writes text script given heap deep p (inr to) =
+trace_writes text script given room p (inl refused) = refused_writes text given room p refused
+trace_writes text script given room p (inr to) =
     script_writes (script_of script) to.program to.limits to.input p to.run
 
-pub traces_writes : (file script : List ℕ) (input : Option (List ℕ)) (heap deep : ℕ) (told : Option Texts)
-    (p : Planned) → Traces file script input heap deep told p → WritesOnly p None
-traces_writes file script input heap deep told p h =
-    trace_writes h.text h.holds.text h.holds.holds.text heap deep p h.holds.holds.holds
+pub traces_writes : (file script : List ℕ) (input : Option (List ℕ)) (room : Room) (told : Option Texts)
+    (p : Planned) → Traces file script input room told p → WritesOnly p None
+traces_writes file script input room told p h =
+    trace_writes h.text h.holds.text h.holds.holds.text room p h.holds.holds.holds

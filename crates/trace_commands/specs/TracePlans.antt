@@ -18,6 +18,7 @@ use Rattle.run_settings.specs.command_plan.declared.plan.Verdict.TheVariants.{Do
 use Rattle.run_settings.specs.command_plan.Plans.{Planned, prints, WithText, WithInput}
 use Rattle.run_settings.specs.command_plan.Texts.{bad_command_line}
 use Rattle.run_settings.specs.Runnable.{RefusesRun, RunsTo}
+use Rattle.command_plan.specs.declared.plan.Room.{Room}
 
 -- the commands print this text along the run from its start on: there is fuel with which the run is
 -- known as far as they go
@@ -38,17 +39,17 @@ IsScriptPlan (Ok commands) program limits input p =
     (text : List ℕ) × Follows commands program limits input text × (p ≡ prints Done text)
 
 -- the first refusal of a text that is to be run is reported, or the script is tried
-abbrev pub IsTracePlan : (text script given : List ℕ) → (heap deep : ℕ) → Planned → Type 0
-IsTracePlan text script given heap deep p =
-    RefusesRun text given heap deep p
-    ⊎ RunsTo text given heap deep (λ program limits input. IsScriptPlan (script_of script) program
+abbrev pub IsTracePlan : (text script given : List ℕ) → (room : Room) → Planned → Type 0
+IsTracePlan text script given room p =
+    RefusesRun text given room p
+    ⊎ RunsTo text given room (λ program limits input. IsScriptPlan (script_of script) program
     limits input p)
 
 -- the plan of `trace` by this script over this file, on an input if there is one
-abbrev pub Traces : (file script : List ℕ) → (input : Option (List ℕ)) → (heap deep : ℕ)
+abbrev pub Traces : (file script : List ℕ) → (input : Option (List ℕ)) → (room : Room)
     → Option Texts
     → Planned → Type 0
-Traces file script input heap deep told p =
+Traces file script input room told p =
     WithText told file MOST_BYTES
     (λ text. WithText told script MOST_SCRIPT (λ commands. WithInput told input (λ given.
-    IsTracePlan text commands given heap deep p)))
+    IsTracePlan text commands given room p)))

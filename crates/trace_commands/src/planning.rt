@@ -43,7 +43,7 @@ pub fn trace<S: Shelf>(
     room: Room,
 ) -> Result<Plan, NoPlan>
     ensures plan { GivesPlan (S.texts shelf.old)
-        (Traces file.now script.now (option_map string_bytes input.now) room.heap room.deep)
+        (Traces file.now script.now (option_map string_bytes input.now) room)
         result }
     ensures reads { OnlyReads (S.texts shelf.old) (S.texts shelf.new) (S.faults shelf.old)
         (S.faults shelf.new)
@@ -91,7 +91,7 @@ fn trace_text(alloc: Global, read: &Read, room: Room) -> Result<Plan, NoMemory>
     requires script { length read.now.script.items ≤ MOST_SCRIPT }
     requires given { length read.now.given.items ≤ MOST_INPUT }
     ensures { IfOk result (λ plan. IsTracePlan read.now.text.items read.now.script.items
-        read.now.given.items room.heap room.deep (planned plan)) }
+        read.now.given.items room (planned plan)) }
 {
     let sizes = Sizes { room, bound: 0 };
     match ready(alloc, &read.text, &read.given, sizes)? {

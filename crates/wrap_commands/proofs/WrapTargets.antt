@@ -9,12 +9,14 @@ use Rattle.program_commands.specs.rpp_tree.Tree.{Source}
 use Rattle.program_commands.specs.rpp_ports.Ports.{Texts}
 use Rattle.program_commands.specs.class_table.Refusal.{Refusal}
 use Rattle.program_commands.specs.pisa_isa.declared.machine.Stop.{Stop}
-use Rattle.program_commands.specs.pisa_isa.declared.machine.Stop.TheVariants.{Finished, Trap, Bound, Returned, BadAddress, OffCode}
+use Rattle.program_commands.specs.pisa_isa.declared.machine.Stop.TheVariants.{Finished, Trap, Bound, Returned}
+use Rattle.program_commands.specs.pisa_isa.declared.machine.Stop.TheVariants.{BadAddress, OffCode}
 use Rattle.program_commands.specs.pisa_isa.Image.{Segments}
 use Rattle.program_commands.specs.pisa_isa.Machine.{State}
 use Rattle.program_commands.specs.pisa_loader.Limiting.{limits_refusal}
 use Rattle.program_commands.specs.pisa_loader.declared.error.LoadError.{LoadError}
 use Rattle.program_commands.specs.pisa_loader.declared.input.InputField.{InputField}
+use Rattle.program_commands.specs.command_plan.declared.plan.Sizes.{Sizes}
 use Rattle.program_commands.specs.command_plan.Plans.{Planned, WritesOnly}
 use Rattle.program_commands.proofs.command_plan_laws.Writes.{along}
 use Rattle.program_commands.specs.run_settings.Inputs.{input_fields, given_input}
@@ -55,20 +57,22 @@ module _ (count counted : ℕ) where
   sized_writes None names given program limits steps p h =
       named_writes (results_of (input_fields program) names) given program limits steps p h
 
-  judged_writes : (judgement : Result Source Refusal) (names given : List ℕ) (heap deep steps : ℕ) (p : Planned)
-      → OfRunProgram count counted (λ program. IsSizedPlan count counted (limits_refusal heap deep MOST_DEEP) names
-      given program (record { heap = heap; deep = deep }) steps) judgement p → WritesOnly p None
-  judged_writes (Err refusal) names given heap deep steps p h = along p _ None h.0 (inl refl)
-  judged_writes (Ok program) names given heap deep steps p h =
-      sized_writes (limits_refusal heap deep MOST_DEEP) names given program (record { heap = heap; deep = deep })
-      steps p h
+  judged_writes : (judgement : Result Source Refusal) (names given : List ℕ) (sizes : Sizes) (p : Planned)
+      → OfRunProgram count counted (λ program. IsSizedPlan count counted
+      (limits_refusal sizes.room.heap sizes.room.deep MOST_DEEP) names
+      given program (record { heap = sizes.room.heap; deep = sizes.room.deep }) sizes.bound) judgement p
+      → WritesOnly p None
+  judged_writes (Err refusal) names given sizes p h = along p _ None h.0 (inl refl)
+  judged_writes (Ok program) names given sizes p h =
+      sized_writes (limits_refusal sizes.room.heap sizes.room.deep MOST_DEEP) names given program
+      (record { heap = sizes.room.heap; deep = sizes.room.deep }) sizes.bound p h
 
-  wrap_writes : (text names given : List ℕ) (heap deep steps : ℕ) (p : Planned)
-      → IsWrapPlan count counted text names given heap deep steps p → WritesOnly p None
-  wrap_writes text names given heap deep steps p g = judged_writes g.judgement names given heap deep steps p g.plan
+  wrap_writes : (text names given : List ℕ) (sizes : Sizes) (p : Planned)
+      → IsWrapPlan count counted text names given sizes p → WritesOnly p None
+  wrap_writes text names given sizes p g = judged_writes g.judgement names given sizes p g.plan
 
-pub wraps_file_writes : (count counted : ℕ) (file names : List ℕ) (input : Option (List ℕ)) (heap deep steps : ℕ)
-    (told : Option Texts) (p : Planned) → WrapsFile count counted file names input heap deep steps told p
+pub wraps_file_writes : (count counted : ℕ) (file names : List ℕ) (input : Option (List ℕ)) (sizes : Sizes)
+    (told : Option Texts) (p : Planned) → WrapsFile count counted file names input sizes told p
     → WritesOnly p None
-wraps_file_writes count counted file names input heap deep steps told p h =
-    wrap_writes count counted h.text names h.holds.text heap deep steps p h.holds.holds
+wraps_file_writes count counted file names input sizes told p h =
+    wrap_writes count counted h.text names h.holds.text sizes p h.holds.holds

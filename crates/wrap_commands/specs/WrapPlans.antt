@@ -11,7 +11,8 @@ use Rattle.program_commands.specs.rpp_tree.Tree.{Source}
 use Rattle.program_commands.specs.rpp_ports.Ports.{Texts}
 use Rattle.program_commands.specs.class_table.Refusal.{Refusal}
 use Rattle.program_commands.specs.pisa_isa.declared.machine.Stop.{Stop}
-use Rattle.program_commands.specs.pisa_isa.declared.machine.Stop.TheVariants.{Finished, Trap, Bound as AtBound}
+use Rattle.program_commands.specs.pisa_isa.declared.machine.Stop.TheVariants.{Finished, Trap}
+use Rattle.program_commands.specs.pisa_isa.declared.machine.Stop.TheVariants.{Bound as AtBound}
 use Rattle.program_commands.specs.pisa_isa.Image.{Segments, IsImage}
 use Rattle.program_commands.specs.pisa_isa.Loaded.{loaded}
 use Rattle.program_commands.specs.pisa_isa.Machine.{State as MachineState}
@@ -25,7 +26,9 @@ use Rattle.program_commands.specs.roopl_semantics.StandsFor.{StandsFor, EndsAt}
 use Rattle.refine_wrap.specs.bennett_wrap.Wrapped.{Wrapped}
 use Rattle.refine_wrap.specs.Programs.{EndsDone, wrapped_run, enough_wrapped}
 use Rattle.program_commands.specs.roopl_judge.Judged.{IsJudged}
-use Rattle.program_commands.specs.command_plan.declared.plan.Verdict.TheVariants.{Done, Bound, InputRefused}
+use Rattle.program_commands.specs.command_plan.declared.plan.Sizes.{Sizes}
+use Rattle.program_commands.specs.command_plan.declared.plan.Verdict.TheVariants.{Done, Bound}
+use Rattle.program_commands.specs.command_plan.declared.plan.Verdict.TheVariants.{InputRefused}
 use Rattle.program_commands.specs.command_plan.Plans.{Planned, prints, WithText, WithInput}
 use Rattle.program_commands.specs.command_plan.Texts.{load_line, steps_line, bound_lines}
 use Rattle.program_commands.specs.run_settings.Inputs.{input_fields, given_input}
@@ -125,18 +128,19 @@ OfRunProgram count counted P (Err refusal) p = OfProgram P (Err refusal) p × (c
 OfRunProgram count counted P (Ok program) p = P program p
 
 -- the text is checked, and the plan is that of the result
-pub record IsWrapPlan (count counted : ℕ) (text names given : List ℕ) (heap deep steps : ℕ)
+pub record IsWrapPlan (count counted : ℕ) (text names given : List ℕ) (sizes : Sizes)
     (p : Planned) : Type 0 where
   pub judgement : Result Source Refusal
   pub judged : IsJudged text judgement
   pub plan : OfRunProgram count counted
-      (λ program. IsSizedPlan count counted (limits_refusal heap deep MOST_DEEP) names given
-      program (record { heap = heap; deep = deep }) steps) judgement p
+      (λ program. IsSizedPlan count counted (limits_refusal sizes.room.heap sizes.room.deep
+      MOST_DEEP) names given
+      program (record { heap = sizes.room.heap; deep = sizes.room.deep }) sizes.bound) judgement p
 
 -- the plan of `wrap` of this file for these names, on an input if there is one
 abbrev pub WrapsFile : (count counted : ℕ) → (file names : List ℕ) → (input : Option (List ℕ))
-    → (heap deep steps : ℕ) → Option Texts → Planned → Type 0
-WrapsFile count counted file names input heap deep steps told p =
+    → (sizes : Sizes) → Option Texts → Planned → Type 0
+WrapsFile count counted file names input sizes told p =
     WithText told file MOST_BYTES
     (λ text. WithInput told input
-    (λ given. IsWrapPlan count counted text names given heap deep steps p))
+    (λ given. IsWrapPlan count counted text names given sizes p))

@@ -50,7 +50,7 @@ pub fn wrap<S: Shelf, L: Ledger>(
     requires { sizes.bound < 2 ^ 63 }
     ensures plan { GivesPlan (S.texts shelf.old)
         (WrapsFile steps.old steps.new file.now names.now (option_map string_bytes input.now)
-        sizes.room.heap sizes.room.deep sizes.bound) result }
+        sizes) result }
     ensures within { steps.new ≤ steps.old + sizes.bound }
     ensures unread { IfErr result (UnreadCause (steps.new ≡ steps.old)) }
     ensures reads { OnlyReads (S.texts shelf.old) (S.texts shelf.new) (S.faults shelf.old)
@@ -77,8 +77,7 @@ fn wrap_text<L: Ledger>(
     requires input { length request.now.input.items ≤ MOST_INPUT }
     requires bound { request.now.sizes.bound < 2 ^ 63 }
     ensures plan { IfOk result (λ plan. IsWrapPlan steps.old steps.new text.now
-        request.now.names.items request.now.input.items request.now.sizes.room.heap
-        request.now.sizes.room.deep request.now.sizes.bound (planned plan)) }
+        request.now.names.items request.now.input.items request.now.sizes (planned plan)) }
     ensures within { steps.new ≤ steps.old + request.now.sizes.bound }
 {
     match judge(alloc, text) {

@@ -12,7 +12,7 @@ pub returns-clause-plan : goal.returns-clause-plan
 returns-clause-plan g c =
     let told = g.S.Shelf.texts c.args.shelf.now in
     let read = c.in_ok-read.read in
-    let P : List ℕ → List ℕ → Type 0 = λ bytes text. IsDebugPlan (image_at bytes) c.args.room.heap c.args.room.deep
+    let P : List ℕ → List ℕ → Type 0 = λ bytes text. IsDebugPlan (image_at bytes) c.args.room
     text c.args.steps.now c.debug_over.new.steps (planned c.in_ok-debug_over.field-0) in
     with_text told c.args.image.now MOST_IMAGE read.first.items c.deref.result.now
     (λ bytes. WithText told c.args.script.now MOST_SCRIPT (P bytes)) c.in_ok-read.ensures.text
@@ -25,10 +25,10 @@ pub returns-in_err-debug_over-clause-short : goal.returns-in_err-debug_over-clau
 returns-in_err-debug_over-clause-short g c =
     let told = g.S.Shelf.texts c.args.shelf.now in
     let read = c.in_ok-read.read in
-    let P : List ℕ → List ℕ → Type 0 = λ bytes text. IsDebugShort (image_at bytes) c.args.room.heap c.args.room.deep
+    let P : List ℕ → List ℕ → Type 0 = λ bytes text. IsDebugShort (image_at bytes) c.args.room
     text c.args.steps.now c.debug_over.new.steps in
     err_always c.from_residual-in_err-debug_over.result
-    (DebugsFileShort c.args.image.now c.args.room.heap c.args.room.deep c.args.script.now c.args.steps.now
+    (DebugsFileShort c.args.image.now c.args.room c.args.script.now c.args.steps.now
     c.debug_over.new.steps told)
     (⊎_elim (λ e. inl e)
     (λ short. inr (with_text told c.args.image.now MOST_IMAGE read.first.items c.deref.result.now

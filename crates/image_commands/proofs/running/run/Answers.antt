@@ -13,8 +13,8 @@ returns-clause-plan g c =
     let told = g.S.Shelf.texts c.args.shelf.now in
     let named = state_of_names c.args.states.now in
     let state = option_map (λ v. v.items) c.in_ok-read.read.state in
-    let P : List ℕ → Option (List ℕ) → Type 0 = λ bytes given. IsRunPlan (image_at bytes) c.args.sizes.room.heap
-    c.args.sizes.room.deep c.args.sizes.bound given (save_of_names c.args.states.now) c.args.steps.now
+    let P : List ℕ → Option (List ℕ) → Type 0 = λ bytes given. IsRunPlan (image_at bytes) c.args.sizes given
+    (save_of_names c.args.states.now) c.args.steps.now
     c.run_over.new.steps
     (planned c.in_ok-run_over.field-0) in
     with_text told c.args.image.now MOST_IMAGE c.in_ok-read.read.image.items c.deref.result.now

@@ -11,7 +11,7 @@ returns-clause-plan g c =
     let input = option_map string_bytes c.args.input.now in
     let given = c.in_ok-given.given in
     let P : List ℕ → List ℕ → Type 0 = λ text entered. IsGoPlan c.args.steps.now c.go_over.new.steps text
-    entered c.args.sizes.room.heap c.args.sizes.room.deep c.args.sizes.bound (planned c.in_ok-go_over.field-0) in
+    entered c.args.sizes (planned c.in_ok-go_over.field-0) in
     with_text told c.args.file.now MOST_BYTES given.text.items c.deref.result.now
     (λ text. WithInput told input (P text)) c.in_ok-given.ensures.text c.in_ok-given.ensures.within
     c.deref.ensures.value

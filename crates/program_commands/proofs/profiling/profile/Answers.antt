@@ -12,8 +12,7 @@ returns-clause-plan g c =
     with_text (g.S.Shelf.texts c.args.shelf.now) c.args.file.now MOST_BYTES c.in_ok-text.text.items c.deref.result.now
     (λ text. IsProfilePlan (g.P.Probes.watches c.args.probes.now)
     (g.P.Probes.watches c.profile_text.new.probes) c.args.steps.now c.profile_text.new.steps text []
-    c.args.sizes.room.heap
-    c.args.sizes.room.deep c.args.sizes.bound (planned c.in_ok-profile_text.field-0)) c.in_ok-text.ensures.text
+    c.args.sizes (planned c.in_ok-profile_text.field-0)) c.in_ok-text.ensures.text
     c.in_ok-text.ensures.within
     c.deref.ensures.value c.in_ok-profile_text.ensures.plan
 
@@ -23,9 +22,9 @@ returns-in_err-profile_text-clause-short g c =
     let before = g.P.Probes.watches c.args.probes.now in
     let after = g.P.Probes.watches c.profile_text.new.probes in
     err_always c.from_residual-in_err-profile_text.result
-    (ProfilesFileShort before after c.args.file.now c.args.sizes.room.heap c.args.sizes.room.deep c.args.sizes.bound
+    (ProfilesFileShort before after c.args.file.now c.args.sizes
     told)
     (inr (with_text told c.args.file.now MOST_BYTES c.in_ok-text.text.items c.deref.result.now
-    (λ text. IsProfileShort before after text [] c.args.sizes.room.heap c.args.sizes.room.deep c.args.sizes.bound)
+    (λ text. IsProfileShort before after text [] c.args.sizes)
     c.in_ok-text.ensures.text c.in_ok-text.ensures.within c.deref.ensures.value
     c.in_err-profile_text.ensures.short))

@@ -14,8 +14,7 @@ returns-clause-plan g c =
     let given = c.in_ok-given.given in
     let P : List ℕ → List ℕ → Type 0 = λ text entered. IsTurnPlan (g.P.Probes.watches c.args.probes.now)
     (g.P.Probes.watches c.turn_over.new.probes) c.args.steps.now c.turn_over.new.steps text entered
-    c.args.sizes.room.heap
-    c.args.sizes.room.deep c.args.sizes.bound (planned c.in_ok-turn_over.field-0) in
+    c.args.sizes (planned c.in_ok-turn_over.field-0) in
     with_text told c.args.file.now MOST_BYTES given.text.items c.deref.result.now
     (λ text. WithInput told input (P text)) c.in_ok-given.ensures.text c.in_ok-given.ensures.within
     c.deref.ensures.value
@@ -29,10 +28,9 @@ returns-in_err-turn_over-clause-short g c =
     let given = c.in_ok-given.given in
     let before = g.P.Probes.watches c.args.probes.now in
     let after = g.P.Probes.watches c.turn_over.new.probes in
-    let P : List ℕ → List ℕ → Type 0 = λ text entered. IsTurnShort before after text entered c.args.sizes.room.heap
-    c.args.sizes.room.deep c.args.sizes.bound in
+    let P : List ℕ → List ℕ → Type 0 = λ text entered. IsTurnShort before after text entered c.args.sizes in
     err_always c.from_residual-in_err-turn_over.result
-    (TurnsFileShort before after c.args.file.now input c.args.sizes.room.heap c.args.sizes.room.deep c.args.sizes.bound
+    (TurnsFileShort before after c.args.file.now input c.args.sizes
     told)
     (inr (with_text told c.args.file.now MOST_BYTES given.text.items c.deref.result.now
     (λ text. WithInput told input (P text)) c.in_ok-given.ensures.text c.in_ok-given.ensures.within
