@@ -1,18 +1,15 @@
-// Probes that watch: what `profile` says of them, what `turn` leaves of them, and that those of no
-// other line observe steps.
+// Probes of a caller that watch: what `profile` says of them, and what `turn` leaves of them.
 ghost use Rattle.std.specs.Prelude.{true, [], ◌∷◌, codes};
 
 use crate::serving::shelf_of;
 use rpp_command::rooplpp;
 use rpp_ports::MemorySink;
-use rpp_probes::{Coverage, DeepestPlace, Probe, Probes, StepTally};
+use rpp_probes::{Coverage, Probe, Probes, StepTally};
 use rpp_words::NoMemory;
 use std::alloc::{AllocError, Global};
 use std::test::Fail;
 
 const FIRST: &[u8] = b"class P int x method main() x += 5";
-
-const UNTOLD: &str = "forward 0 back 0\nplaces 0\ndeepest none\n";
 
 // The status of a line over the first program as probes watch, its text, and the lines of the
 // probes that are left.
@@ -33,16 +30,6 @@ fn answer_as_watch<P: Probes>(
     Ok((status, out.bytes().to_vec(alloc)?, left))
 }
 
-// The probes of the program itself, except for the number of steps after which code addresses are
-// no longer observed.
-fn watching(alloc: Global, limit: u32) -> Result<Vec<Box<dyn Probe>>, Fail> {
-    let mut probes: Vec<Box<dyn Probe>> = Vec::new(alloc);
-    probes.push(Box::new(alloc, StepTally::new())?)?;
-    probes.push(Box::new(alloc, Coverage::new(alloc, limit as u64)?)?)?;
-    probes.push(Box::new(alloc, DeepestPlace::new())?)?;
-    Ok(probes)
-}
-
 // The numbers of a text, in their order.
 fn numbers_of(alloc: Global, text: &[u8]) -> Result<Vec<u64>, AllocError> {
     let mut numbers: Vec<u64> = Vec::new(alloc);
@@ -61,55 +48,6 @@ fn numbers_of(alloc: Global, text: &[u8]) -> Result<Vec<u64>, AllocError> {
         }
     }
     Ok(numbers)
-}
-
-// What is printed before the numbers that the code decides, and the first line of those probes that
-// are left.
-#[test]
-fn probes_watch(rt: HostRuntime) -> Result<(), Fail> {
-    let alloc = rt.alloc();
-    for (words, status, text, left) in [
-        (
-            "profile F 1 1 1000000",
-            0,
-            "x = 5\nlive 0\nsteps ",
-            "forward ",
-        ),
-        (
-            "profile F 1 1 3",
-            6,
-            "bound\nsteps 3\nforward 3 back 0\nplaces 3\ndeepest 2\n",
-            "forward 3 back 0\nplaces 3\ndeepest 2\n",
-        ),
-        (
-            "profile F 1 1 0",
-            6,
-            "bound\nsteps 0\nforward 0 back 0\nplaces 0\ndeepest none\n",
-            UNTOLD,
-        ),
-        ("turn F 1 1 6", 6, "bound\nsteps 6\n", UNTOLD),
-        ("go F 1 1 1000000", 0, "x = 5\nlive 0\nsteps ", UNTOLD),
-        ("profile F 21 1 5", 8, "refused 35 HeapOrder\n", UNTOLD),
-        ("profile G 1 1 5", 2, "cannot read G: missing\n", UNTOLD),
-        ("profile F 1 1 5 I", 1, "words refused\n", UNTOLD),
-        ("profile F 1 1", 1, "words refused\n", UNTOLD),
-    ] {
-        let mut probes = watching(alloc, 4)?;
-        let (code, said, lines) = answer_as_watch(alloc, words, &mut probes)?;
-        assert_eq!(rt; code, status, "{words}");
-        assert!(rt; said.as_slice().starts_with(text.as_bytes()), "{words}");
-        assert!(rt; lines.as_str().starts_with(left), "{words}");
-    }
-
-    // A probe that ends is not left, and its line comes first.
-    let mut probes = watching(alloc, 4)?;
-    let (_, said, left) = answer_as_watch(alloc, "profile F 1 1 1000000", &mut probes)?;
-    assert_eq!(rt; probes.len(), 2);
-    assert!(rt; said.as_slice().ends_with(left.as_str().as_bytes()));
-    let told = numbers_of(alloc, said.as_slice())?;
-    assert_eq!(rt; told.len(), 7);
-    assert_eq!(rt; told[3], 4);
-    Ok(())
 }
 
 // A caller's own probe: it ends with the first step, whose place it keeps.
