@@ -17,6 +17,8 @@ from sources import Sources, read_lines
 
 HERE = os.path.dirname(os.path.realpath(__file__))
 PLAYGROUND = 'release/playground.html'
+# What is built is no part of the site, and this page says what release/ has.
+BUILT, RELEASE, RELEASE_PAGE = {'.git', 'out', '__pycache__'}, 'release', 'packaging/README.md'
 PICTURES = ('.png', '.svg', '.jpg', '.gif')
 NAVIGATION = (('Start', 'index.html'), ('Tutorial', 'docs/learn/tutorial.html'), ('Reference', 'docs/reference/language.html'),
               ('Theorem', 'proof/theorem.html'), ('Proof', 'proof/index.html'), ('Order of reading', 'docs/proof/READING.html'))
@@ -34,6 +36,18 @@ placeholder="Search the names ( / )" autocomplete="off"><ul id="site-found" role
 '''
 
 
+def files_of(top):
+    """The files of the repository, without those of release/ but the playground: those that git knows, or all if there is no git."""
+    listed = subprocess.run(['git', '-C', top, 'ls-files', '-z'], stdout=subprocess.PIPE, stderr=subprocess.DEVNULL, check=False)
+    if listed.returncode == 0:
+        found = listed.stdout.decode().split('\0')
+    else:
+        paths = (os.path.join(at, name) for at, _, names in os.walk(top) for name in names)
+        found = sorted(os.path.relpath(it, top) for it in paths)
+    found = [it for it in found if os.path.isfile(f'{top}/{it}') and not BUILT & set(it.split('/'))]
+    return [it for it in found if it == PLAYGROUND or not it.startswith(f'{RELEASE}/')]
+
+
 def up_from(page):
     """The way from a page to the root of the site."""
     return '../' * page.count('/')
@@ -46,8 +60,7 @@ class Site:
         self.top, self.folder = top, folder
         self.sources = Sources(top)
         self.proof = Proof(self.sources, Names(self.sources))
-        listed = subprocess.run(['git', '-C', top, 'ls-files', '-z'], stdout=subprocess.PIPE, check=False).stdout.decode()
-        self.files = [it for it in listed.split('\0') if it and os.path.isfile(f'{top}/{it}')]
+        self.files = files_of(top)
         self.folders = {os.path.dirname(it) for it in self.files}
         self.folders |= {part for it in self.folders for part in self.parents(it)}
         self.has_playground = os.path.isfile(f'{top}/{PLAYGROUND}')
@@ -82,6 +95,7 @@ class Site:
             return target
         plain, _, anchor = target.partition('#')
         path = os.path.normpath(os.path.join(os.path.dirname(source), plain))
+        path = RELEASE_PAGE if path == RELEASE else path
         found = self.page_for(path)
         if found is None:
             return target
