@@ -1,6 +1,7 @@
 // The sizes of files, and the numbers of runs and probes.
 ghost use Rattle.std.specs.Prelude.{◌≡◌};
 ghost use Rattle.command_plan.specs.rpp_probes.declared.coverage.TheConstants.{MOST_PLACES};
+ghost use Rattle.source_debugger.specs.declared.running.TheConstants.{MOST_COST};
 
 use command_line::{MOST_COMMON, MOST_ITEMS, MOST_PROCESSORS};
 use command_plan::{MOST_IMAGE, MOST_STATE};
@@ -18,7 +19,7 @@ pub fn file_numbers()
     ensures scripts { (MOST_DIGITS ≡ 18) × (MOST_SHOWN ≡ 1_000) }
     // What a line of arguments may ask of the generator and of a cluster.
     ensures asked { (MOST_ITEMS ≡ 800) × (MOST_PROCESSORS ≡ 8) × (MOST_COMMON ≡ 65_536) }
-    // The last position in a run: 2 ^ 63 - 1.
-    ensures runs { LAST_POSITION ≡ 0x7fff_ffff_ffff_ffff }
+    // The last position in a run, 2 ^ 63 - 1, and the most cost of one that `trace` follows, 2 ^ 64 - 1.
+    ensures runs { (LAST_POSITION ≡ 0x7fff_ffff_ffff_ffff) × (MOST_COST ≡ 0xffff_ffff_ffff_ffff) }
     ensures probes { MOST_PLACES ≡ 4_194_304 }
 {}
