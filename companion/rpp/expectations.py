@@ -10,7 +10,7 @@ A comment that begins with `//?` (in assembly `;?`) is one of these.
 
     //? here sum + sum = i * (i + 1)         holds whenever a run comes to the statement that follows.
 
-docs/reference/companion.md has all forms. A `?` in the place of a value is open: whoever solves the exercise writes it.
+docs/reference/testing.md has all forms. A `?` in the place of a value is open: whoever solves the exercise writes it.
 
     expected = Expectations.read(b'//? a=6 b=7 -> product = 42\\nclass ..')
     expected.cases[0].inputs           # {'a': '6', 'b': '7'}
@@ -184,7 +184,7 @@ def wanted_of(text: str) -> Wanted:
         found = form.match(text)
         if found:
             return Wanted(kind, text, found.groups())
-    raise BadExpectation(f'`{text}` has none of the forms that docs/reference/companion.md names')
+    raise BadExpectation(f'`{text}` is none of the forms of docs/reference/testing.md')
 
 
 def rule_of(line: int, words: str) -> Rule:

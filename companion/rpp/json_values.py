@@ -1,4 +1,4 @@
-"""What `--json` prints, in parts that several commands share. docs/reference/companion.md has the fields; JSON_VERSION changes with
+"""What `--json` prints, in parts that several commands share. docs/reference/editors.md has the fields; JSON_VERSION changes with
 the meaning of one, not where one is added."""
 from typing import Any, Dict
 

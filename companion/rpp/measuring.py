@@ -219,7 +219,7 @@ def write(out: str, text: str, source: str) -> None:
 
 def parser() -> Parser:
     made = Parser(prog='rpp stat', description='Measures the runs of a program over a range of inputs.',
-                  epilog=f'Measures: {", ".join(MEASURES)}. docs/reference/companion.md says what each of them is.')
+                  epilog=f'Measures: {", ".join(MEASURES)}. docs/reference/testing.md says what each of them is.')
     add_source(made)
     made.add_argument('ranges', metavar='NAME=RANGE', nargs='*', help='an input: 5, 1..20, 0..100:10 or 1,2,4')
     made.add_argument('--results', metavar='NAMES', help='the fields that are results, joined by commas; the others are garbage')

@@ -198,7 +198,7 @@ def write_out(out: str, text: str, read: List[str]) -> None:
 
 def parser() -> Parser:
     made = Parser(prog='rpp test', description='Checks programs by what their comments `//?` expect; of folders it makes a table.',
-                  epilog='docs/reference/companion.md has the forms of expectations. The status is 0 where all hold, and else 1.')
+                  epilog='docs/reference/testing.md has the forms of expectations. The status is 0 if all hold, and 1 otherwise.')
     made.add_argument('paths', metavar='F', nargs='+', type=readable, help='sources, assembly texts, or folders with them')
     made.add_argument('--by', metavar='EXERCISE', help='the file whose expectations count, or a folder of files of the same names')
     made.add_argument('--seconds', type=float, default=WHOLE_SECONDS, metavar='S', help=f'for a file together ({WHOLE_SECONDS:.0f})')
