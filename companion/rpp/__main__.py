@@ -22,25 +22,25 @@ class Command(NamedTuple):
 
 # In the order of `rpp --help`.
 COMMANDS = {
-    'run': Command('run', 'run a source, and say where and why it stopped'),
+    'run': Command('run', 'run a source; if it stops, show where and why'),
     'check': Command('check', 'check sources, with messages in the form F:LINE:COL: text'),
-    'fmt': Command('fmt', 'lay sources out in place'),
-    'debug': Command('debug', 'go both ways along a run, by a prompt or a script'),
-    'film': Command('film', 'one page that shows a run both ways'),
-    'side': Command('side', 'a source next to its inverse'),
-    'inverse': Command('inverse', 'the program that undoes a source'),
-    'list': Command('listing', 'the cells of the compiled program, with the statement of each'),
-    'heap': Command('heap', 'the memory of a run as a picture'),
-    'picture': Command('picture', 'the store at a position, as a figure for a paper'),
-    'state': Command('state', 'a start state with an input, for `rooplpp run`'),
-    'test': Command('testing', 'check programs by what their comments expect, or an exercise expects'),
-    'stat': Command('measuring', 'what runs take over a range of inputs, as a table or a plot'),
-    'kernel': Command('kernel', 'ROOPL++ in Jupyter notebooks'),
-    'lsp': Command('lsp', 'the language server, over standard input'),
-    'dap': Command('dap', 'the debug adapter, over standard input'),
-    'help': Command('help', 'what a command, a refusal or a fault is'),
-    'complete': Command('complete', 'what can follow on a command line, for shells'),
-    'version': Command('version', 'the commit, the kit, and which program is called'),
+    'fmt': Command('fmt', 'format sources in place'),
+    'debug': Command('debug', 'step through a run in both directions, by a prompt or a script'),
+    'film': Command('film', 'write a page that shows a run in both directions'),
+    'side': Command('side', 'show a source next to its inverse'),
+    'inverse': Command('inverse', 'print the program that undoes a source'),
+    'list': Command('listing', 'print the compiled instructions, with the statement of each'),
+    'heap': Command('heap', 'show the memory of a run, as text or as a page'),
+    'picture': Command('picture', 'draw the store at a position, as a figure for a paper'),
+    'state': Command('state', 'write a start state with an input, for `rooplpp run`'),
+    'test': Command('testing', 'check programs by what their comments or an exercise expect'),
+    'stat': Command('measuring', 'measure runs over a range of inputs, as a table or a plot'),
+    'kernel': Command('kernel', 'run ROOPL++ in Jupyter notebooks'),
+    'lsp': Command('lsp', 'the language server, over standard input and output'),
+    'dap': Command('dap', 'the debug adapter, over standard input and output'),
+    'help': Command('help', 'explain a command, a refusal, a fault or a statement'),
+    'complete': Command('complete', 'print what can follow on a command line, for shells'),
+    'version': Command('version', 'print the commit, the program that is called, and who proved it'),
 }
 COLOUR = '--color'
 WRONG_WORDS = 1
@@ -49,12 +49,12 @@ WRONG_WORDS = 1
 def usage() -> str:
     rows = [f'  {name:9}{command.text}' for name, command in COMMANDS.items()]
     return '\n'.join([
-        'rpp: the companion of rooplpp for people',
+        'rpp: the companion of rooplpp',
         '',
-        'usage: rpp COMMAND WORDS ..',
+        'usage: rpp COMMAND ARGUMENTS ..',
         '', *rows, '',
         '`rpp help COMMAND` lists its options, `rpp help 16` explains refusal or fault 16, and `rpp help if` a statement.',
-        f'Every command takes `{COLOUR} WHEN`: {", ".join(WHEN)}. A source that is named - is standard input.', ''])
+        f'Every command takes `{COLOUR} WHEN`: {", ".join(WHEN)}. `-` instead of a source is standard input.', ''])
 
 
 def without_colour(words: List[str]) -> List[str]:

@@ -1,4 +1,4 @@
-"""`rpp check F ..`: checks sources, with messages in the form F:LINE:COL: text."""
+"""`rpp check F ..`: Checks sources, with messages in the form F:LINE:COL: text."""
 import json
 import sys
 from typing import Any, Dict, List, NamedTuple, Optional, Sequence
@@ -31,11 +31,11 @@ class Verdict(NamedTuple):
 
 def parser() -> Parser:
     made = Parser(prog='rpp check', description=__doc__.split(':', 1)[1].strip(),
-                  epilog='The status is 0 where all are accepted, 1 where one is refused, 2 where one could not be read.')
+                  epilog='The status is 0 if all are accepted, 1 if one is refused, and 2 if one could not be read.')
     made.add_argument('sources', metavar='F', nargs='+', type=readable, help='a source; - is standard input')
-    made.add_argument('--brief', action='store_true', help='one line for a refusal, without source and advice')
-    made.add_argument('--lint', action='store_true', help='say too what is accepted and hardly meant')
-    made.add_argument('--json', action='store_true', help='the verdicts as one JSON text')
+    made.add_argument('--brief', action='store_true', help='print one line for a refusal, without source and advice')
+    made.add_argument('--lint', action='store_true', help='also warn about accepted sources')
+    made.add_argument('--json', action='store_true', help='print the verdicts as one JSON value')
     return made
 
 

@@ -1,7 +1,7 @@
-"""`rpp dap`: the debug adapter, over standard input and output, as editors start it.
+"""`rpp dap`: The debug adapter, over standard input and output, as editors start it.
 
-It goes along a run of a program, forward and backward, as an editor asks: steps, breakpoints, changes of a value, open
-calls, variables, objects."""
+It steps through a run of a program, forward and backward, as an editor asks. It has breakpoints, changes of a value,
+active calls, variables and objects."""
 import sys
 from typing import List
 

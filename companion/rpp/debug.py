@@ -1,4 +1,4 @@
-"""`rpp debug F`: goes both ways along a run, by a prompt or a script; F is a source or an image."""
+"""`rpp debug F`: Steps through a run in both directions, by a prompt or a script. F is a source or an image."""
 import sys
 from typing import List, Tuple
 
@@ -59,7 +59,7 @@ class SourcePrompt(Prompt):
         self.moved(self.session.next)
 
     def do_previous(self, _arg: str) -> None:
-        """previous: back to the last statement of this body, over calls."""
+        """previous: back to the previous statement of this body, over calls."""
         self.moved(self.session.previous)
 
     def do_finish(self, _arg: str) -> None:
@@ -81,7 +81,7 @@ class SourcePrompt(Prompt):
         self.moved(lambda: self.session.go(wanted))
 
     def do_break(self, arg: str) -> None:
-        """break [LINE | METHOD] [if EXPR]: stop at this line, or where METHOD begins, if EXPR is not 0; without words, lists the breakpoints."""
+        """break [LINE | METHOD] [if EXPR]: stop at this line, or where METHOD begins, if EXPR is not 0; lists all without arguments."""
         if not arg:
             self.say([show.breakpoint_title(each) for each in self.session.breakpoints] or ['there are no breakpoints'])
             return
@@ -96,7 +96,7 @@ class SourcePrompt(Prompt):
         self.say([f'{show.breakpoint_title(made)}: {self.session.run.text.line(made.line).strip()}'])
 
     def do_clear(self, arg: str) -> None:
-        """clear [N]: takes breakpoint N away, or all."""
+        """clear [N]: removes breakpoint N, or all."""
         if not arg:
             self.session.clear_all()
         elif not self.session.clear(number_of(arg)):
@@ -126,14 +126,14 @@ class SourcePrompt(Prompt):
         self.say(show.value_lines(moment, arg) if arg else show.variable_lines(moment))
 
     def do_display(self, arg: str) -> None:
-        """display [EXPR]: shows the value of EXPR now and at each stop; without words, all that are shown."""
+        """display [EXPR]: shows the value of EXPR now and at each stop; without EXPR, all that are shown."""
         if arg:
             self.displayed += 1
             self.displays.append((self.displayed, formula_of(arg)))
         self.say(self.display_lines()[-1 if arg else 0:] or ['nothing is displayed'])
 
     def do_undisplay(self, arg: str) -> None:
-        """undisplay [N]: takes display N away, or all."""
+        """undisplay [N]: removes display N, or all."""
         kept = [each for each in self.displays if arg and each[0] != number_of(arg)]
         if arg and len(kept) == len(self.displays):
             raise Unfit(f'there is no display {arg}')
@@ -155,7 +155,7 @@ class SourcePrompt(Prompt):
         self.choose(self.chosen - 1)
 
     def do_frame(self, arg: str) -> None:
-        """frame [N]: shows the call with the number N of `where`, with its variables for `print`; without words, the one that is shown."""
+        """frame [N]: shows the call with the number N of `where`, with its variables for `print`; without N, the call that is shown."""
         depths = [frame.depth for frame in self.session.stack()]
         wanted = number_of(arg) if arg else None
         if wanted is not None and wanted not in depths:
@@ -224,10 +224,10 @@ def parser() -> Parser:
     made = Parser(prog='rpp debug', description=__doc__.split(':', 1)[1].strip())
     add_source(made)
     add_run_options(made)
-    made.add_argument('-x', '--script', metavar='FILE', type=readable, help='carry out the commands of this file, and end')
+    made.add_argument('-x', '--script', metavar='FILE', type=readable, help='execute the commands of this file, and end')
     made.add_argument('-c', '--command', metavar='COMMAND', action='append', default=[],
-                        help='carry out this command; may be given several times')
-    made.add_argument('--source', dest='source_of_image', metavar='F', help='the source of which the image was compiled')
+                        help='execute this command; may be repeated')
+    made.add_argument('--source', dest='source_of_image', metavar='F', help='the source that the image was compiled from')
     return made
 
 

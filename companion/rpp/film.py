@@ -139,10 +139,10 @@ def film_page(data: Dict[str, Any]) -> str:
 
 
 def parser() -> Parser:
-    made = Parser(prog='rpp film', description='Makes a page of the run of a program.')
+    made = Parser(prog='rpp film', description='Writes a page that shows a run in both directions.')
     add_source(made)
     add_run_options(made)
-    made.add_argument('-o', '--out', metavar='OUT.html', help='the page; F with .html in the place of .rpp where it is not given')
+    made.add_argument('-o', '--out', metavar='OUT.html', help='the page (default: F with .html instead of .rpp)')
     made.add_argument('--most', type=int, default=MOST_POINTS, metavar='N', help=f'show the first N positions ({MOST_POINTS})')
     return made
 

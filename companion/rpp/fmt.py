@@ -1,4 +1,4 @@
-"""`rpp fmt F ..`: lays sources out in place."""
+"""`rpp fmt F ..`: Formats sources in place."""
 import sys
 from typing import List
 
@@ -15,10 +15,11 @@ from .source import parsed
 
 def parser() -> Parser:
     made = Parser(prog='rpp fmt', description=__doc__.split(':', 1)[1].strip(),
-                  epilog='Tokens and comments stay, and so do the line breaks between statements. A source that leaves the grammar is left '
-                         'as it is, and the status is 1. Standard input is laid out to standard output.')
+                  epilog='Tokens, comments and the line breaks between statements stay. A source outside the grammar stays as it is, and '
+                         'the status is 1. Standard input is formatted to standard output.')
     made.add_argument('sources', metavar='F', nargs='+', help='a source; - is standard input')
-    made.add_argument('--check', action='store_true', help='write nothing, name what is not laid out, and end with 1 if there is any')
+    made.add_argument('--check', action='store_true',
+                      help='write nothing, name each source that is not formatted, and end with status 1 if there is one')
     return made
 
 
@@ -40,7 +41,7 @@ def laid_out(source: str, only_looks: bool) -> int:
     made = formatted(text)
     if only_looks:
         if made != text:
-            print(f'{shown(path)}: not laid out')
+            print(f'{shown(path)}: not formatted')
         return int(made != text)
     if path != source:
         sys.stdout.buffer.write(made)

@@ -195,15 +195,15 @@ def moment_rows(moment: Moment, text: Text) -> List[str]:
 
 
 def parser() -> Parser:
-    made = Parser(prog='rpp heap', description='Shows the memory of the image of a program before a run, in it '
-                                   'and after it. In the run it is the fullest heap of some points, where no other is named.')
+    made = Parser(prog='rpp heap', description='Shows the memory of the image of a program before, during and '
+                                   'after a run. During the run it shows the fullest heap that it finds, unless --at or --line names a moment.')
     add_source(made)
     add_run_options(made)
     made.set_defaults(heap=None, depth=DEPTH)
-    made.add_argument('-o', '--out', metavar='OUT.html', help='writes a page with pictures in the place of the text')
-    made.add_argument('--steps', type=int, default=MOST_STEPS, metavar='N', help=f'the most steps of the run ({MOST_STEPS})')
-    made.add_argument('--at', type=int, metavar='STEPS', help='the moment at which a statement begins after so many steps')
-    made.add_argument('--line', type=int, metavar='N', help='the moment at which a statement of this line first begins')
+    made.add_argument('-o', '--out', metavar='OUT.html', help='write a page with pictures instead of text')
+    made.add_argument('--steps', type=int, default=MOST_STEPS, metavar='N', help=f'the most steps of the run (default {MOST_STEPS})')
+    made.add_argument('--at', type=int, metavar='STEPS', help='show the moment after so many steps, at which a statement begins')
+    made.add_argument('--line', type=int, metavar='N', help='show the moment at which a statement of this line first begins')
     return made
 
 

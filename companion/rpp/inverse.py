@@ -1,4 +1,4 @@
-"""`rpp inverse F`: the program that undoes a source, as `show-inverse` writes it, laid out."""
+"""`rpp inverse F`: Prints the program that undoes a source, as `show-inverse` writes it, formatted."""
 import sys
 from typing import List
 
@@ -13,7 +13,7 @@ from .trace import Refused
 def parser() -> Parser:
     made = Parser(prog='rpp inverse', description=__doc__.split(':', 1)[1].strip())
     add_source(made)
-    made.add_argument('-o', '--out', metavar='OUT', help='writes it into a file')
+    made.add_argument('-o', '--out', metavar='OUT', help='write it into this file')
     return made
 
 

@@ -1,18 +1,20 @@
 """`rpp kernel`: ROOPL++ in a Jupyter notebook. `rpp kernel --install` makes it known to Jupyter. It needs ipykernel and
 jupyter_client (Debian: python3-ipykernel, python3-jupyter-client).
 
-A cell is a source, with or without a first line that says what to do with it. A cell with only such a line is about the
-source before, or about the one that it names.
+A cell is a source, and runs. A first line such as `%film` does something else
+with it. A cell with only such a line is about the source before, or about the
+one that it names.
 
-    %run n=5 --back          what `rpp run` prints, as a cell without such a line does.
-    %film n=5                the film of the run.
-    %inverse                 the inverse program.
+    %run n=5 --back          what `rpp run` prints
+    %film n=5                the film of the run
+    %inverse, %side          the inverse program; the program next to it
+    %picture --at 12         the store at a position, or at the end
+    %stat n=1..20            a table, and a plot
+    %check, %heap, %test, %help
 
-    %picture --at 12         the store at a position, or at the end.
-    %stat n=1..20            a table, and a plot.
-    %check, %side, %heap, %test, %help
-
-A source is kept under the name in its first comment, as `// stack.rpp`, and `%run stack.rpp n=3` means that one."""
+A source is named by its first comment, as `// stack.rpp`, and
+`%run stack.rpp n=3` means that one."""
+import argparse
 import contextlib
 import html
 import io
@@ -210,9 +212,10 @@ def install(prefix: Optional[str]) -> str:
 
 
 def parser() -> Parser:
-    made = Parser(prog='rpp kernel', description='Lets Jupyter notebooks run ROOPL++.', epilog=__doc__.split('\n\n', 1)[1])
-    made.add_argument('--install', action='store_true', help='makes the kernel known to Jupyter, for this user')
-    made.add_argument('--prefix', metavar='FOLDER', help='installs below this folder instead')
+    made = Parser(prog='rpp kernel', description='Lets Jupyter notebooks run ROOPL++.', epilog=__doc__.split('\n\n', 1)[1],
+                  formatter_class=argparse.RawDescriptionHelpFormatter)
+    made.add_argument('--install', action='store_true', help='make the kernel known to Jupyter, for this user')
+    made.add_argument('--prefix', metavar='FOLDER', help='install below this folder instead')
     made.add_argument('-f', dest='connection', metavar='FILE', help='what Jupyter gives when it starts the kernel')
     return made
 

@@ -1,4 +1,4 @@
-"""`rpp list F`: the cells of the compiled program, with the statement of each next to it; F is a source or an image."""
+"""`rpp list F`: Prints the instructions of the compiled program, with the statement of each. F is a source or an image."""
 from typing import List, NamedTuple, Optional
 
 from .memory import notes_of
@@ -24,8 +24,8 @@ class Listed(NamedTuple):
 def parser() -> Parser:
     made = Parser(prog='rpp list', description=__doc__.split(':', 1)[1].strip())
     add_source(made)
-    made.add_argument('--source', dest='source_of_image', metavar='F', type=readable, help='the source of which the image was compiled')
-    made.add_argument('--line', type=int, metavar='N', help='only the cells of the statements that begin in this line')
+    made.add_argument('--source', dest='source_of_image', metavar='F', type=readable, help='the source that the image was compiled from')
+    made.add_argument('--line', type=int, metavar='N', help='print only the instructions of the statements that begin in this line')
     return made
 
 

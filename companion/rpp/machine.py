@@ -106,7 +106,7 @@ class MachinePrompt(Prompt):
         self.say([f'breakpoints at {", ".join(str(pc) for pc in self.breaks)}' if self.breaks else 'there are no breakpoints'])
 
     def do_clear(self, arg: str) -> None:
-        """clear [PC]: takes the breakpoint at this cell away, or all."""
+        """clear [PC]: removes the breakpoint at this cell, or all."""
         self.breaks = [pc for pc in self.breaks if arg and pc != number_of(arg)]
 
     def do_continue(self, _arg: str) -> None:
@@ -135,7 +135,7 @@ class MachinePrompt(Prompt):
         self.here()
 
     def do_next(self, _arg: str) -> None:
-        """next: only sources have it; an image knows no depth of calls."""
+        """next: only for sources: an image does not record its active calls."""
         raise Unfit('next and finish need the active calls, which an image does not show: debug the source for them')
 
     do_finish = do_next

@@ -226,9 +226,9 @@ def parser() -> Parser:
     made.add_argument('--heap', type=int, default=HEAP, metavar='H', help=f'1 to {MOST_HEAP} (default {HEAP})')
     made.add_argument('--depth', type=int, default=DEPTH, metavar='D', help=f'1 to {MOST_DEPTH} (default {DEPTH})')
     made.add_argument('--steps', type=int, default=STEPS, metavar='N', help=f'the most steps of a run (default {STEPS:,})')
-    made.add_argument('--measures', metavar='NAMES', help='those of the plot, joined by commas (default all that differ)')
+    made.add_argument('--measures', metavar='NAMES', help='the measures of the plot, joined by commas (default: all that differ)')
     for word, text in (('--csv', 'the table'), ('--json', 'the table as JSON'), ('--svg', 'a plot')):
-        made.add_argument(word, metavar='OUT', help=f'writes {text}; `-` is standard output')
+        made.add_argument(word, metavar='OUT', help=f'write {text}; `-` is standard output')
     return made
 
 

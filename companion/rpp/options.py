@@ -36,16 +36,16 @@ class Parser(argparse.ArgumentParser):
 
 
 def add_source(parser) -> None:
-    parser.add_argument('source', metavar='F', type=readable, help='the source text; - is standard input')
+    parser.add_argument('source', metavar='F', type=readable, help='a source; - is standard input')
 
 
 def add_run_options(parser) -> None:
     parser.add_argument('assignments', metavar='NAME=NUMBER', nargs='*',
-                        help='an int field of the main object begins with this number')
+                        help='the number with which an int field of the main object starts')
     parser.add_argument('--heap', type=int, default=HEAP, metavar='H',
                         help=f'the heap has 2^H words, H from 1 to {MOST_HEAP} (default {HEAP})')
     parser.add_argument('--depth', type=int, default=DEPTH, metavar='D',
-                        help=f'so many calls may be open, from 1 to {MOST_DEPTH} (default {DEPTH})')
+                        help=f'the most active calls, from 1 to {MOST_DEPTH} (default {DEPTH})')
     parser.add_argument('--input', metavar='FILE', type=readable, help='a file of lines NAME = NUMBER; - is standard input')
 
 

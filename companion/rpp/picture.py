@@ -89,9 +89,9 @@ def parser() -> Parser:
     made = Parser(prog='rpp picture', description='Draws the store at a position of a run: variables, objects and references.')
     add_source(made)
     add_run_options(made)
-    made.add_argument('--at', type=int, metavar='N', help='the position, as `trace` and `rpp debug` count it; without it the end')
-    made.add_argument('--line', type=int, metavar='L', help='the first position at this line')
-    made.add_argument('--bare', action='store_true', help='without the caption and the active calls')
+    made.add_argument('--at', type=int, metavar='N', help='draw this position, as `trace` and `rpp debug` count it (default: the end)')
+    made.add_argument('--line', type=int, metavar='L', help='draw the first position at this line')
+    made.add_argument('--bare', action='store_true', help='leave out the caption and the active calls')
     made.add_argument('-o', '--out', metavar='OUT', required=True, help='OUT.svg or OUT.pdf')
     return made
 

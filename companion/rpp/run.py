@@ -1,4 +1,4 @@
-"""`rpp run F [NAME=NUMBER ..]`: runs a source, and says where and why it stopped."""
+"""`rpp run F [NAME=NUMBER ..]`: Runs a source. If it stops, shows where and why."""
 import itertools
 import json
 import sys
@@ -37,8 +37,8 @@ def parser() -> Parser:
     add_source(made)
     add_run_options(made)
     made.add_argument('--steps', type=int, default=STEPS, metavar='N', help=f'the most steps of the machine (default {STEPS:,})')
-    made.add_argument('--back', action='store_true', help='run back too, and report again')
-    made.add_argument('--json', action='store_true', help='the answer as one JSON text')
+    made.add_argument('--back', action='store_true', help='then run backward, and report again')
+    made.add_argument('--json', action='store_true', help='print the answer as one JSON value')
     return made
 
 

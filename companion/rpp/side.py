@@ -153,7 +153,7 @@ def side_page(name: str, texts: Tuple[str, str]) -> str:
 def parser() -> Parser:
     made = Parser(prog='rpp side', description='Shows a program next to its inverse.')
     add_source(made)
-    made.add_argument('-o', '--out', metavar='OUT.html', help='writes a page in the place of the text')
+    made.add_argument('-o', '--out', metavar='OUT.html', help='write a page instead of text')
     return made
 
 

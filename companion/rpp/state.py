@@ -1,4 +1,4 @@
-"""`rpp state IMG INPUT -o STATE`: a state to begin a run with, in which the int fields have the numbers of an input."""
+"""`rpp state IMG INPUT -o STATE`: Writes a start state in which the int fields have the numbers of an input."""
 import re
 import struct
 from typing import Dict, List

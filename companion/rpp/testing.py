@@ -197,16 +197,16 @@ def write_out(out: str, text: str, read: List[str]) -> None:
 
 
 def parser() -> Parser:
-    made = Parser(prog='rpp test', description='Checks programs by what their comments `//?` expect; of folders it makes a table.',
+    made = Parser(prog='rpp test', description='Checks programs by what their comments `//?` expect. For folders it prints a table.',
                   epilog='docs/reference/testing.md has the forms of expectations. The status is 0 if all hold, and 1 otherwise.')
     made.add_argument('paths', metavar='F', nargs='+', type=readable, help='sources, assembly texts, or folders with them')
     made.add_argument('--by', metavar='EXERCISE', help='the file whose expectations count, or a folder of files of the same names')
-    made.add_argument('--seconds', type=float, default=WHOLE_SECONDS, metavar='S', help=f'for a file together ({WHOLE_SECONDS:.0f})')
-    made.add_argument('--each', type=float, default=EACH_SECONDS, metavar='S', help=f'of the processor for a call of the program ({EACH_SECONDS:.0f})')
-    made.add_argument('--jobs', type=int, default=min(4, os.cpu_count() or 1), metavar='N', help='so many files at a time')
-    made.add_argument('--csv', metavar='OUT', help='writes the table; `-` is standard output')
-    made.add_argument('--json', metavar='OUT', help='writes the table with all findings; `-` is standard output')
-    made.add_argument('--table', action='store_true', help='a line for each file, also where files are named')
+    made.add_argument('--seconds', type=float, default=WHOLE_SECONDS, metavar='S', help=f'the most time for a file ({WHOLE_SECONDS:.0f})')
+    made.add_argument('--each', type=float, default=EACH_SECONDS, metavar='S', help=f'the most processor time for a call of the program ({EACH_SECONDS:.0f})')
+    made.add_argument('--jobs', type=int, default=min(4, os.cpu_count() or 1), metavar='N', help='how many files are checked at a time')
+    made.add_argument('--csv', metavar='OUT', help='write the table; `-` is standard output')
+    made.add_argument('--json', metavar='OUT', help='write the table with all findings; `-` is standard output')
+    made.add_argument('--table', action='store_true', help='print a line for each file, also if files are named')
     return made
 
 

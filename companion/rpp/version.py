@@ -1,4 +1,4 @@
-"""`rpp version`: the commit of this tool, the program that it calls, and where that came from."""
+"""`rpp version`: Prints the commit of this tool, the program that it calls, and what is known about that."""
 import os
 import subprocess
 import sys

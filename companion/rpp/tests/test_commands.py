@@ -48,7 +48,7 @@ class Layout(Case):
         self.write('a.rpp', LOOSE)
         self.write('b.rpp', LAID_OUT)
         done = self.rpp('fmt', '--check', 'a.rpp', 'b.rpp')
-        self.assertEqual((done.returncode, done.stdout), (1, 'a.rpp: not laid out\n'))
+        self.assertEqual((done.returncode, done.stdout), (1, 'a.rpp: not formatted\n'))
         self.assertEqual(self.rpp('fmt', '--check', 'b.rpp').returncode, 0)
         with open(os.path.join(self.folder, 'a.rpp'), encoding='utf-8') as file:
             self.assertEqual(file.read(), LOOSE)
