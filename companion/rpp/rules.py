@@ -171,7 +171,7 @@ REFUSALS = (
         '`{form}` must name a class or an array, not `{written}`: an `int` is copied by adding it to a variable that is 0.',
         '`{receiver}` must be an object to receive a call, and its type is `{type}`.'),
         'Numbers and arrays have no methods. Call a method of an element, `call a[i]::m(..)`, not of the array.'),
-    Rule(24, 'BadLine', 'A line of an assembly text must be an instruction, a static word or a note.', page=FORMATS),
+    Rule(24, 'BadLine', 'A line of an assembly text must be an instruction, a static word, a source-map entry or a name.', page=FORMATS),
     Rule(25, 'UnknownMnemonic', 'The first word after the labels must be a mnemonic, or `STATIC`, `MARK` or `NAME`.', page=FORMATS),
     Rule(26, 'DuplicateLabel', 'A label must have a name that no earlier label has.', page=FORMATS),
     Rule(27, 'UnknownLabel', 'An operand must name a label of the text.', page=FORMATS),
@@ -188,14 +188,14 @@ REFUSALS = (
     Rule(38, 'BadState', 'A state file must be one of this image with these H and D.', page=FORMATS),
     Rule(39, 'BadCommand', 'A line of a script must be empty or a command.', page=FORMATS),
     Rule(40, 'BadInputLine', 'A line of the input must be NAME = NUMBER.', page=FORMATS),
-    Rule(41, 'TooManyCells', 'The cells of an assembly text must keep within the limits of images.', page=FORMATS),
-    Rule(43, 'BadNote', 'The notes of an assembly text must be within the ranges of image files.', page=FORMATS),
+    Rule(41, 'TooManyCells', 'The instructions and words of an assembly text must keep within the limits of images.', page=FORMATS),
+    Rule(43, 'BadNote', 'The numbers of a `MARK` or `NAME` line must be within the ranges of image files.', page=FORMATS),
     Rule(44, 'UnknownResult', 'The results must be different `int` fields of the main class.', page=FORMATS),
 )
 
 
-BEGIN_AS_IT_ENDED = ('`uncall` undoes a call: begin it with the values that such a call leaves, and change nothing of them in between. '
-                     '`rpp debug` shows both ways.')
+BEGIN_AS_IT_ENDED = ('`uncall` undoes a call. Begin it with the values that such a call leaves, and do not change them between the two. '
+                     '`rpp debug` shows both directions.')
 
 _FAULTS = (
     Rule(1, 'Fi', 'The assertion after `fi` must be true after the `then` block and false after the `else` block.', (
@@ -212,8 +212,8 @@ _FAULTS = (
     Rule(3, 'Delocal', 'A local must have its final value at `delocal`.', (
         '`{name}` must be equal to `{value}` at its `delocal`, and it is {given}.',
         '`{name}` must be equal to `{value}` at its `delocal`.'),
-        'The way back begins with that value. Undo before what the local was changed by, or end it with an expression that has its '
-        'value. `rpp debug` shows both.', (
+        'The way back begins with that value. Undo what changed the local, or end it with an expression that has its value. '
+        '`rpp debug` shows both.', (
         'On this way back, `{name}` must be equal to its initial value `{value}` at its `local`, and it is {given}.',
         'On this way back, `{name}` must be equal to its initial value `{value}` at its `local`.'), BEGIN_AS_IT_ENDED),
     Rule(4, 'NotNil', 'What `new` and `copy` fill must be nil before: an old reference would be lost.', (
@@ -223,7 +223,7 @@ _FAULTS = (
         'the end of each iteration.', (
         '`{place}` must be nil before this `{form}` is undone, and it holds {reference}.',
         '`{place}` must be nil before this `{form}` is undone.'), BEGIN_AS_IT_ENDED),
-    Rule(5, 'Nil', 'A receiver, an indexed array, what `delete` names and the first place of `copy` and `uncopy` must not be nil.', (
+    Rule(5, 'Nil', 'A receiver, an indexed array, what `delete` names, and the first variable of `copy` and `uncopy` must not be nil.', (
         '`{place}` must not be nil here.',),
         'Make the object first, or test `a != nil`. While a call is active, its receiver and its arguments read as nil or 0.', (
         '`{place}` must not be nil before this `{undone}` is undone.',
@@ -247,14 +247,14 @@ _FAULTS = (
         'The index of `{array}` must be at least 0 and less than {length}, and it is {index}.',
         'The index of `{array}` must be at least 0 and less than {length}.'),
         'Count from 0, and end the loop at the length. An index is read without sign, so a negative one is too large.'),
-    Rule(10, 'NotSame', 'The two places of `uncopy` must have one reference, and must not be one place.', (
+    Rule(10, 'NotSame', 'The two variables of `uncopy` must differ, and have one reference.', (
         '`{first}` and `{second}` must have one reference, and they have {first_reference} and {second_reference}.',),
-        'Name the place that was copied from. A reference that was moved in by `<=>` is moved out by `<=>`.', (
+        'Name the variable that was copied from. A reference that was moved in by `<=>` is moved out by `<=>`.', (
         '`{first}` and `{second}` must have one reference before this `copy` is undone, and they have {first_reference} and '
         '{second_reference}.',), BEGIN_AS_IT_ENDED),
     Rule(11, 'ClassDiffers', '`delete` must name exactly the class with which the object was made.', (
         'The class of this `{form}` must be `{wanted}`, with which {reference} was made, not `{given}`.',),
-        'Write that class, even where the variable has the type of an ancestor. If there are several, let an overridden method delete.', (
+        'Write that class, even if the variable has the type of an ancestor. If there are several, let an overridden method delete.', (
         'The class of this `{form}`, which is undone here, must be `{wanted}`, with which {reference} was made, not `{given}`.',),
         BEGIN_AS_IT_ENDED),
     Rule(12, 'LengthDiffers', '`delete` must give the length with which the array was made.', (
@@ -265,7 +265,7 @@ _FAULTS = (
     Rule(13, 'Length', 'The length of a new array must be at least 1.', (
         'The length `{expression}` must be at least 1, and it is {value}.',
         'The length `{expression}` must be at least 1.'),
-        'Test the length first, and make no array where there is nothing to keep.'),
+        'Test the length first, and make no array if there is nothing to keep.'),
     Rule(14, 'TooDeep', 'A run must not have more than D active calls, `main` included.', (
         'This call must not be made: {depth} calls are active, `main` included, and D allows no more.',),
         'Run with a larger D, up to 8192. If the recursion has no end, find the condition that should have ended it.'),

@@ -108,9 +108,18 @@ class Pages(Case):
                 self.assertEqual(paragraphs[0], rule.sentence)
                 self.assertEqual(quoted(body), spelled(rule.forms + rule.back))
                 self.assertIn(f'Fix: {rule.fix}', paragraphs)
-                if rule.fix_back:
-                    self.assertIn(f'Fix, in a body that runs backward: {rule.fix_back}', paragraphs)
         self.assertEqual(sorted(found), sorted(rule.title for rule in REFUSALS + FAULTS if rule.page.endswith('messages.md')))
+
+    def test_the_advice_of_bodies_that_run_backward(self):
+        """The page has it once, before the faults, with the numbers of those that have it."""
+        with open(PAGE, encoding='utf-8') as file:
+            before = file.read().split('\n## Faults\n')[1].split('\n### ')[0]
+        paragraphs = [' '.join(part.split()) for part in before.split('\n\n')]
+        self.assertEqual([rule.number for rule in FAULTS if rule.fix_back], [1, 2, 3, 4, 5, 10, 11, 12])
+        self.assertTrue(any('For the faults 1 to 5 and 10 to 12, the advice' in part for part in paragraphs))
+        for rule in FAULTS:
+            if rule.fix_back:
+                self.assertIn(f'Fix, in a body that runs backward: {rule.fix_back}', paragraphs)
 
     def test_wrong_programs_of_refusals(self):
         for fault, number, _, body in self.sections():
