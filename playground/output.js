@@ -81,7 +81,7 @@ class OutputView {
   // What the answer rests on that the reader does not see elsewhere.
   limits() {
     const [name] = QUESTIONS[this.chosen];
-    if (name === 'Meaning') return [`Meaning is worked out with at most ${MOST_EXPLAINED_CALLS} open calls.`];
+    if (name === 'Meaning') return [`Meaning is computed with at most ${MOST_EXPLAINED_CALLS} active calls.`];
     return name === 'Profile' ? ['For the profile all fields begin at 0.'] : [];
   }
 }

@@ -172,7 +172,7 @@ def questions_say_what_they_rest_on(page):
     """What the program prints for each key of the output is shown, and so is a limit that the reader does not see elsewhere."""
     page.write(COUNTER)
     page.view('output')
-    for key, printed, note in (('There and back', 'restored', ''), ('Meaning', 'cost', 'at most 32 open calls'), ('Profile', 'places', 'all fields begin at 0'),
+    for key, printed, note in (('There and back', 'restored', ''), ('Meaning', 'cost', 'at most 32 active calls'), ('Profile', 'places', 'all fields begin at 0'),
                                ('Result only', 'initial', ''), ('Result', 'steps', '')):
         page.click_text('#output .asks button', key)
         page.settled()
