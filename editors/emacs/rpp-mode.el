@@ -6,7 +6,7 @@
 
 ;;; Commentary:
 
-;; (add-to-list 'load-path ".../editors/emacs") and (require 'rpp-mode).  M-x compile judges the file; M-x eglot starts the
+;; (add-to-list 'load-path ".../editors/emacs") and (require 'rpp-mode).  M-x compile checks the file; M-x eglot starts the
 ;; language server; with dap-mode or dape, M-x dap-debug or M-x dape steps through a run both ways.
 
 ;;; Code:
@@ -37,7 +37,7 @@
     table))
 
 (defconst rpp--opens "\\_<\\(?:then\\|do\\|else\\|loop\\)[ \t]*\\(?://.*\\)?$"
-  "The end of a line behind which a block begins.")
+  "The end of a line after which a block begins.")
 
 (defun rpp--begins-with (words)
   "Whether this line begins with one of WORDS, parted by \\|."
@@ -46,7 +46,7 @@
     (looking-at-p (concat "\\(?:" words "\\)\\_>"))))
 
 (defun rpp--level-below ()
-  "How far in a statement behind the last written line stands."
+  "The indentation of a statement after the last line that is not empty."
   (save-excursion
     (forward-line 0)
     (skip-chars-backward " \t\n")
@@ -117,7 +117,7 @@
   (dap-register-debug-template "ROOPL++ both ways" '(:type "rpp" :request "launch" :name "ROOPL++ both ways")))
 
 (defun rpp-dap-configuration (given)
-  "What dap-mode is told of a run: GIVEN, and what it leaves out."
+  "The launch arguments for dap-mode: GIVEN, and defaults for the rest."
   (let ((made (copy-sequence given)))
     (unless (plist-get made :program) (setq made (plist-put made :program buffer-file-name)))
     (unless (plist-member made :stopOnEntry) (setq made (plist-put made :stopOnEntry t)))
@@ -127,12 +127,12 @@
 (declare-function dap--cur-session-or-die "dap-mode")
 
 (defun rpp-dap-step-back (session)
-  "Take the last statement of SESSION's run back, over calls."
+  "Undo the last statement of SESSION's run, over calls."
   (interactive (list (dap--cur-session-or-die)))
   (dap--step "stepBack" session))
 
 (defun rpp-dap-reverse-continue (session)
-  "Take statements of SESSION's run back up to a breakpoint or the start."
+  "Undo statements of SESSION's run, up to a breakpoint or the start."
   (interactive (list (dap--cur-session-or-die)))
   (dap--step "reverseContinue" session))
 

@@ -11,7 +11,7 @@ compiler rpp
 " (for the plugin matchit)
 let b:match_words = '\<if\>:\<then\>:\<else\>:\<fi\>,\<from\>:\<do\>:\<loop\>:\<until\>,\<local\>:\<delocal\>,\<construct\>:\<destruct\>'
 
-" Behind a block's head one step in; its closing word stands under the head.
+" After a block's head one step in; its closing word is at the level of the head.
 setlocal indentexpr=RppIndent(v:lnum) indentkeys=o,O,=else,=fi,=loop,=until,=delocal,=destruct,=method,=class
 
 let b:undo_ftplugin = "setlocal commentstring< comments< iskeyword< expandtab< shiftwidth< softtabstop< indentexpr< indentkeys<"
