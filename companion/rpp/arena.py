@@ -25,7 +25,7 @@ COMPARED = {'=': lambda a, b: a == b, '!=': lambda a, b: a != b, '<': lambda a, 
 
 
 def open_parts(wanted: Wanted) -> List[str]:
-    return [f'`{wanted.text}` is still open: write your answer in the place of the `{OPEN}`'] if wanted.is_open else []
+    return [f'`{wanted.text}` is still open: write your answer instead of the `{OPEN}`'] if wanted.is_open else []
 
 
 class CaseRun(Closing):
@@ -146,7 +146,7 @@ class CaseRun(Closing):
         return [] if parts[0] in names else [f'it ends {how}, and not {"" if parts[0] == "well" else "with "}{parts[0]}']
 
     def why_bound(self, _parts, _name: str) -> List[str]:
-        return [] if self.told.kind == 'bound' else [f'the run is not to end within {self.steps:,} steps, and does: {self.told.first_line}']
+        return [] if self.told.kind == 'bound' else [f'the run must not end within {self.steps:,} steps, and it does: {self.told.first_line}']
 
     def why_live(self, parts, _name: str) -> List[str]:
         live = self.result.live
@@ -154,7 +154,7 @@ class CaseRun(Closing):
 
     def why_fault(self, parts, _name: str) -> List[str]:
         if self.told.kind != 'fault':
-            return ['the run is to stop with a fault, and comes to its end']
+            return ['the run must stop with a fault, and it finishes']
         number, at = parts
         why = []
         if number and number not in (str(self.told.number), self.told.name):
@@ -166,7 +166,7 @@ class CaseRun(Closing):
         return why
 
     def why_refused(self, _parts, _name: str) -> List[str]:
-        return ['the text is to be refused, and is accepted']
+        return ['the source must be refused, and it is accepted']
 
     def why_most(self, parts, _name: str) -> List[str]:
         most, unit = int(parts[0]), parts[1]
@@ -174,7 +174,7 @@ class CaseRun(Closing):
         count = told.number_behind(unit)
         if count is None:
             return [f'`explain` has no cost: {told.first_line}']
-        return [] if count <= most else [f'it takes {count:,} {unit}, and may take {most:,}']
+        return [] if count <= most else [f'it takes {count:,} {unit}, and must take at most {most:,}']
 
     def explained(self) -> Told:
         words = [self.source, self.heap, min(self.depth, EXPLAINED_DEPTH), FUEL] + ([self.inputs] if self.inputs else [])

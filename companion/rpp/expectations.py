@@ -10,7 +10,7 @@ A comment that begins with `//?` (in assembly `;?`) is one of these.
 
     //? here sum + sum = i * (i + 1)         holds whenever a run comes to the statement that follows.
 
-docs/reference/testing.md has all forms. A `?` in the place of a value is open: whoever solves the exercise writes it.
+docs/reference/testing.md has all forms. A `?` instead of a value is open: whoever solves the exercise writes it.
 
     expected = Expectations.read(b'//? a=6 b=7 -> product = 42\\nclass ..')
     expected.cases[0].inputs           # {'a': '6', 'b': '7'}

@@ -106,11 +106,11 @@ class Judge:
         count = occurrences([token.text for token in found], [token.text for token in cut(words.encode())[0]])
         where = f' in {rule.method}' if rule.method else ''
         if rule.kind == 'uses' and not count:
-            return Finding(rule.line, rule.text, [f'`{words}` is to be used{where}, and is not'])
+            return Finding(rule.line, rule.text, [f'`{words}` must be used{where}, and is not'])
         if rule.kind == 'no' and count:
-            return Finding(rule.line, rule.text, [f'`{words}` is not to be used{where}, and occurs {times(count)}'])
+            return Finding(rule.line, rule.text, [f'`{words}` must not be used{where}, and occurs {times(count)}'])
         if rule.kind == 'most' and count > int(number[0]):
-            return Finding(rule.line, rule.text, [f'`{words}` may occur {times(int(number[0]))}{where}, and occurs {times(count)}'])
+            return Finding(rule.line, rule.text, [f'`{words}` must occur at most {times(int(number[0]))}{where}, and occurs {times(count)}'])
         return Finding(rule.line, rule.text, [])
 
     def tokens_of(self, method: str) -> Optional[List[Token]]:
@@ -132,7 +132,7 @@ class Judge:
             has = [label for label, _ in run.first_moment().objects[1].cells]
         lacking, over = [name for name in wanted if name not in has], [name for name in has if name not in wanted]
         return ([f'the main class has no field {", ".join(lacking)}'] if lacking else []) + (
-            [f'the main class is to have no field {", ".join(over)}'] if over else [])
+            [f'the main class must have no field {", ".join(over)}'] if over else [])
 
     # ---- cases
 
@@ -165,7 +165,7 @@ class Judge:
                     if not why and invariant.kind == 'sometime':
                         waiting.remove(invariant)
             if len(moments) < CHUNK:
-                return [f'`{each.formula.text}` must hold some time of the run, and never does' for each in waiting
+                return [f'`{each.formula.text}` must hold at some time in the run, and never does' for each in waiting
                         if each.kind == 'sometime'][:1]
             first += CHUNK
         return [f'the run has more than the {MOST_POINTS:,} statements that are looked at for `{each.formula.text}`'
