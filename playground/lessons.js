@@ -73,7 +73,7 @@ class Lessons {
       if (missing) return { isSolved: false, told: missing };
     }
     Kept.set({ solved: [...new Set([...(Kept.get().solved ?? []), name])] });
-    return { isSolved: true, told: cases.length === 1 ? 'Solved.' : `Solved: all ${cases.length} inputs leave what is wanted.` };
+    return { isSolved: true, told: cases.length === 1 ? 'Solved.' : `Solved: all ${cases.length} inputs give what is expected.` };
   }
 
   task(name) { return this.exercises.find(it => it.name === name); }
@@ -83,7 +83,7 @@ class Lessons {
 function brokenRule({ kind, parts, method }, run) {
   if (kind === 'fields') {
     const own = run.start.map(([name]) => name), isSame = parts.length === own.length && parts.every(name => own.includes(name));
-    return isSame ? undefined : `The main class must have just the fields ${parts.join(', ')}.`;
+    return isSame ? undefined : `The main class must have exactly the fields ${parts.join(', ')}.`;
   }
   const words = parts.at(-1), where = method ? ` in ${method}` : '', count = occurrences(run.source, words.match(TOKEN), method);
   if (kind === 'uses' && !count) return `Use \`${words}\`${where}.`;

@@ -28,10 +28,10 @@ function withPictureNames(text, objects) {
 // What may be asked of the program besides the result: the text of the key, what it means, and the arguments.
 const QUESTIONS = [
   ['Result', 'Compiled, and run on the machine', (run, limits) => ['go', SOURCE, ...limits, ...run.input]],
-  ['There and back', 'The machine turns round at the end and leaves the start', (run, limits) => ['turn', SOURCE, ...limits, ...run.input]],
-  ['Meaning', 'What the language says, with no machine', (run, [heap, depth, steps]) =>
+  ['There and back', 'The machine is reversed at the end, and restores the start', (run, limits) => ['turn', SOURCE, ...limits, ...run.input]],
+  ['Meaning', 'By the semantics of the language, without a machine', (run, [heap, depth, steps]) =>
     ['explain', SOURCE, heap, Math.min(depth, MOST_EXPLAINED_CALLS), steps, ...run.input]],
-  ['Profile', 'What probes see of the run; all fields begin at 0', (run, limits) => ['profile', SOURCE, ...limits]],
+  ['Profile', 'What probes observe of the run; all fields begin at 0', (run, limits) => ['profile', SOURCE, ...limits]],
   ['Result only', 'Run, copy the result, run back', (run, limits) => ['wrap', SOURCE, ...limits, run.names.join(',') || 'none', ...run.input]],
 ];
 

@@ -178,7 +178,7 @@ class Workbench {
       if (asked !== this.asked) return;
       $('views').classList.toggle('stale', this.editor.text !== this.text);
       if (error instanceof Stopped) this.problems.fine('Stopped.');
-      else this.problems.wrong('This call failed', undefined, made('p', { textContent: `${error.message}. The next one begins again.` }));
+      else this.problems.wrong('This call failed', undefined, made('p', { textContent: `${error.message}. The next call starts again.` }));
       this.isStopped = false;
       this.say($('problems').textContent);
     } finally {

@@ -87,7 +87,7 @@ class Problems {
     const show = made('button', { type: 'button', textContent: 'Show the stop', onclick: onShow });
     const told = fault.failure ? [made('p', {}, ...withCode(`${fault.failure.told}.`))] : [];
     this.wrong(`${where}: ${faultTitle(fault)}`, `fault ${fault.number} ${fault.name}`, ...told, ...this.parts(fault.message),
-      made('p', { className: 'out' }, show, ' ', made('span', { className: 'caption', textContent: 'Go back from there to see how it came.' })));
+      made('p', { className: 'out' }, show, ' ', made('span', { className: 'caption', textContent: 'Go back from there to see why.' })));
   }
 
   // The lines below the line of a fault.
@@ -104,13 +104,13 @@ class Problems {
   }
 }
 
-const FAULT_TITLES = { 1: 'the test after `fi` fails', 2: 'the test of the loop fails', 3: 'a local is closed with another value' };
+const FAULT_TITLES = { 1: 'the assertion after `fi` fails', 2: 'the assertion of the loop fails', 3: 'a local ends with another value' };
 const faultTitle = ({ number, name }) => FAULT_TITLES[number] ?? spaced(name);
 
 // How a run ended that neither finished nor met a fault.
 function ended(answer, steps) {
   switch (answer.status) {
-    case 6: return `The run came to its limit of ${Number(steps).toLocaleString('en')} machine steps.`;
+    case 6: return `The run reached its limit of ${Number(steps).toLocaleString('en')} machine steps.`;
     case 7: return 'There was not enough memory for this.';
     case 8: return 'The input or a limit does not fit.';
     default: return answer.stopped ?? (answer.text || `The program ended with status ${answer.status}.`);
