@@ -44,7 +44,7 @@ REASONS = {
     'start': ('entry', 'the start of the run'),
     'interrupted': ('pause', ''),
     'bound': ('pause', 'looked as far as was allowed'),
-    'memory': ('pause', 'the program had not memory enough to go on'),
+    'memory': ('pause', 'the program ran out of memory'),
 }
 
 

@@ -90,7 +90,7 @@ def moments_of(run: SourceRun, most: int) -> Tuple[List[Moment], str]:
             if refused.told.kind != 'memory' or not found and chunk == 1:
                 raise
             if chunk == 1:
-                return found, 'the program had not memory enough for what comes then'
+                return found, 'the program ran out of memory for what comes next'
             chunk //= 2
             continue
         found += part

@@ -58,4 +58,4 @@ def tell_left(path: str, text: bytes) -> None:
         message = of_refusal(text, told.number, told.at)
         print(source_refused_line(shown(path), Text(text), told, message), file=sys.stderr)
     else:
-        print(f'{shown(path)}: left as it is: it leaves the grammar', file=sys.stderr)
+        print(f'{shown(path)}: not formatted: it does not follow the grammar', file=sys.stderr)

@@ -306,9 +306,9 @@ class Server:
         document, at = self.pointed(parameters)
         name, uri = parameters.get('newName', ''), parameters['textDocument']['uri']
         if at is None:
-            raise Refused(FAILED, 'nothing that has a declaration is named here')
+            raise Refused(FAILED, 'there is no name with a declaration here')
         if not is_name(name):
-            raise Refused(BAD_PARAMETERS, f"{name} can be no name: a letter, then letters, digits, _ or ', no keyword")
+            raise Refused(BAD_PARAMETERS, f"{name} must be a name: a letter, then letters, digits, _ or ', and no keyword")
         found = document.found
         edits = found.renamed(at, name)
         if not found.keeps_meaning(edits):

@@ -73,7 +73,7 @@ def rows(listed: List[Listed], text: Optional[Text], line: Optional[int]) -> Lis
         before = each.place
         shown.append(f'{at:6d}  {each.text:{width}}  {paint("where", beside)}'.rstrip())
     if not shown:
-        raise Unfit(f'no cell is of a statement that begins in line {line}')
+        raise Unfit(f'no instruction belongs to a statement that begins in line {line}')
     return shown
 
 

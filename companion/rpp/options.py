@@ -56,7 +56,7 @@ def input_file(given, folder: Folder) -> Optional[str]:
     for word in given.assignments:
         found = ASSIGNMENT.match(word)
         if not found:
-            raise Unfit(f'{word}: an input is a word NAME=NUMBER, as n=5')
+            raise Unfit(f'{word}: an input must be NAME=NUMBER, such as n=5')
         if found[1] in words:
             raise Unfit(f'{word}: {found[1]} has a number already')
         words[found[1]] = found[2]

@@ -105,9 +105,9 @@ def said(program: Program, wanted: Wanted, told: Told) -> List[str]:
 def bounds_refused(wanted: Wanted, told: Told) -> List[str]:
     """What is said where H, D or a line of the input is refused."""
     if told.name == 'HeapOrder':
-        return [f'--heap {wanted.heap}: it is a number from 1 to {MOST_HEAP}, and the heap has 2^H words']
+        return [f'--heap {wanted.heap}: it must be a number from 1 to {MOST_HEAP}; the heap has 2^H words']
     if told.name == 'DeepRange':
-        return [f'--depth {wanted.depth}: it is a number from 1 to {MOST_DEPTH}, the most calls that may be open']
+        return [f'--depth {wanted.depth}: it must be a number from 1 to {MOST_DEPTH}, the most active calls']
     lines = [f'the input is refused: {told.number} {told.name}']
     if told.at and wanted.inputs:
         with open(wanted.inputs, encoding='utf-8', errors='replace') as file:

@@ -106,7 +106,7 @@ def stack_lines(session: Session) -> List[str]:
     file = title(session.run.source)
     lines = [f'{frame.depth:4d}  {framed_short(frame)} at {session.run.text.spelled(file, frame.place)}' for frame in frames]
     if frames[-1].depth > 1:
-        lines.append('      the calls around it were opened too long before to be read')
+        lines.append('      the calls around it began too long ago to be read')
     if len(lines) > MOST_FRAMES:
         lines[MOST_FRAMES - 3:-2] = [f'      .. {len(lines) - MOST_FRAMES + 1} calls more']
     return lines

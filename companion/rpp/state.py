@@ -57,7 +57,7 @@ def with_numbers(state: bytes, cells: Dict[str, int], numbers: Dict[str, int]) -
     changed = bytearray(state)
     for name, number in numbers.items():
         if name not in cells:
-            raise Unfit(f'the image notes no int field {name}; it has {", ".join(sorted(cells)) or "none"}')
+            raise Unfit(f'the image names no int field {name}; it has {", ".join(sorted(cells)) or "none"}')
         struct.pack_into('<i', changed, HEADER.size + 4 * cells[name], number)
     return bytes(changed)
 

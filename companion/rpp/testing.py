@@ -24,7 +24,7 @@ ENDINGS = ('.rpp', '.pisa')
 MOST_BYTES = 262_144
 WHOLE_SECONDS = 30.0
 COLUMNS = ('submission', 'exercise', 'verdict', 'held', 'expected', 'seconds', 'why')
-TOLD = {'right': 'all that is expected holds', 'wrong': 'not all that is expected holds', 'open': 'answers are still open',
+TOLD = {'right': 'all expectations hold', 'wrong': 'not all expectations hold', 'open': 'answers are still open',
         'refused': 'the text is refused', 'fault': 'a run stopped with a fault', 'endless': 'a run did not end',
         'late': 'a run took too long', 'unreadable': 'it could not be read', 'none': 'it expects nothing'}
 
@@ -130,7 +130,7 @@ def verdict_on(path: str, by: Optional[str], content: bytes, grading: Grading):
             # (a question is of the exercise's own program; only the answers are the submission's)
             expected, content = expected.with_claims(Expectations.read(content, assembly)), exercise
     if not expected:
-        raise Trouble('no comment `//?` of it expects anything; `rpp test --help` names a page')
+        raise Trouble('it has no comment `//?` with an expectation; see `rpp test --help`')
     program = Confined.found()
     program.each = grading.each
     program.begin(grading.seconds)

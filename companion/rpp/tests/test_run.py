@@ -61,8 +61,8 @@ class Runs(Case):
         self.write('in', '\ncount = many\n')
         rows = [(['missing=1'], 8, 'the input is refused: 37 UnknownField at line 1: missing = 1'),
                 (['--input', 'in'], 8, 'the input is refused: 40 BadInputLine at line 2: count = many'),
-                (['--heap', '21'], 8, '--heap 21: it is a number from 1 to 20, and the heap has 2^H words'),
-                (['--depth', '0'], 8, '--depth 0: it is a number from 1 to 8192, the most calls that may be open')]
+                (['--heap', '21'], 8, '--heap 21: it must be a number from 1 to 20; the heap has 2^H words'),
+                (['--depth', '0'], 8, '--depth 0: it must be a number from 1 to 8192, the most active calls')]
         for words, status, first in rows:
             with self.subTest(words=words):
                 done = self.rpp('run', counter, *words)
@@ -161,5 +161,5 @@ class States(Case):
         self.write('in', 'other = 1\n')
         done = self.rpp('state', 'c.img', 'in', '-o', 'c.state')
         self.assertEqual(done.returncode, 1)
-        self.assertIn('notes no int field other; it has before, count', done.stderr)
+        self.assertIn('names no int field other; it has before, count', done.stderr)
         self.assertFalse(os.path.exists(os.path.join(self.folder, 'c.state')))

@@ -66,7 +66,7 @@ class TestingTest(Case):
 
     def holds(self, expectation: str, body: str, head: str = 'class P int x int y P p int[] a '):
         said = self.said_of(f'//? {expectation}\n{head}method main() {body}')
-        self.assertIn('all that is expected holds', said)
+        self.assertIn('all expectations hold', said)
 
     def fails(self, expectation: str, body: str, *why: str, head: str = 'class P int x int y P p int[] a '):
         said = self.said_of(f'//? {expectation}\n{head}method main() {body}')
@@ -167,7 +167,7 @@ class TestingTest(Case):
 
     def test_assembly(self):
         text = ';? 5=3 -> cell 5 = 10, registers 0\nSTART\nADDI $1 5\nADDI $2 7\nEXCH $3 $1\nADD $3 $2\nEXCH $3 $1\nADDI $2 -7\nADDI $1 -5\nFINISH\n'
-        self.assertIn('all that is expected holds', self.said_of(text, name='f.pisa'))
+        self.assertIn('all expectations hold', self.said_of(text, name='f.pisa'))
         wrong = self.said_of(text.replace('-7', '-6').replace('registers 0', 'registers 0, own inverse'), name='f.pisa')
         self.assertIn('$2 is 1 at the end, and must be 0', wrong)
         # (the inverse of `ADDI $2 -6` is `ADDI $2 6`, in the place of `ADDI $2 7`, the third instruction)
@@ -177,7 +177,7 @@ class TestingTest(Case):
     def test_standard_input(self):
         done = self.rpp('test', '-', stdin='//? -> x = 6\nclass P int x method main() x += 5')
         self.assertEqual((done.returncode, done.stderr), (1, ''))
-        self.assertIn('<stdin>: not all that is expected holds', done.stdout)
+        self.assertIn('<stdin>: not all expectations hold', done.stdout)
         self.assertIn('<stdin>:2:29: class P', done.stdout)
 
     # ---- limits

@@ -131,7 +131,7 @@ async function renaming() {
   assert.strictEqual((await prepareRename(document, place)).placeholder, 'x');
   await assert.rejects(prepareRename(document, new Position(3, 4)));
   assert.strictEqual((await provideRenameEdits(document, place, 'total')).edits.length, 3);
-  await assert.rejects(provideRenameEdits(document, place, 'class'), /can be no name/);
+  await assert.rejects(provideRenameEdits(document, place, 'class'), /must be a name/);
 }
 
 async function debugging() {
