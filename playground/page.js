@@ -9,7 +9,7 @@ const LARGEST = { usual: 1.4, large: 1.9 }, SMALLEST = { usual: 0.7, embedded: 0
 
 class Workbench {
   constructor(carried, caller, lessons) {
-    Object.assign(this, { carried, caller, lessons, at: 0, asked: 0, moved: 0, running: 0 });
+    Object.assign(this, { carried, caller, lessons, at: 0, asked: 0, moved: 0, addressed: 0, running: 0 });
     Object.assign(this, { view: 'store', zoom: 1, isEmbedded: false, exercise: undefined });
     const play = () => this.transport.play(1), keys = { 'Ctrl-Enter': play, 'Cmd-Enter': play, Esc: () => $('transport').focus() };
     this.editor = new Editor($('text'), carried.grammar, keys, isTyped => this.edited(isTyped));
@@ -513,6 +513,7 @@ class Workbench {
   async wantedByAddress() {
     const found = await readFragment(location.hash);
     if (!found) return undefined;
+    $('notice').hidden = true;
     const setting = found.setting ?? (found.example ? this.lessons.example(found.example) : this.lessons.exercise(found.exercise));
     const { version } = this.carried, isOther = found.version !== undefined && found.version !== version;
     if (!setting) this.notice(found.isBroken ? 'The link is broken: its program cannot be read.' : 'The link names a program that this page does not have.');
@@ -520,11 +521,17 @@ class Workbench {
     return setting && { ...setting, view: found.view, at: found.at };
   }
 
+  // Opens what another address asks for; of the program that is open already, the view and the position.
   async openAddress() {
-    const setting = await this.wantedByAddress();
-    if (!setting || (setting.text === this.editor.text && setting.exercise === this.exercise)) return;
-    if (VIEWS.includes(setting.view)) this.openView(setting.view);
-    await this.replace(setting);
+    const addressed = ++this.addressed, wanted = await this.wantedByAddress();
+    if (!wanted || addressed !== this.addressed) return;
+    if (VIEWS.includes(wanted.view)) this.openView(wanted.view);
+    if (!isSame(wanted, this.setting())) {
+      await this.replace(wanted);
+    } else if (wanted.at !== undefined && wanted.text === this.text) {
+      this.transport.pause();
+      await this.go(wanted.at);
+    }
   }
 
   notice(text) {
@@ -594,6 +601,13 @@ class Workbench {
 }
 
 // ---- parts
+
+// Whether two settings are of one program with the same numbers and limits.
+function isSame(one, other) {
+  const limits = Object.keys(USUAL), numbers = input => JSON.stringify(Object.entries(input ?? {}).filter(([, value]) => Number(value) !== 0).sort());
+  return one.text === other.text && one.exercise === other.exercise && numbers(one.input) === numbers(other.input)
+    && limits.every(name => String(one[name] ?? USUAL[name]) === String(other[name]));
+}
 
 function selectTab(tab, isOpen) {
   tab.setAttribute('aria-selected', isOpen);

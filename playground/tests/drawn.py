@@ -156,6 +156,13 @@ class Page:
         self.browser.until('return document.body.dataset.asked !== document.body.dataset.askedBefore')
         self.settled()
 
+    def follow(self, fragment):
+        """Follows a link to another fragment of the page that is open."""
+        self.run('const followed = new Promise(done => addEventListener("hashchange", done, { once: true }));'
+                 'location.hash = arguments[0]; await followed', fragment)
+        self.rest(0.1)
+        self.settled()
+
     def view(self, name):
         self.click(f'#tab-{name}')
         self.settled()

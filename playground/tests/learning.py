@@ -87,6 +87,33 @@ def links_lead_back(page):
     equal(page.text('#version'), version)
 
 
+def a_link_in_the_open_page_is_followed(page):
+    """A link opens its program, view and position in the page that is open, also where only one of these is another."""
+    page.open('#example=tree&view=store&step=5')
+    page.settled()
+    equal(page.position()[0], 5)
+    for fragment, view, at, name in (('#example=tree&view=store&step=60', 'store', 60, 'Search tree'),
+                                     ('#example=tree&view=output&step=7', 'output', 7, 'Search tree'),
+                                     ('#example=tree&view=store', 'store', 7, 'Search tree'), ('#example=queue&step=3', 'store', 3, 'Queue')):
+        page.follow(fragment)
+        equal((page.position()[0], page.is_drawn(f'#{view}'), page.text('#picked').split(': ')[1]), (at, True, name), fragment)
+    equal([it['text'] for it in page.lines()][:5], read('examples/queue.rpp').split('\n')[:5])
+    page.write('class P int x method main()\nx += 1\nx += 2')
+    equal(page.position(), (2, 2))
+    page.click('#share')
+    page.browser.until('return /step=2&/.test(location.hash)')
+    shared = page.run('return location.hash')
+    page.put('#field-x', '40')
+    page.go('end')
+    equal(page.store()['#1 P'], {'x': '43'})
+    page.follow('#v=0.1.0&program=broken')
+    holds('broken' in page.text('#notice') and page.store()['#1 P'] == {'x': '43'}, 'a broken link leaves what is there')
+    page.follow(shared)
+    holds(not page.is_drawn('#notice'), 'what was said of the broken link stays')
+    page.go('end')
+    equal(page.store()['#1 P'], {'x': '3'}, 'the field of a link to the same text')
+
+
 def the_address_keeps_the_text(page):
     """The address has the text as it was typed last. What Share puts there stays, also if the text before it is still being packed."""
     page.open()
@@ -163,5 +190,5 @@ def figures_stand_alone(page):
     holds('Linked list' in printed and 'position 60 of 60' in printed and 'delocal int i = 4' in printed, printed[:200])
 
 
-TESTS = (the_ladder_has_all, exercises_check_themselves, the_help_has_all, links_lead_back, the_address_keeps_the_text, a_reload_keeps_the_text,
-         a_broken_link_says_so, it_embeds, figures_stand_alone)
+TESTS = (the_ladder_has_all, exercises_check_themselves, the_help_has_all, links_lead_back, a_link_in_the_open_page_is_followed,
+         the_address_keeps_the_text, a_reload_keeps_the_text, a_broken_link_says_so, it_embeds, figures_stand_alone)
