@@ -11,15 +11,17 @@ function openBlocks(text) {
   return open.map(({ what, first }) => [what, place.line_of(first)]);
 }
 
-// What was there before the last statement of a run that began, as the companion's rules read it.
+// What is there at the last position of a run, as the companion's rules read it.
 function momentOf(run) {
   const at = run.last, things = run.objects(at).map(it => [Number(it.name.slice(1)), { ...it, number: Number(it.name.slice(1)) }]);
   return { point: { place: run.places[at] }, value: name => run.value(at, name), objects: new Map(things) };
 }
 
-// The companion's message for a fault, in a run with so large a heap and so many calls.
-async function faultMessage({ number, place, isUndone }, run, heap, depth) {
+// The companion's message for a fault, in a run with so large a heap and so many calls. The last position is that of
+// the test that failed, or else of the last statement that began.
+async function faultMessage({ number, place, isUndone, failure }, run, heap, depth) {
   await run.ask([run.last]);
-  const given = [Bytes.of(run.text), place, momentOf(run), isUndone, Number(heap), Number(depth)];
+  const moment = momentOf(run), [before, failed] = failure ? [undefined, moment] : [moment, undefined];
+  const given = [Bytes.of(run.text), place, before, isUndone, Number(heap), Number(depth), failed];
   return companion.explain.of_fault(number, place === undefined ? undefined : companion.fault_slots.Where.made({}, ...given), isUndone);
 }

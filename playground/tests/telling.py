@@ -10,6 +10,8 @@ from running import FAULTS
 MUTATED, DRAWN, SEED = 300, 24, 20
 WORDS = ('class inherits method int nil skip if then else fi from do loop until local delocal construct destruct new delete copy uncopy call uncall + - * / % ^ & | '
          '&& || = != < > <= >= ( ) [ ] , :: += -= ^= <=> x y 0 1 99999999999 ; . { } ! true this self while for return print Foo elsif é “').split()
+# What is drawn below the line of a test that fails: what it found and what it needed, in place of the companion's sentence.
+AT_PLACE = {'3 Delocal': ' '.join(('a local is closed with another value', 'fault 3 Delocal', 'found', 't = 1', 'wanted', 't = 7'))}
 # What the program says of each text, and what the page makes of that.
 SAID = '''
 const said = [];
@@ -90,9 +92,14 @@ def a_key_writes_the_fix(page):
     holds(page.text('#problems').startswith('Accepted') and not page.is_drawn('.told'), page.text('#problems'))
 
 
+def spaced(name):
+    """The name of a fault in words, as the page has it."""
+    return re.sub(r'([a-z])([A-Z])', r'\1 \2', name.split()[1]).lower()
+
+
 def faults_are_told_with_names_and_values(page):
     """A fault is explained in the companion's words, with the names and values of its statement."""
-    for name, wanted in (('4 NotNil', 'a must be nil before new, and it holds #2.'), ('5 Nil', 'a must not be nil here.'),
+    for name, wanted in (('3 Delocal', 't must be equal to x at its delocal, and it is 1.'), ('4 NotNil', 'a must be nil before new, and it holds #2.'), ('5 Nil', 'a must not be nil here.'),
                          ('6 Count', 'a must have the only reference to #2, which has 2.'), ('7 NotEmpty', '[0] of #2 must be 0 or nil when it is deleted, and it is 1.'),
                          ('8 HeapFull', 'The heap of 4,096 words must have a free block of 5,002 words.'),
                          ('9 Index', 'The index of a must be at least 0 and less than 2, and it is 2.'),
@@ -103,7 +110,7 @@ def faults_are_told_with_names_and_values(page):
         page.go('end')
         holds(wanted in page.text('#problems'), f'{name}: {page.text("#problems")!r}')
         told = [' '.join(it['told'].split()) for it in page.lines() if it['told']]
-        holds(len(told) == 1 and wanted in told[0], f'{name}: {told!r}')
+        equal(told, [AT_PLACE.get(name, f'{spaced(name)} fault {name} {wanted}')])
 
 
 TESTS = (the_rules_are_the_companions, refusals_are_told_in_place, a_key_writes_the_fix, faults_are_told_with_names_and_values)
