@@ -31,6 +31,16 @@ SCRIPTS = ('source.js', 'texts.js', 'messages.js', 'caller.js', 'run.js', 'failu
 PAIRS = f'{TOP}/companion/rpp/pages/side.js'
 # What the companion says of refusals and faults, in the order in which these modules use each other.
 RULES = ('tokens', 'source', 'names', 'expressions', 'spelling', 'slots', 'grammar', 'syntax', 'rules', 'fault_slots', 'explain')
+# It names commands and their words; the page has views and fields in their place.
+AS_ON_PAGE = (('H must be from 1 to 20: the heap has 2^H words.', 'The heap must have 2 to the power of 1 to 20 words.'),
+              ('D must be from 1 to 8192: the most calls that may be active.', 'The open calls at once must be from 1 to 8192.'),
+              ('not have more than D active calls', 'not have more active calls than the limit of the run'),
+              ('Run with a larger D, up to 8192.', 'Allow more open calls at once in the limits of the run, up to 8192.'),
+              ('and D allows no more', 'and the limit of the run allows no more'),
+              ('with these H and D', 'with this heap and these open calls'),
+              ('`rpp debug` shows both', 'Going back from the stop shows both'),
+              ('`objects` of `rpp debug` shows them', 'The picture of the store shows them'),
+              ('which `rpp help` names after the word: `rpp help if`', 'which the help of this page shows'))
 EXERCISES = f'{TOP}/docs/learn/exercises'
 # What the page can check of a run.
 CASES = ('compare', 'back')
@@ -116,7 +126,14 @@ def messages():
     """The companion's rules of refusals and faults, as a script."""
     tables = of_companion('rules')
     complete({'refusals': tables.REFUSAL_OF, 'faults': tables.FAULT_OF})
-    return f'const {{ companion, Bytes }} = (() => {{\n{read(f"{HERE}/python.js")}\nreturn {{ companion: {translate.script(RULES)}, Bytes }};\n}})();\n'
+    return f'const {{ companion, Bytes }} = (() => {{\n{read(f"{HERE}/python.js")}\nreturn {{ companion: {on_page(translate.script(RULES))}, Bytes }};\n}})();\n'
+
+
+def on_page(text):
+    """A text of the companion, with views and fields of the page in the place of commands and their words."""
+    for of_command, of_page in AS_ON_PAGE:
+        text = text.replace(of_command, of_page)
+    return text
 
 
 def complete(tables):
@@ -222,7 +239,7 @@ def rule_list(rules):
 
 def marked_up(sentence):
     """A sentence as HTML, its parts in backquotes as code."""
-    return re.sub('`(.*?)`', r'<code>\1</code>', html.escape(sentence, quote=False))
+    return re.sub('`(.*?)`', r'<code>\1</code>', html.escape(on_page(sentence), quote=False))
 
 
 def page(module, made):

@@ -57,6 +57,10 @@ def the_help_has_all(page):
     holds(len(rules) == 39, f'{len(rules)} rules in docs/reference')
     for rule in rules:
         holds(rule in text, f'the help has no {rule}')
+    page.run('for (const it of document.querySelectorAll("#helping details")) it.open = true')
+    told = page.run('return [...document.querySelectorAll("#helping .rules details")].map(it => it.innerText)')
+    holds(len(told) > 55, f'{len(told)} rules in the help')
+    equal([it for it in told if re.search(r'\b[B-HJ-Z]\b|\b(above|below|rpp)\b', it)], [], 'what names another medium')
     for word in ('x += e', 'uncall m(x)', 'Shift', 'SHA-256', 'CodeMirror', 'dagre'):
         holds(word in text, f'the help has no {word}')
     page.click('#helping [data-close]')

@@ -157,6 +157,7 @@ def takes_inputs_and_limits(page):
     page.click('#gear')
     page.put('#heap', '77')
     holds('The run did not begin' in page.text('#problems') and 'refusal 35' in page.text('#problems'), page.text('#problems'))
+    holds('The heap must have 2 to the power of 1 to 20 words.' in page.text('#problems'), page.text('#problems'))
     page.click('#usual')
     page.settled()
     page.put('#steps', '10')

@@ -44,7 +44,7 @@ def mutated(chance):
 
 def of_companion(text, number, place):
     it = pages.of_companion('explain').of_refusal(text.encode(), number, place)
-    return [it.sentence, it.fix, it.detail, [list(edit) for edit in it.edits], it.title]
+    return [*map(pages.on_page, (it.sentence, it.fix, it.detail)), [list(edit) for edit in it.edits], it.title]
 
 
 def the_rules_are_the_companions(page):
@@ -105,7 +105,8 @@ def faults_are_told_with_names_and_values(page):
                          ('9 Index', 'The index of a must be at least 0 and less than 2, and it is 2.'),
                          ('10 NotSame', 'a and b must have one reference, and they have #2 and #3.'),
                          ('11 ClassDiffers', 'The class of this delete must be D, with which #2 was made, not C.'),
-                         ('13 Length', 'The length 0 must be at least 1, and it is 0.')):
+                         ('13 Length', 'The length 0 must be at least 1, and it is 0.'),
+                         ('14 TooDeep', 'This call must not be made: 64 calls are active, main included, and the limit of the run allows no more.')):
         page.write(next(text for text, _, it, _, _ in FAULTS if it == name))
         page.go('end')
         holds(wanted in page.text('#problems'), f'{name}: {page.text("#problems")!r}')
