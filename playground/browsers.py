@@ -24,8 +24,26 @@ class BrowserFailed(Exception):
     """The browser refused a command, or did not start."""
 
 
+def descendants(root):
+    """The processes that a process has begun, and those that these have begun."""
+    parents = {}
+    for it in filter(str.isdigit, os.listdir('/proc')):
+        with contextlib.suppress(OSError), open(f'/proc/{it}/stat', encoding='latin-1') as file:
+            parents[int(it)] = int(file.read().rpartition(')')[2].split()[1])
+    found, open_ones = [], [root]
+    while open_ones:
+        own = open_ones.pop()
+        children = [it for it, parent in parents.items() if parent == own]
+        found += children
+        open_ones += children
+    return found
+
+
 class Browser:
-    """What both browsers do. A subclass has `command(name, path, body)` and ends its process in `close`."""
+    """What both browsers do. A subclass has `command(name, path, body)` and ends its process in `close`; `of_page` is a word of
+    the command line of the processes that run pages."""
+
+    of_page = ''
 
     def open(self, url):
         self.command('Navigate', 'url', {'url': url})
@@ -67,6 +85,18 @@ class Browser:
     def resize(self, width, height):
         self.command('SetWindowRect', 'window/rect', {'width': width, 'height': height})
 
+    def processor_seconds(self):
+        """The time for which processors worked at the pages: in their main threads, which run the scripts and draw."""
+        ticks = 0
+        for it in descendants(self.root()):
+            with contextlib.suppress(OSError):
+                with open(f'/proc/{it}/cmdline', encoding='latin-1') as file:
+                    is_of_page = self.of_page in file.read()
+                if is_of_page:
+                    with open(f'/proc/{it}/task/{it}/stat', encoding='latin-1') as file:
+                        ticks += sum(map(int, file.read().rpartition(')')[2].split()[11:13]))
+        return ticks / os.sysconf('SC_CLK_TCK')
+
     def screenshot(self, file):
         with open(file, 'wb') as it:
             it.write(base64.b64decode(self.command('TakeScreenshot', 'screenshot', None)))
@@ -106,6 +136,7 @@ class Chromium(Browser):
 
     name = 'chromium'
     needs = ('chromium', 'chromedriver')
+    of_page = '--type=renderer'
 
     def __init__(self):
         self.folder = tempfile.mkdtemp(prefix='chromium')
@@ -123,6 +154,14 @@ class Chromium(Browser):
         session = self.send('POST', '', {'capabilities': {'alwaysMatch': wanted}})
         self.address += f'/{session["sessionId"]}'
         self.set_limits()
+
+    def root(self):
+        return self.driver.pid
+
+    def emulate(self, medium='', **features):
+        """Has the page drawn as for a medium, such as print, and for what a reader prefers, such as prefers_color_scheme='dark'."""
+        wanted = [{'name': name.replace('_', '-'), 'value': value} for name, value in features.items()]
+        self.command('', 'goog/cdp/execute', {'cmd': 'Emulation.setEmulatedMedia', 'params': {'media': medium, 'features': wanted}})
 
     def port(self):
         for line in self.driver.stdout:
@@ -161,12 +200,13 @@ class Firefox(Browser):
 
     name = 'firefox'
     needs = ('firefox-esr',)
+    of_page = '-isForBrowser'
 
     def __init__(self):
         self.folder = tempfile.mkdtemp(prefix='firefox')
         with open(f'{self.folder}/user.js', 'w', encoding='ascii') as it:
             it.write('user_pref("marionette.port", 0);\nuser_pref("datareporting.policy.dataSubmissionEnabled", false);\n')
-        words = ['firefox-esr', '--headless', '--marionette', '--no-remote', '--profile', self.folder]
+        words = ['firefox-esr', '--headless', '--marionette', '--remote-allow-system-access', '--no-remote', '--profile', self.folder]
         self.process = subprocess.Popen(words, stdout=subprocess.DEVNULL, stderr=subprocess.DEVNULL)
         self.socket, self.got, self.number = None, b'', 0
         with self.closed_on_failure():
@@ -174,6 +214,22 @@ class Firefox(Browser):
             self.message()
             self.command('NewSession', '', {})
             self.set_limits()
+
+    def root(self):
+        return self.process.pid
+
+    def emulate(self, medium='', **features):
+        """Has the page drawn as for a medium, such as print, and for what a reader prefers, such as prefers_color_scheme='dark'."""
+        script = '''const context = gBrowser.selectedBrowser.browsingContext, [medium, dark, still] = arguments;
+            context.mediumOverride = medium;
+            context.prefersColorSchemeOverride = dark;
+            Services.prefs.setIntPref('ui.prefersReducedMotion', still);'''
+        given = [medium, features.get('prefers_color_scheme', 'none'), int(features.get('prefers_reduced_motion') == 'reduce')]
+        self.command_of('Marionette', 'SetContext', {'value': 'chrome'})
+        try:
+            self.command('ExecuteScript', '', {'script': script, 'args': given})
+        finally:
+            self.command_of('Marionette', 'SetContext', {'value': 'content'})
 
     def port(self):
         end = time.monotonic() + START_SECONDS
@@ -202,8 +258,11 @@ class Firefox(Browser):
         self.got += piece
 
     def command(self, name, path, body):
+        return self.command_of('WebDriver', name, body)
+
+    def command_of(self, kind, name, body):
         self.number += 1
-        text = json.dumps([0, self.number, f'WebDriver:{name}', body or {}]).encode()
+        text = json.dumps([0, self.number, f'{kind}:{name}', body or {}]).encode()
         self.socket.sendall(b'%d:%s' % (len(text), text))
         _, _, error, value = self.message()
         if error:

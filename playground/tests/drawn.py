@@ -1,5 +1,6 @@
 """The page as a person sees it: what is drawn in a browser, and what keys and clicks do. Nothing here reads what the page's own
 objects hold; they are asked only whether the page still works on something."""
+import contextlib
 import os
 import re
 
@@ -38,6 +39,34 @@ return [...document.querySelectorAll('#store .box')].filter(isDrawn).map(box => 
     at: [frame.left - canvas.left, frame.top - canvas.top].map(Math.round) };
 });
 '''
+
+PARTS = 4
+# Makes moves, each as soon as the last one is drawn.
+MOVES = '''
+const [key, count, told] = arguments, frame = () => new Promise(done => requestAnimationFrame(() => setTimeout(done, 0)));
+for (let at = 0; at < count; at++) {
+  const before = document.querySelector(told).textContent;
+  document.querySelector(`[data-go=${key}]`).click();
+  do await frame(); while (document.querySelector(told).textContent === before);
+}
+'''
+# Makes moves one frame after the other, and gives what an element says after each.
+STEPS = '''
+const [key, count, told] = arguments, seen = [];
+for (let at = 0; at < count; at++) {
+  document.querySelector(`[data-go=${key}]`).click();
+  for (let frame = 0; frame < 3; frame++) await new Promise(done => requestAnimationFrame(done));
+  seen.push(document.querySelector(told).textContent);
+}
+return seen;
+'''
+# From here on no call of the program is answered, until they are let go.
+HOLDS = '''
+const { caller } = playground, { call } = caller;
+caller.held = [];
+caller.call = (...given) => new Promise((done, failed) => caller.held.push(() => call.apply(caller, given).then(done, failed)));
+'''
+LETS_GO = 'const { caller } = playground; delete caller.call; for (const it of caller.held) it()'
 
 
 def read(file):
@@ -172,6 +201,30 @@ class Page:
         self.click(f'[data-go={name}]')
         self.run('await new Promise(done => setTimeout(done, 30))')
         self.settled()
+
+    def move_cost(self, key, count, told='#where'):
+        """The milliseconds for which the processor works at the page for a move by a key of the transport, after which an element has
+        another text, in the best of several parts of these moves. What else the machine does adds little."""
+        costs = []
+        for _ in range(PARTS):
+            before = self.browser.processor_seconds()
+            self.run(MOVES, key, count // PARTS, told)
+            costs.append((self.browser.processor_seconds() - before) * 1000 * PARTS / count)
+        return min(costs)
+
+    @contextlib.contextmanager
+    def without_answers(self):
+        """While this lasts, no call of the program is answered."""
+        self.run(HOLDS)
+        try:
+            yield
+        finally:
+            self.run(LETS_GO)
+            self.settled()
+
+    def steps(self, key, count, told='#where'):
+        """What an element says after each of so many moves that are made with no regard to calls of the program."""
+        return self.run(STEPS, key, count, told)
 
     def put(self, selector, value):
         """Types a value into a box, and leaves it."""

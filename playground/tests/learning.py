@@ -2,11 +2,32 @@
 import json
 import os
 import re
+import tempfile
 
-from drawn import END, TOP, equal, holds, read
+from drawn import END, TALL, TOP, WIDE, equal, holds, read
+from reaching import RATIO
 
 # After this time the browser and the address have what is shown.
 KEPT_SECONDS = 1.2
+# A page of A4 with its margins, in pixels of a screen.
+PAPER = (794, 1100)
+# The parts of a picture: the kind, the colours, and whether the arrow has a head.
+FIGURE = '''
+const picture = [...document.querySelectorAll('svg.picture')].at(-1);
+return [...picture.querySelectorAll('.frame, .arrow, text')].map(it => {
+  const { fill, stroke } = getComputedStyle(it), head = /#([^")]+)/.exec(it.getAttribute('marker-end') ?? '')?.[1];
+  return [it.getAttribute('class'), it.matches('text') ? [it.textContent, fill] : stroke, head ? Boolean(document.getElementById(head)) : false];
+});
+'''
+# What is printed with too little contrast on white, whether its picture is drawn, and whether something is wider than the paper.
+PRINTED = RATIO + '''
+const white = [255, 255, 255, 1], picture = document.querySelector('#printed svg').getBoundingClientRect();
+for (const it of document.querySelectorAll('#printed h1, #printed figcaption, #printed pre, #printed svg text')) {
+  const style = getComputedStyle(it), found = ratio(numbers(it.matches('text') ? style.fill : style.color), white);
+  if (found < 4.5) low.add(`${found.toFixed(2)} ${it.tagName} ${it.getAttribute('class') ?? ''} ${it.textContent.slice(0, 20)}`);
+}
+return [[...low], picture.width > 100 && picture.height > 100, document.documentElement.scrollWidth > innerWidth];
+'''
 SOLUTIONS = {'1.1': ('01', 'three.rpp'), '1.3': ('01', 'change.rpp'), '2.2': ('02', 'five.rpp'), '2.3': ('02', 'sign.rpp'), '3.1': ('03', 'most.rpp'),
              '3.3': ('03', 'days.rpp'), '4.1': ('04', 'product.rpp'), '4.3': ('04', 'divide.rpp'), '5.3': ('05', 'pairs.rpp'), '6.1': ('06', 'sum.rpp'),
              '11.1': ('11', 'square.rpp')}
@@ -173,6 +194,13 @@ def it_embeds(page):
     holds('#v=' in page.run('return document.querySelector(".open-all").href'), 'no link leads to the workbench')
     equal(page.run('return localStorage.length'), 0)
     page.open()
+    page.write('class P int x method main()\nx += 1\nx += 2\nx += 4')
+    page.click('#share')
+    page.browser.until('return /step=3&/.test(location.hash)')
+    page.open(query='?embed&view=output&step=1', fragment=page.run('return location.hash'))
+    page.settled()
+    equal((page.position(), page.output(), page.lines()[-1]['text']), ((1, 3), [['x', '0', '1', '7']], 'x += 4'))
+    page.open()
     page.click('#embed')
     frame = page.run('return document.getElementById("frame").value')
     holds(frame.startswith('<iframe src="file://') and '?embed#v=' in frame and 'step=40' in frame, frame)
@@ -180,19 +208,61 @@ def it_embeds(page):
 
 
 def figures_stand_alone(page):
-    """The picture as a file has its colours and arrow heads inside; the printed page has the picture and the program."""
+    """The picture as a file has its colours and arrow heads inside, and is drawn by itself as it is on the page."""
     page.open('#example=list')
     page.settled()
     page.go('end')
+    page.click('#embed')
     figure = page.run('''let saved; const make = URL.createObjectURL; URL.createObjectURL = blob => { saved = blob; return make(blob); };
       HTMLAnchorElement.prototype.click = function () { saved.file = this.download; };
       document.getElementById('save-figure').click(); URL.createObjectURL = make; return [saved.file, await saved.text()]''')
     equal(figure[0], 'store-60.svg')
     holds('var(' not in figure[1] and '<marker' in figure[1] and '#1 List' in figure[1] and 'fill:' in figure[1], figure[1][:200])
-    page.run('dispatchEvent(new Event("beforeprint"))')
-    printed = page.run('return document.getElementById("printed").textContent')
-    holds('Linked list' in printed and 'position 60 of 60' in printed and 'delocal int i = 4' in printed, printed[:200])
+    drawn = page.run(FIGURE)
+    page.click('#embedding [data-close]')
+    with tempfile.TemporaryDirectory() as folder:
+        with open(f'{folder}/store.svg', 'w', encoding='utf-8') as it:
+            it.write(figure[1])
+        page.browser.open(f'file://{folder}/store.svg')
+        alone = page.run(FIGURE)
+    holds(alone == drawn and len(drawn) > 5, f'the file has {alone}, and the page {drawn}')
 
 
-TESTS = (the_ladder_has_all, exercises_check_themselves, the_help_has_all, links_lead_back, a_link_in_the_open_page_is_followed,
-         the_address_keeps_the_text, a_reload_keeps_the_text, a_broken_link_says_so, it_embeds, figures_stand_alone)
+def the_print_has_picture_and_program(page):
+    """What is printed is the title, the picture of the store with a caption, and the numbered program, dark on white, and as wide as the paper."""
+    for theme in ('light', 'dark'):
+        page.open('#example=list', query=f'?theme={theme}')
+        page.settled()
+        page.go('end')
+        page.browser.emulate('print')
+        page.browser.resize(*PAPER)
+        page.run('dispatchEvent(new Event("beforeprint"))')
+        try:
+            equal([it for it in ('#head', '#welcome', '#bench', '#transport', '.CodeMirror') if page.is_drawn(it)], [], 'what is not to be printed')
+            equal(page.text('#printed h1').split(': ')[-1], 'Linked list')
+            holds('position 60 of 60' in page.text('#printed figcaption'), page.text('#printed figcaption'))
+            lines = [f'{at:3}  {line}' for at, line in enumerate(read('examples/list.rpp').split('\n'), 1)]
+            equal(page.run('return document.querySelector("#printed pre").innerText').rstrip().split('\n')[-2].strip(), lines[-2].strip())
+            equal(page.run(PRINTED), [[], True, False], f'{theme}: too little contrast, the picture is drawn, something is too wide')
+        finally:
+            page.browser.emulate()
+            page.browser.resize(WIDE, TALL)
+
+
+def the_first_view_says_what_to_press(page):
+    """The page opens with a run that is paused in its middle, with objects, and says in two lines at most what the language is and what to
+    press. Once closed, this stays away."""
+    at, last = page.position()
+    holds(0 < at < last and len(page.boxes()) > 3, f'the page opens at {at} of {last}')
+    words, high, row = page.run('const it = document.querySelector("#welcome span");'
+                                'return [it.innerText, it.offsetHeight, parseFloat(getComputedStyle(it).lineHeight)]')
+    holds('both ways' in words and 'Forward' in words and 'Back' in words and high <= 2 * row + 12, f'{words!r} is {high} high')
+    page.click('#welcomed')
+    holds(not page.is_drawn('#welcome'), 'the first line does not close')
+    page.open(clears=False)
+    holds(not page.is_drawn('#welcome'), 'the first line comes again')
+
+
+TESTS = (the_first_view_says_what_to_press, the_ladder_has_all, exercises_check_themselves, the_help_has_all, links_lead_back,
+         a_link_in_the_open_page_is_followed, the_address_keeps_the_text, a_reload_keeps_the_text, a_broken_link_says_so, it_embeds, figures_stand_alone,
+         the_print_has_picture_and_program)

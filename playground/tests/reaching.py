@@ -2,7 +2,8 @@
 import os
 import tempfile
 
-from drawn import LEFT, RIGHT, SHIFT, TAB, equal, holds, read
+from drawn import ESCAPE, IS_DRAWN, LEFT, RIGHT, SHIFT, TAB, equal, holds, read
+from running import FAULTS
 
 UNNAMED = '''
 const labelled = it => (it.getAttribute('aria-labelledby') || '').split(' ').map(id => document.getElementById(id)?.textContent ?? '').join('');
@@ -67,10 +68,17 @@ playground.heard = [];
 new MutationObserver(() => playground.heard.push(spoken.textContent)).observe(spoken, { childList: true, characterData: true, subtree: true });
 '''
 TOO_WIDE = 'const it = document.documentElement; return [it.scrollWidth > it.clientWidth, document.body.scrollWidth > innerWidth]'
-OFF_SCREEN = '''
-const isOff = box => box.left < -1 || box.right > innerWidth + 1 || box.bottom > innerHeight + 1;
-return [...document.querySelectorAll('.controls button:not([hidden])')].filter(it => isOff(it.getBoundingClientRect())).map(it => it.id || it.dataset.go);
+# What is not wholly on the screen of these, and of these what is wider than its place.
+OFF_SCREEN = IS_DRAWN + '''
+const isOff = box => box.left < -1 || box.right > innerWidth + 1 || box.top < -1 || box.bottom > innerHeight + 1;
+const name = it => it.id || it.dataset.go || it.className || it.tagName;
+return [...document.querySelectorAll(arguments[0])].filter(isDrawn).filter(it => isOff(it.getBoundingClientRect())).map(name);
 '''
+WIDER = IS_DRAWN + '''
+return [...document.querySelectorAll(arguments[0])].filter(isDrawn).filter(it => it.scrollWidth > it.clientWidth + 1).map(it => it.id || it.className);
+'''
+KEYS = '.controls button, .controls select, #readout, #timeline, #head button, [role=tab], #limits, #limits input, #toast, #toast button'
+SIZES = ((320, 700), (390, 844), (720, 500), (1024, 768), (1440, 1000))
 # Tries to reach the network in three ways, and gives the rules of the page's policy that forbid it.
 FETCHES = '''
 const image = () => new Promise((done, failed) => { const it = new Image(); it.onload = done; it.onerror = failed; it.src = 'http://127.0.0.1:9/x.png'; });
@@ -186,18 +194,77 @@ def colours_have_contrast(page):
 
 
 def it_fits(page):
-    """Nothing is wider than the screen, at all widths and in all views; at 320 wide and at twice the size all keys are on the screen."""
+    """Nothing is wider than the screen, at all widths, in all views and dialogs, with a fault and with a refusal. All keys are on the
+    screen, also at 320 wide and at twice the size."""
     page.open('#example=tree')
     page.settled()
-    for width, height in ((320, 700), (390, 844), (720, 500), (1024, 768), (1440, 1000)):
+    for width, height in SIZES:
         page.browser.resize(width, height)
-        for view in ('store', 'output', 'inverse', 'machine'):
-            page.run('playground.openView(arguments[0])', view)
-            page.settled()
-            equal(page.run(TOO_WIDE), [False, False], f'{width}, {view}')
-        equal(page.run(OFF_SCREEN), [], f'keys that are not on the screen at {width}')
-    page.run('playground.openView("store")')
+        fits(page, width)
     page.browser.resize(1440, 1000)
+    page.run('document.getElementById("large").click()')
+    for width, height in ((720, 500), (1440, 1000)):
+        page.browser.resize(width, height)
+        fits(page, f'{width}, larger text')
+    page.run('document.getElementById("large").click()')
+
+
+def fits(page, size):
+    for view in ('store', 'output', 'inverse', 'machine'):
+        page.run('playground.openView(arguments[0]); playground.openSheet("views")', view)
+        page.settled()
+        equal((page.run(TOO_WIDE), page.run(OFF_SCREEN, KEYS)), ([False, False], []), f'{size}, {view}')
+        holds(page.is_drawn(f'#{view} *'), f'{size}: {view} is not drawn')
+    page.run('playground.openView("store"); playground.openSheet("program")')
+    page.click('#gear')
+    equal(page.run(OFF_SCREEN, KEYS), [], f'{size}, limits')
+    page.press(ESCAPE)
+    for key, dialog in (('#pick', '#ladder'), ('#help', '#helping')):
+        page.click(key)
+        equal((page.run(TOO_WIDE), page.run(OFF_SCREEN, dialog), page.run(WIDER, dialog)), ([False, False], [], []), f'{size}, {dialog}')
+        page.click(f'{dialog} [data-close]')
+    text = page.run('return playground.editor.text')
+    for what, other in (('a fault', FAULTS[6][0]), ('a refusal', 'class P int x method main() x = x + 1'), ('the program', text)):
+        page.write(other)
+        page.run('playground.transport.press("end")')
+        page.settled()
+        equal((page.run(TOO_WIDE), page.run(OFF_SCREEN, KEYS), page.run(WIDER, '#problems')), ([False, False], [], []), f'{size}, {what}')
+
+
+# Moves from the start on, and gives how many animations run then.
+MOVING = '''
+let count = 0;
+document.querySelector('[data-go=start]').click();
+for (let at = 0; at < 20; at++) {
+  document.querySelector('[data-go=step-on]').click();
+  await new Promise(done => requestAnimationFrame(done));
+  count += document.getAnimations().filter(it => it.playState === 'running').length;
+}
+return count;
+'''
+
+
+def it_follows_what_the_reader_prefers(page):
+    """The page is dark if the reader prefers that, also when this changes, until one chooses. Nothing moves by itself if one prefers that."""
+    ground = RATIO + 'return light(numbers(getComputedStyle(document.body).backgroundColor))'
+    try:
+        for theme in ('dark', 'light', 'dark'):
+            page.browser.emulate(prefers_color_scheme=theme)
+            page.rest(0.2)
+            light = page.run(ground)
+            holds(light < 0.05 if theme == 'dark' else light > 0.8, f'the ground of {theme} has a light of {light}')
+        page.click('#dark')
+        page.reload()
+        page.settled()
+        holds(page.run(ground) > 0.8, 'what was chosen does not stay')
+        page.choose('Linked list')
+        for preferred in ('no-preference', 'reduce'):
+            page.browser.emulate(prefers_reduced_motion=preferred)
+            page.rest(0.2)
+            count = page.run(MOVING)
+            holds((count == 0) == (preferred == 'reduce'), f'{count} movements where a reader prefers {preferred}')
+    finally:
+        page.browser.emulate()
 
 
 def it_asks_no_network(page):
@@ -246,4 +313,4 @@ def without_runs_it_reads(page):
 
 
 TESTS = (every_control_has_a_name, assistive_technology_sees_it, tabs_keep_the_focus, the_keyboard_reaches_all, one_voice, colours_have_contrast,
-         it_fits, it_asks_no_network, a_worker_that_dies_is_begun_anew, without_runs_it_reads)
+         it_fits, it_follows_what_the_reader_prefers, it_asks_no_network, a_worker_that_dies_is_begun_anew, without_runs_it_reads)
