@@ -43,7 +43,7 @@ class Places {
   // `stores` are positions of the run with their objects, `sizeOf` measures an object at one of them, and `wide` is the
   // width of the widest call.
   constructor(stores, sizeOf, pane, wide) {
-    Object.assign(this, { slots: new Map(), heads: new Map(), sizes: new Map(), edges: new Map(), widest: new Map(), folds: new Map(), late: 0 });
+    Object.assign(this, { slots: new Map(), heads: new Map(), sizes: new Map(), edges: new Map(), fields: new Map(), widest: new Map(), folds: new Map(), late: 0 });
     this.left = wide + GAP;
     this.giveSlots(stores);
     for (const store of stores) this.measure(store, sizeOf);
@@ -75,7 +75,11 @@ class Places {
       this.sizes.set(slot, { width: Math.max(was.width, size.width), height: Math.max(was.height, size.height) });
       const shown = shownValue(object), head = this.heads.get(slot);
       this.widest.set(head, Math.max(this.widest.get(head) ?? 0, shown.length));
-      for (const [, value] of object.cells) if (isReference(value) && this.slot(value) !== slot) bump(this.edges, `${slot} ${this.slot(value)}`);
+      object.cells.forEach(([, value], field) => {
+        if (!isReference(value) || this.slot(value) === slot) return;
+        bump(this.edges, `${slot} ${this.slot(value)}`);
+        this.fields.set(`${slot} ${this.slot(value)}`, field);
+      });
     }
   }
 
@@ -126,10 +130,10 @@ class Places {
     // The store at the end counts, however short it lasts.
     for (const { name, cells } of stores.at(-1).objects.values()) for (const [, value] of cells) last.add(`${this.slot(name)} ${this.slot(value)}`);
     for (const [edge, weight] of this.edges) {
-      const [from, to] = edge.split(' ').map(it => this.node(it)), key = `${from}\n${to}`;
-      if (from !== to) weights.set(key, (weights.get(key) ?? 0) + weight + (last.has(edge) ? stores.length : 0));
+      const [from, to] = edge.split(' ').map(it => this.node(it)), key = `${from}\n${to}`, was = weights.get(key)?.weight ?? 0;
+      if (from !== to) weights.set(key, { from, to, weight: was + weight + (last.has(edge) ? stores.length : 0), field: this.fields.get(edge) });
     }
-    const kept = [...weights].filter(([, weight]) => weight * 20 > stores.length).sort((one, other) => other[1] - one[1]);
+    const kept = [...weights.values()].filter(({ weight }) => weight * 20 > stores.length).sort((one, other) => other.weight - one.weight);
     const [along, down] = ['LR', 'TB'].map(direction => laidOut(nodes, kept, direction));
     const scale = it => Math.min(pane.width / (it.width + this.left + 80), pane.height / (it.height + 40), 1.4);
     Object.assign(this, scale(down) > scale(along) * 1.08 ? down : along);
@@ -162,16 +166,18 @@ class Places {
   get tall() { return this.height + (this.hasLate ?? 0); }
 }
 
-// One layout of nodes by weighed edges, along or down.
+// One layout of nodes by weighed edges, along or down. If two edges are opposite, the first counts. The layout keeps
+// the order in which it gets the edges of a node, so what the first field refers to is on the left, or on top.
 function laidOut(nodes, edges, rankdir) {
-  const graph = new dagre.graphlib.Graph();
+  const graph = new dagre.graphlib.Graph(), known = new Set();
   graph.setGraph({ rankdir, nodesep: rankdir === 'LR' ? 16 : 24, ranksep: 36, ranker: 'network-simplex' });
   graph.setDefaultEdgeLabel(() => ({}));
   for (const [name, size] of nodes) graph.setNode(name, { ...size });
-  for (const [edge, weight] of edges) {
-    const [from, to] = edge.split('\n');
-    if (nodes.has(from) && nodes.has(to) && !graph.hasEdge(to, from)) graph.setEdge(from, to, { weight: Math.ceil(Math.log2(weight + 1)) });
-  }
+  const counts = edges.filter(({ from, to }) => {
+    known.add(`${from}\n${to}`);
+    return nodes.has(from) && nodes.has(to) && !known.has(`${to}\n${from}`);
+  });
+  for (const { from, to, weight } of counts.sort((one, other) => one.field - other.field)) graph.setEdge(from, to, { weight: Math.ceil(Math.log2(weight + 1)) });
   dagre.layout(graph);
   const boxes = new Map([...nodes].map(([name, size]) => {
     const { x, y, width, height } = graph.node(name);

@@ -1,5 +1,5 @@
 """Pictures of the store, the listing, and long runs."""
-from drawn import equal, holds
+from drawn import equal, holds, read
 
 CROSSINGS = '''
 const boxes = [...document.querySelectorAll('#store .box')].map(it => ({ name: it.dataset.name, box: it.querySelector('.frame').getBBox() }));
@@ -85,6 +85,43 @@ def objects_keep_their_places(page):
             equal(len({tuple(at) for at in now.values()}), len(now), f'{title}: two objects on one place')
             before = now
         equal(page.run(CROSSINGS), [], title)
+
+
+def tree_program(keys):
+    """A program that puts keys into a search tree, and the pairs of a node and its children, left and right."""
+    children, calls, before = {keys[0]: [None, None]}, [], 0
+    for key in keys:
+        at, depth = keys[0], 0
+        while key != at:
+            side, depth = int(key > at), depth + 1
+            if children[at][side] is None:
+                children[at][side] = key
+                children[key] = [None, None]
+            at = children[at][side]
+        calls += [f'    key += {key - before}' if key > before else f'    key -= {before - key}', '    call put(key, depth)', f'    depth -= {depth}']
+        before = key
+    text = read('examples/tree.rpp')
+    head, tail = text[:text.index('    key += 50')], text[text.index('method put'):]
+    return head + '\n'.join([*calls, f'    key -= {before}', '  delocal int depth = 0', '  delocal int key = 0', '', tail]), children
+
+
+def a_tree_looks_like_one(page):
+    """A tree of 15 nodes is drawn level by level, the parent over or before its children, which are in the order of its fields."""
+    for keys in ((8, 4, 12, 2, 6, 10, 14, 1, 3, 5, 7, 9, 11, 13, 15), (8, 12, 4, 14, 10, 6, 2, 15, 13, 11, 9, 7, 5, 3, 1)):
+        text, children = tree_program(keys)
+        page.write(text)
+        page.go('end')
+        drawn = {dict(zip(it['fields'], it['values']))['key']: it['at'] for it in page.boxes() if it['title'].endswith(' Node')}
+        equal(sorted(map(int, drawn)), list(range(1, 16)), page.text('#problems'))
+        level, across = (1, 0) if drawn['8'][1] < drawn['4'][1] else (0, 1)
+        for key, (left, right) in children.items():
+            at = drawn[str(key)]
+            for child in filter(None, (left, right)):
+                holds(drawn[str(child)][level] > at[level] + 20, f'{child} is not after {key}, of which it is a child: {drawn}')
+            if left and right:
+                one, other = drawn[str(left)], drawn[str(right)]
+                holds(abs(one[level] - other[level]) <= 1 and one[across] < other[across], f'{left} and {right}, the children of {key}: {drawn}')
+        holds(len({tuple(at) for at in drawn.values()}) == 15, f'two nodes have one place: {drawn}')
 
 
 def a_change_is_marked(page):
@@ -206,5 +243,5 @@ def the_inverse_is_paired(page):
     page.view('store')
 
 
-TESTS = (objects_keep_their_places, a_change_is_marked, one_object_has_one_name, long_runs_open, runs_have_no_end, long_chains_fold, the_listing_is_coloured,
-         large_programs_step, the_inverse_is_paired)
+TESTS = (objects_keep_their_places, a_tree_looks_like_one, a_change_is_marked, one_object_has_one_name, long_runs_open, runs_have_no_end,
+         long_chains_fold, the_listing_is_coloured, large_programs_step, the_inverse_is_paired)
