@@ -17,3 +17,28 @@ function made(name, properties, ...inner) {
 
 // A sentence with the parts in backquotes as code.
 const withCode = sentence => sentence.split('`').map((part, index) => (index % 2 ? made('code', { textContent: part }) : part));
+
+// Makes these the children of an element, in this order. Those that it has already are not touched.
+function arrange(parent, children) {
+  const wanted = new Set(children);
+  for (const it of [...parent.childNodes]) if (!wanted.has(it)) it.remove();
+  let next = parent.firstChild;
+  for (const it of children) {
+    if (it === next) next = next.nextSibling;
+    else parent.insertBefore(it, next);
+  }
+}
+
+// What one drawing after the other has in common: an element is made once for its key, and stays as long as each
+// drawing asks for it.
+class Elements {
+  constructor() { this.now = new Map(); }
+
+  begin() { [this.before, this.now] = [this.now, new Map()]; }
+
+  get(key, make) {
+    const it = this.before.get(key) ?? make();
+    this.now.set(key, it);
+    return it;
+  }
+}

@@ -4,7 +4,7 @@
 
 const HUES = 6, FIRST_STATIC = 40, MOST_CELLS = 4096, STACK_CELLS = 256, CELLS_AT_ONCE = 1000, MORE_ROWS = 20;
 // The machine's steps are looked up for so many positions in one call, and a statement's cells without a bound.
-const ALIGNED_AT_ONCE = 2000, FAR = 1000000000, MOST_STATES = 60;
+const ALIGNED_AT_ONCE = 2000, FAR = 1000000000, MOST_STATES = 120, AHEAD = 16, MOST_ALIGNED_AHEAD = 200;
 // The height of a row, as the style has it.
 const listingRow = () => parseFloat(getComputedStyle(document.documentElement).getPropertyValue('--listing-row'));
 // The points of a `construct`, and of a call on an element: the machine enters the statement at the first of them.
@@ -13,7 +13,7 @@ const POINTS = { construct: 3, element: 4 };
 class ListingView {
   // `call` makes a call of the program, `onStep` hears to which position of the run a step of the machine belongs.
   constructor(root, editor, call, onStep) {
-    Object.assign(this, { root, editor, call, onStep, at: 0, states: new Map(), steps: [] });
+    Object.assign(this, { root, editor, call, onStep, at: 0, states: new Map(), steps: [], rows: new Elements(), spans: new Elements() });
     root.innerHTML = `<div class="subbar"><span class="keys">
       <button type="button" class="quiet" data-step="-1" aria-label="One instruction back" title="↑ in the listing">◂</button>
       <button type="button" class="quiet" data-step="1" aria-label="One instruction on" title="↓ in the listing">▸</button></span>
@@ -39,7 +39,9 @@ class ListingView {
 
   // Shows the image of a run; `limits` are the words of its heap and calls.
   async load(run, image, listing, limits) {
-    Object.assign(this, { run, image, listing, limits, states: new Map(), steps: [], asked: 0, walked: 0, isAligned: true, seen: new Map() });
+    Object.assign(this, { run, image, listing, limits, states: new Map(), steps: [], asked: 0, walked: 0, isAligned: true });
+    Object.assign(this, { seen: new Map(), aligning: undefined, coming: undefined });
+    [this.rows, this.spans] = [new Elements(), new Elements()];
     this.owner = new Array(listing.cells.length);
     const marks = [...listing.marks].sort((one, other) => (other.behind - other.first) - (one.behind - one.first));
     for (const mark of marks) this.owner.fill(mark, mark.first, mark.behind);
@@ -51,7 +53,9 @@ class ListingView {
     this.total = statesOf(answer.text).at(-1)?.at ?? 0;
   }
 
-  debug(script) { return this.call(['debug', 'image', ...this.limits, 'script'], [['image', this.image], ['script', script]]); }
+  debug(script, isAhead) {
+    return this.call(['debug', 'image', ...this.limits, 'script'], [['image', this.image], ['script', script]], isAhead);
+  }
 
   // ---- the steps of the machine at the positions of the run
 
@@ -66,22 +70,29 @@ class ListingView {
   }
 
   // Looks the steps up, a piece of the run at a time, up to a position.
-  async align(index) {
+  async align(index, isAhead) {
     while (this.asked <= Math.min(index, this.run.last)) {
-      const script = [`step ${this.walked}\n`], wanted = [], behind = Math.min(this.asked + ALIGNED_AT_ONCE, this.run.last + 1);
-      for (let at = this.asked; at < behind; at++) {
-        const mark = this.byPlace.get(this.run.places[at]);
-        if (!mark || this.run.isTest(at) || !this.isEntry(at)) continue;
-        script.push(`to ${this.run.undone[at] ? mark.behind - 1 : mark.first} ${FAR}\n`);
-        wanted.push(at);
-      }
-      const states = statesOf((await this.debug(script.join(''))).text).slice(1);
-      wanted.forEach((position, at) => { if (states[at] && !states[at].said) this.steps[position] = states[at].at; });
-      this.isAligned &&= wanted.every((_, at) => states[at] && !states[at].said);
-      this.walked = this.steps.at(-1) ?? this.walked;
-      for (let at = this.asked; at < behind; at++) this.steps[at] ??= at === this.run.last ? this.total : undefined;
-      this.asked = behind;
+      const piece = this.aligning ?? this.alignPiece(isAhead);
+      this.aligning = piece;
+      await piece.finally(() => { if (this.aligning === piece) this.aligning = undefined; });
     }
+  }
+
+  async alignPiece(isAhead) {
+    const { run } = this, script = [`step ${this.walked}\n`], wanted = [], behind = Math.min(this.asked + ALIGNED_AT_ONCE, run.last + 1);
+    for (let at = this.asked; at < behind; at++) {
+      const mark = this.byPlace.get(run.places[at]);
+      if (!mark || run.isTest(at) || !this.isEntry(at)) continue;
+      script.push(`to ${run.undone[at] ? mark.behind - 1 : mark.first} ${FAR}\n`);
+      wanted.push(at);
+    }
+    const states = statesOf((await this.debug(script.join(''), isAhead)).text).slice(1);
+    if (run !== this.run) return;
+    wanted.forEach((position, at) => { if (states[at] && !states[at].said) this.steps[position] = states[at].at; });
+    this.isAligned &&= wanted.every((_, at) => states[at] && !states[at].said);
+    this.walked = this.steps.at(-1) ?? this.walked;
+    for (let at = this.asked; at < behind; at++) this.steps[at] ??= at === run.last ? this.total : undefined;
+    this.asked = behind;
   }
 
   // The step at a position: its own, or that of the next position that has one.
@@ -113,38 +124,58 @@ class ListingView {
     return script;
   }
 
-  // The states before a step and after it. At the end the debugger says why it stopped, if asked for one step more.
+  // The states before a step and after it.
   async statesAt(at) {
-    const before = Math.max(0, at - 1);
-    if (!this.states.has(at) || !this.states.has(before)) {
-      if (this.states.size > MOST_STATES) this.states.clear();
-      const look = this.look(), answer = await this.debug(`step ${before}\n${look}step ${at - before}\n${look}step 1\n`);
-      for (const state of statesOf(answer.text)) {
-        const was = this.states.get(state.at);
-        if (state.cells.size && !was) this.states.set(state.at, state);
-        else if (was && state.said) was.said = state.said;
-      }
-    }
+    const before = Math.max(0, at - 1), has = () => this.states.has(at) && this.states.has(before);
+    if (!has()) await this.coming;
+    if (!has()) await this.askStates([before, at]);
     return [this.states.get(before), this.states.get(at) ?? this.states.get(this.total)];
   }
 
-  // Shows the machine where it enters the statement of a position.
-  async go(index) {
+  // Asks for the states after steps. At the end the debugger says why it stopped, if asked for one step more.
+  async askStates(steps, isAhead) {
+    const { run } = this, wanted = [...new Set(steps)].filter(it => !this.states.has(it)).sort((one, other) => one - other);
+    if (!wanted.length) return;
+    const look = this.look(), moves = wanted.map((step, at) => `step ${step - (wanted[at - 1] ?? 0)}\n${look}`);
+    const states = statesOf((await this.debug(`${moves.join('')}step 1\n`, isAhead)).text), next = states.pop();
+    if (run !== this.run) return;
+    for (const state of states) this.states.set(state.at, state);
+    for (const at of [...this.states.keys()].slice(0, -MOST_STATES)) this.states.delete(at);
+    if (next?.at === states.at(-1)?.at) this.states.get(next.at).said = next.said;
+  }
+
+  // Asks for states before the run comes there: those of the next positions that way, or of the next steps.
+  ahead(steps) {
+    const wanted = [...new Set(steps.filter(it => it >= 0 && it <= this.total).flatMap(it => [Math.max(0, it - 1), it]))];
+    if (this.coming || wanted.slice(0, AHEAD).every(it => this.states.has(it))) return;
+    // What fails here is asked for again when the run is there.
+    this.coming = this.askStates(wanted, true).catch(() => undefined).finally(() => { this.coming = undefined; });
+  }
+
+  // Shows the machine where it enters the statement of a position; `way` is where the run goes on to.
+  async go(index, way) {
     if (!this.bases) return;
+    const { run } = this;
     await this.align(index);
-    await this.show(this.stepAt(index));
+    if (run === this.run) await this.show(this.stepAt(index));
+    if (run !== this.run) return;
+    if (index + MOST_ALIGNED_AHEAD > this.asked) this.align(index + MOST_ALIGNED_AHEAD, true).catch(() => undefined);
+    this.ahead(Array.from({ length: AHEAD }, (_, at) => index + (at + 1) * way).filter(at => at >= 0 && at < this.asked).map(at => this.stepAt(at)));
   }
 
   async step(way) {
     if (!this.bases) return;
     await this.show(Math.max(0, Math.min(this.total, this.at + way)));
     while (this.asked <= this.run.last && this.steps.at(-1) <= this.at) await this.align(this.asked);
+    this.ahead(Array.from({ length: AHEAD }, (_, at) => this.at + (at + 1) * way));
     this.onStep(this.positionAt(this.at));
   }
 
   async show(at) {
+    const { run } = this;
+    this.wanted = at;
     const [before, state] = await this.statesAt(at);
-    if (!state) return;
+    if (!state || run !== this.run || at !== this.wanted) return;
     Object.assign(this, { at: state.at, now: state });
     this.reveal(state.place);
     this.draw();
@@ -159,8 +190,9 @@ class ListingView {
   // ---- what is drawn
 
   reveal(place) {
-    const row = listingRow(), top = place * row, { scrollTop, clientHeight } = this.pane;
+    const row = listingRow(), top = place * row;
     this.list.style.height = `${this.listing.cells.length * row}px`;
+    const { scrollTop, clientHeight } = this.pane;
     if (top < scrollTop + row || top > scrollTop + clientHeight - 3 * row) this.pane.scrollTop = Math.max(0, top - clientHeight / 3);
   }
 
@@ -170,7 +202,8 @@ class ListingView {
     const row = listingRow(), first = Math.max(0, Math.floor(this.pane.scrollTop / row) - MORE_ROWS);
     const behind = Math.min(this.listing.cells.length, Math.ceil((this.pane.scrollTop + this.pane.clientHeight) / row) + MORE_ROWS);
     const mark = this.now && this.owner[this.now.place];
-    this.list.replaceChildren(...Array.from({ length: behind - first }, (_, at) => this.row(first + at, mark)));
+    this.rows.begin();
+    arrange(this.list, Array.from({ length: behind - first }, (_, at) => this.row(first + at, mark)));
     this.list.style.paddingTop = `${first * row}px`;
   }
 
@@ -178,9 +211,10 @@ class ListingView {
     const [name, ...words] = this.listing.cells[place].split(' '), owner = this.owner[place];
     const isHere = place === this.now?.place, isOf = mark && place >= mark.first && place < mark.behind;
     const kinds = [owner && `hue-${this.hue.get(this.run.source.lineAt(owner.place))}`, isOf && 'of-statement', isHere && 'here',
-      isHere && this.now.direction < 0 && 'undone'];
-    const number = made('span', { className: 'number', textContent: place });
-    return made('li', { className: kinds.filter(Boolean).join(' '), cell: place }, number, made('b', { textContent: name }), ` ${words.join(' ')}`);
+      isHere && this.now.direction < 0 && 'undone'].filter(Boolean).join(' ');
+    const number = () => made('span', { className: 'number', textContent: place });
+    return this.rows.get(`${place} ${kinds}`, () =>
+      made('li', { className: kinds, cell: place }, number(), made('b', { textContent: name }), ` ${words.join(' ')}`));
   }
 
   showRegisters(before, state) {
@@ -190,30 +224,33 @@ class ListingView {
     if (!state.registers.size) list.append(made('dt', { textContent: 'all zero' }));
   }
 
-  // Shows the cells by their areas; runs of zeros are one line.
+  // Shows the cells by their areas; runs of zeros are one line. What stays as it is stays in its place.
   showCells(before, state) {
-    const names = new Map(this.listing.cellNames), begins = new Map(this.areas().map(([name, first]) => [first, name])), shown = [];
+    const names = new Map(this.listing.cellNames), begins = new Map(this.areas().map(([name, first]) => [first, name])), shown = [], { spans } = this;
     let zeros = [];
     const close = () => {
-      if (zeros.length > 7) shown.push(made('span', { className: 'run', textContent: `${zeros.length.toLocaleString('en')} cells of 0` }));
-      else shown.push(...zeros.map(number => cellOf(number, '0', false)));
+      const [first] = zeros, count = zeros.length;
+      const run = () => made('span', { className: 'run', textContent: `${count.toLocaleString('en')} cells of 0` });
+      if (count > 7) shown.push(spans.get(`${first} run ${count}`, run));
+      else shown.push(...zeros.map(number => spans.get(`${number} 0`, () => cellOf(number, '0', false))));
       zeros = [];
     };
+    spans.begin();
     for (const [number, value] of state.cells) {
       const isChanged = before.cells.get(number) !== value;
       if (begins.has(number)) {
         close();
-        shown.push(made('h3', { textContent: begins.get(number) }));
+        shown.push(spans.get(begins.get(number), () => made('h3', { textContent: begins.get(number) })));
       }
       if (value === '0' && !isChanged && !names.has(number)) {
         zeros.push(number);
         continue;
       }
       close();
-      shown.push(cellOf(number, value, isChanged, names.get(number)));
+      shown.push(spans.get(`${number} ${value} ${isChanged}`, () => cellOf(number, value, isChanged, names.get(number))));
     }
     close();
-    this.root.querySelector('.cells').replaceChildren(...shown);
+    arrange(this.root.querySelector('.cells'), shown);
   }
 
   // The colours of the source's lines in the editor, while this view is open.

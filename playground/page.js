@@ -9,7 +9,7 @@ const LARGEST = { usual: 1.4, large: 1.9 }, SMALLEST = { usual: 0.7, embedded: 0
 
 class Workbench {
   constructor(carried, caller, lessons) {
-    Object.assign(this, { carried, caller, lessons, at: 0, asked: 0, moved: 0, addressed: 0, running: 0 });
+    Object.assign(this, { carried, caller, lessons, at: 0, way: 1, asked: 0, moved: 0, addressed: 0, running: 0, waited: 0 });
     Object.assign(this, { view: 'store', zoom: 1, isEmbedded: false, exercise: undefined });
     const play = () => this.transport.play(1), keys = { 'Ctrl-Enter': play, 'Cmd-Enter': play, Esc: () => $('transport').focus() };
     this.editor = new Editor($('text'), carried.grammar, keys, isTyped => this.edited(isTyped));
@@ -18,7 +18,7 @@ class Workbench {
     this.transport = new Transport(this);
     const take = text => this.replace({ ...this.setting(), text }, 'The inverse program is in the editor.');
     this.inverse = new InverseView($('inverse'), this.editor, take);
-    const call = (words, files) => this.call(words, files);
+    const call = (...words) => this.call(...words);
     this.listing = new ListingView($('machine'), this.editor, call, index => this.go(index, { keepsMachine: true }));
     this.output = new OutputView($('output'), ([, , words]) => this.question(words));
     this.sharing = new Sharing(this);
@@ -140,16 +140,25 @@ class Workbench {
 
   // ---- calls
 
-  // Makes a call of the program. Where calls take long together, the key Stop is shown until they are done.
-  async call(words, files) {
+  // Makes a call of the program; `isAhead` says that nothing waits for it.
+  async call(words, files, isAhead) {
     if (this.isStopped) throw new Stopped('stopped');
-    clearTimeout(this.idle);
-    this.slow ??= setTimeout(() => { $('stop').hidden = false; }, SLOW_MILLISECONDS);
+    return this.during(() => this.caller.call(words, files), isAhead);
+  }
+
+  // Does work. Where what is waited for takes long together, the key Stop is shown until it is done.
+  async during(work, isAhead) {
     this.running++;
+    if (!isAhead) {
+      this.waited++;
+      clearTimeout(this.idle);
+      this.slow ??= setTimeout(() => { $('stop').hidden = false; }, SLOW_MILLISECONDS);
+    }
     try {
-      return await this.caller.call(words, files);
+      return await work();
     } finally {
-      if (--this.running === 0) this.idle = setTimeout(() => this.rest(), IDLE_MILLISECONDS);
+      this.running--;
+      if (!isAhead && --this.waited === 0) this.idle = setTimeout(() => this.rest(), IDLE_MILLISECONDS);
     }
   }
 
@@ -199,9 +208,9 @@ class Workbench {
 
   question(words) { return this.call(words({ input: this.input, names: this.inputs.names }, this.limits), this.files()); }
 
-  trace(script, text) {
-    const [heap, depth] = this.limits;
-    return this.call(['trace', SOURCE, heap, depth, SCRIPT, ...this.input], [...this.files(this.inputs.numbers(), text), [SCRIPT, script]]);
+  trace(script, text, isAhead) {
+    const [heap, depth] = this.limits, files = [...this.files(this.inputs.numbers(), text), [SCRIPT, script]];
+    return this.call(['trace', SOURCE, heap, depth, SCRIPT, ...this.input], files, isAhead);
   }
 
   // ---- judging and running
@@ -323,9 +332,15 @@ class Workbench {
     const { run } = this;
     if (!run) return;
     const index = Math.max(0, Math.min(run.last, wanted)), moved = ++this.moved;
+    if (index !== this.at) this.way = Math.sign(index - this.at);
     this.at = this.transport.at = index;
-    if (!run.has(index)) await run.load(index);
+    const isLoaded = run.has(index) || await this.load(run, index);
     if (moved !== this.moved || run !== this.run) return;
+    if (!isLoaded) {
+      await this.go(this.shown ?? 0);
+      return;
+    }
+    this.shown = index;
     const isFault = this.isFault(index);
     document.body.toggleAttribute('data-fault', isFault);
     this.editor.code.operation(() => {
@@ -336,10 +351,23 @@ class Workbench {
     this.drawStore();
     if (this.view === 'output') this.output.show(index);
     if (this.view === 'inverse' && this.hasInverse) this.inverse.go(run.places[index], run.undone[index]);
-    if (this.view === 'machine' && this.hasListing && !keepsMachine) await this.listing.go(index);
+    if (this.view === 'machine' && this.hasListing && !keepsMachine) await this.listing.go(index, this.way);
     if (!isQuiet && !isPlaying) this.speakSoon();
     this.keepPlace();
     this.walkOn();
+    run.ahead(index, this.way, script => this.trace(script, run.text, true));
+  }
+
+  // Loads the positions round one, and says whether it was not stopped.
+  async load(run, index) {
+    try {
+      await this.during(() => run.load(index));
+      return true;
+    } catch (error) {
+      if (!(error instanceof Stopped)) throw error;
+      this.isStopped = false;
+      return false;
+    }
   }
 
   speakSoon() {
@@ -426,7 +454,7 @@ class Workbench {
       if (!this.hasListing) await this.loadListing();
       if (run !== this.run || this.view !== 'machine') return;
       this.listing.colour(true);
-      await this.listing.go(this.at);
+      await this.listing.go(this.at, this.way);
     }
   }
 
@@ -484,11 +512,8 @@ class Workbench {
     const largest = document.documentElement.dataset.size === 'large' ? LARGEST.large : LARGEST.usual;
     const fit = Math.min((canvas.clientWidth - 12) / width, (canvas.clientHeight - 12) / height, largest);
     const scale = Math.max(fit, this.isEmbedded ? SMALLEST.embedded : SMALLEST.usual) * this.zoom;
-    drawn.setAttribute('width', width * scale);
-    drawn.setAttribute('height', height * scale);
-    const { scrollLeft, scrollTop } = canvas;
-    canvas.replaceChildren(drawn);
-    canvas.scrollTo(scrollLeft, scrollTop);
+    setAttributes(drawn, { width: width * scale, height: height * scale });
+    arrange(canvas, [drawn]);
     for (const box of seen) keepInSight(canvas, box, scale);
     if ($('store').querySelector('details').open) this.words.textContent = this.picture.words(this.at);
   }

@@ -4,24 +4,59 @@
 
 // A script has at most 65,536 bytes. A run is asked for in pieces of so many positions, at first up to so many in all.
 const SCRIPT_BYTES = 65000, PIECE = 9200, MOST_POSITIONS = 92000;
-// So many lines of variables and cells are asked for at once, for at least so many positions, names by the thousand.
-const LINES_AT_ONCE = 60000, LEAST_WINDOW = 24, NAMES_AT_ONCE = 1000, SAMPLES = 300, MOST_KEPT = 12000;
+// So many characters of variables and cells are asked for at once, for at least so many positions, names by the
+// thousand.
+const CHARACTERS_AT_ONCE = 1200000, LEAST_WINDOW = 24, NAMES_AT_ONCE = 1000, SAMPLES = 300, MOST_KEPT = 40000000;
+const USUAL_SIZE = 1000;
 const AT = /^at (\d+) (?:place (\d+) depth (\d+)|end)(?: (.*))?$/;
 
-// What a script printed: one item for each position, with its variables and objects.
-function looksOf(printed) {
-  const looks = [];
-  let object;
-  for (const line of printed.split('\n')) {
-    const head = /^(#\d+) (\S+) count (\d+)$/.exec(line), cell = /^( *)(\S+) = (\S+)$/.exec(line), at = AT.exec(line);
-    if (at) {
-      looks.push({ at: Number(at[1]), place: at[2] === undefined ? -1 : Number(at[2]), note: at[4] ?? '', variables: [], objects: new Map() });
-    } else if (head) {
-      object = { name: head[1], head: head[2], count: Number(head[3]), cells: [] };
-      looks.at(-1).objects.set(object.name, object);
-    } else if (cell) {
-      (cell[1] ? object.cells : looks.at(-1).variables).push([cell[2], cell[3]]);
+// A position as a script printed it. Its variables and objects are read when they are asked for. Objects that are
+// printed alike are one and the same: `known` has them by what is printed.
+class Look {
+  constructor(at, place, note, printed, known) { Object.assign(this, { at, place, note, printed, known }); }
+
+  get variables() { return this.parts.variables; }
+
+  get objects() { return this.parts.objects; }
+
+  get parts() {
+    if (this.printed !== undefined) this.read = this.partsOf(this.printed);
+    this.printed = undefined;
+    return this.read;
+  }
+
+  partsOf(text) {
+    const objects = new Map(), first = text.startsWith('#') ? 0 : text.indexOf('\n#') + 1 || text.length;
+    for (let at = first, next; at < text.length; at = next) {
+      next = text.indexOf('\n#', at) + 1 || text.length;
+      const object = this.object(text.slice(at, next));
+      objects.set(object.name, object);
     }
+    return { variables: valuesOf(text.slice(0, first)), objects };
+  }
+
+  object(printed) {
+    if (!this.known.has(printed)) {
+      // A copy, so that the text of the whole answer is not kept.
+      const own = `\n${printed}`.slice(1), [name, head, , count] = own.slice(0, own.indexOf('\n')).split(' ');
+      this.known.set(own, { name, head, count: Number(count), cells: valuesOf(own.slice(own.indexOf('\n') + 1)) });
+    }
+    return this.known.get(printed);
+  }
+}
+
+// The names and values of lines.
+function valuesOf(text) {
+  return text.split('\n').filter(line => line !== '').map(line => line.trimStart().split(' = '));
+}
+
+// What a script printed: one item for each position. A variable may be called `at` too.
+function looksOf(printed, known = new Map()) {
+  const looks = [], isMove = at => printed.startsWith('at ', at) && /\d/.test(printed[at + 3]);
+  for (let at = 0, next; at < printed.length; at = next) {
+    const end = printed.indexOf('\n', at) + 1 || printed.length, found = AT.exec(printed.slice(at, end).trimEnd());
+    for (next = end; next < printed.length && !isMove(next);) next = printed.indexOf('\nat ', next) + 1 || printed.length;
+    if (found) looks.push(new Look(Number(found[1]), Number(found[2] ?? -1), found[4] ?? '', printed.slice(end, next), known));
   }
   return looks;
 }
@@ -29,7 +64,8 @@ function looksOf(printed) {
 class Run {
   // `trace` follows a script along the run of the text, and gives the answer.
   constructor(text, trace) {
-    Object.assign(this, { text, trace, source: new Source(text), looks: new Map(), receivers: new Map() });
+    Object.assign(this, { text, trace, source: new Source(text), looks: new Map(), known: new Map(), receivers: new Map(), bases: new Map() });
+    Object.assign(this, { kept: 0, size: USUAL_SIZE, coming: undefined });
     Object.assign(this, { places: [], depths: [], callers: [], undone: [], note: '', isWhole: false, names: 1, stop: undefined });
   }
 
@@ -75,7 +111,7 @@ class Run {
   // Adds the position at which a test fails, with the place of the test and the values that it saw.
   addTest(place, look) {
     this.add(place, this.depths[this.last]);
-    this.stop = { ...look, at: this.last };
+    this.stop = Object.assign(look, { at: this.last });
     this.looks.set(this.last, this.stop);
   }
 
@@ -96,27 +132,27 @@ class Run {
   }
 
   // Asks for the positions that are not known, in as many calls as the length of scripts needs.
-  async ask(indices) {
+  async ask(indices, trace = this.trace) {
     const wanted = [...new Set(indices)].filter(it => it >= 0 && it <= this.last && !this.looks.has(it)).sort((one, other) => one - other);
     for (let first = 0; first < wanted.length;) {
       let behind = first, length = 0;
       const parts = this.script(wanted.slice(first));
       while (behind < wanted.length && length + parts[behind - first].length + 12 < SCRIPT_BYTES) length += parts[behind++ - first].length;
-      const answer = await this.trace(this.script(wanted.slice(first, behind)).join(''));
-      const looks = looksOf(answer.text);
+      const answer = await trace(this.script(wanted.slice(first, behind)).join(''));
+      const looks = looksOf(answer.text, this.known);
       looks.forEach(look => this.looks.set(look.at, look));
-      this.size = Math.max(this.size ?? 1, answer.text.split('\n').length / Math.max(1, looks.length));
+      this.size = Math.max(this.size, answer.text.length / Math.max(1, looks.length));
+      this.kept += answer.text.length;
       first = Math.max(behind, first + 1);
     }
   }
 
-  get window() {
-    return Math.max(LEAST_WINDOW, Math.floor(LINES_AT_ONCE / (this.size ?? 50)));
-  }
+  get window() { return Math.max(LEAST_WINDOW, Math.floor(CHARACTERS_AT_ONCE / this.size)); }
 
-  has(index) {
-    return [index - 1, index, index + 1, ...this.caller(index)].every(it => it < 0 || it > this.last || this.looks.has(it));
-  }
+  // The positions that are needed to show one.
+  needed(index) { return [index - 1, index, index + 1, ...this.caller(index)].filter(it => it >= 0 && it <= this.last); }
+
+  has(index) { return this.needed(index).every(it => this.looks.has(it)); }
 
   // The positions of the open calls, the innermost first.
   chain(index) {
@@ -127,18 +163,54 @@ class Run {
 
   // The positions that show on which object a method runs: those around the last call of another object's method.
   caller(index) {
-    let at = this.callers[index];
-    while (at >= 0 && this.source.statement(this.places[at])?.words[2] === '(') at = this.callers[at];
+    const at = this.base(this.callers[index]);
     return at < 0 ? [] : [at - 1, at, at + 1];
   }
 
-  // Loads the positions round one.
+  // The last call of another object's method, from a call outward.
+  base(call) {
+    const own = [];
+    let at = call;
+    while (at >= 0 && !this.bases.has(at) && this.source.statement(this.places[at])?.words[2] === '(') {
+      own.push(at);
+      at = this.callers[at];
+    }
+    const found = this.bases.get(at) ?? at;
+    for (const it of own) this.bases.set(it, found);
+    return found;
+  }
+
+  // Loads the positions round one, if what was asked for ahead does not have them.
   async load(index) {
+    await this.coming;
     if (this.has(index)) return;
-    if (this.looks.size > MOST_KEPT) this.looks = new Map(this.stop ? [[this.last, this.stop]] : []);
+    this.forget(index);
     const half = Math.floor(this.window / 2), first = Math.max(0, Math.min(index - half, this.last - 2 * half));
     const near = Array.from({ length: Math.min(2 * half + 1, this.last + 1 - first) }, (_, at) => first + at);
     await this.ask([...near, ...this.caller(first), ...this.caller(index)]);
+  }
+
+  // Asks for positions before the run comes there: where half a window that way is not all known, for half a window
+  // more.
+  ahead(index, way, trace) {
+    const half = Math.floor(this.window / 2), isNear = at => Math.abs(at - index) <= half && at >= 0 && at <= this.last;
+    if (this.coming) return;
+    let next = index + way;
+    while (isNear(next) && this.has(next)) next += way;
+    if (!isNear(next)) return;
+    this.forget(index);
+    const wanted = Array.from({ length: half }, (_, at) => next + at * way).filter(at => at >= 0 && at <= this.last);
+    // What fails here is asked for again when the run is there.
+    this.coming = this.ask(wanted.flatMap(at => this.needed(at)), trace).catch(() => undefined).finally(() => { this.coming = undefined; });
+  }
+
+  // Lets go what is far from a position, where too much is kept.
+  forget(index) {
+    if (this.kept < MOST_KEPT) return;
+    const isKept = at => Math.abs(at - index) <= this.window || at === this.last;
+    this.looks = new Map([...this.looks].filter(([at]) => isKept(at)));
+    this.known.clear();
+    this.kept = 0;
   }
 
   // Stores of the run by which its objects get their places: all of a short run, and some of a long one.
@@ -148,7 +220,7 @@ class Run {
     const indices = [];
     for (let at = 0; at <= this.last; at += stride) indices.push(Math.round(at));
     await this.ask([...indices, this.last]);
-    return [...new Set([...indices, this.last])].filter(it => this.looks.has(it)).map(it => ({ index: it, ...this.looks.get(it) }));
+    return [...new Set([...indices, this.last])].filter(it => this.looks.has(it)).map(it => ({ index: it, objects: this.looks.get(it).objects }));
   }
 
   objects(index) { return [...(this.looks.get(index)?.objects.values() ?? [])]; }
@@ -160,10 +232,10 @@ class Run {
   // ---- calls
 
   // The object on which the call at a position runs its method; nothing where that is not to be seen.
-  receiver(index) {
+  receiver(call) {
+    const index = this.base(call);
     if (index < 0) return '#1';
     const words = this.source.statement(this.places[index])?.words ?? [];
-    if (words[2] === '(') return this.receiver(this.callers[index]);
     if (!this.receivers.has(index)) {
       const found = words[2] === '::' ? this.value(index, words[1]) : this.lost(words[1], index - 1, index) ?? this.lost(words[1], index, index + 1);
       if (found === undefined) return undefined;

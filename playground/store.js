@@ -11,6 +11,11 @@ function svg(name, attributes, ...inner) {
   return made;
 }
 
+// Sets the attributes whose value is another one.
+function setAttributes(element, attributes) {
+  for (const [key, value] of Object.entries(attributes)) if (element.getAttribute(key) !== String(value)) element.setAttribute(key, value);
+}
+
 const svgText = (x, y, kind, text) => svg('text', { x, y, class: kind }, text);
 
 class StorePicture {
@@ -22,7 +27,7 @@ class StorePicture {
     return new StorePicture(run, new Places(stores, sizeOf, pane, wide));
   }
 
-  constructor(run, places) { Object.assign(this, { run, places, drawnCells: new Map() }); }
+  constructor(run, places) { Object.assign(this, { run, places, drawing: new Drawing() }); }
 
   // The boxes of a position, at their places.
   boxes(index) {
@@ -62,39 +67,24 @@ class StorePicture {
     return [frame, Object.assign(lens, { x: frame.x + EDGE, y: frame.y + HEAD + 4 + fold.grid + FOLD_LENS, isLens: true })];
   }
 
-  // The element of a cell: the one that was drawn before, where it has not changed. Figures have their own.
-  cell(cell, isFigure) {
-    const key = JSON.stringify(cell), was = this.drawnCells.get(cell.name);
-    if (isFigure) return foldCell(cell);
-    if (was?.key !== key) this.drawnCells.set(cell.name, { key, element: foldCell(cell) });
-    return this.drawnCells.get(cell.name).element;
-  }
-
-  // Draws a position. `seen` are the boxes that are to be kept in sight.
+  // Draws a position, and leaves the elements that it has in common with the last one; a figure has its own. `seen` are
+  // the boxes that are to be kept in sight.
   draw(index, isFigure = false) {
-    const { calls, objects, down } = this.boxes(index), byName = new Map(), ids = `p${++pictures}-`;
+    const { calls, objects, down } = this.boxes(index), byName = new Map(), drawing = isFigure ? new Drawing() : this.drawing;
     for (const box of objects) for (const cell of box.cells ?? []) byName.set(cell.name, { box, spot: cell });
     for (const box of objects) if (!box.cells && !box.isLens) byName.set(box.name, { box });
-    const arrows = this.arrows([...calls, ...objects], byName, ids), { places } = this;
+    drawing.begin();
+    const arrows = this.arrows([...calls, ...objects], byName, drawing), { places } = this;
     const width = Math.ceil(TOP + PICTURE_RIGHT + places.width), height = Math.ceil(Math.max(places.tall + 2 * TOP, down + TOP));
-    const count = this.run.objects(index).length;
-    const drawn = svg('svg', { viewBox: `0 0 ${width} ${height}`, class: 'picture', role: 'img', xmlns: 'http://www.w3.org/2000/svg',
-      'aria-label': `The store: ${count} ${count === 1 ? 'object' : 'objects'}. The same follows as text.` },
-    svg('defs', {}, ...['tip', 'tip changed', 'tip from-call'].map(kind => arrowHead(ids, kind))),
-    ...objects.filter(it => it.cells).map(box => this.foldParts(box, isFigure)), ...arrows.lines, ...calls.map(boxParts),
-    ...objects.filter(it => !it.cells).map(boxParts), ...arrows.roots);
+    const count = this.run.objects(index).length, label = `The store: ${count} ${count === 1 ? 'object' : 'objects'}. The same follows as text.`;
+    drawing.show({ viewBox: `0 0 ${width} ${height}`, 'aria-label': label }, [...objects.filter(it => it.cells).map(it => drawing.fold(it)),
+      ...arrows.lines, ...calls.map(it => drawing.box(it)), ...objects.filter(it => !it.cells).map(it => drawing.box(it)), ...arrows.roots]);
     const focus = calls.find(box => box.kind === 'inner');
     const held = objects.find(box => box.isOwn && !box.isMain) ?? objects.find(box => box.rows.some(row => row.changed));
-    return { drawn, width, height, seen: [focus, held].filter(Boolean) };
+    return { drawn: drawing.svg, width, height, seen: [focus, held].filter(Boolean) };
   }
 
-  foldParts(box, isFigure) {
-    const group = boxParts(box);
-    group.append(...box.cells.map(it => this.cell(it, isFigure)));
-    return group;
-  }
-
-  arrows(boxes, byName, ids) {
+  arrows(boxes, byName, drawing) {
     const lines = [], roots = [], ways = new Ways(boxes.filter(it => !it.isLens), this.places);
     for (const from of boxes) {
       if (from.isGrid) continue;
@@ -102,11 +92,9 @@ class StorePicture {
         const to = isReference(row.value) && byName.get(row.value);
         if (!to || (from.isLens && to.spot)) return;
         const y = from.y + HEAD + (at + 0.5) * ROW, kind = row.changed ? 'changed' : from.kind ? 'from-call' : '';
-        const { d, start } = ways.way(from, y, to.box, to.spot);
-        const head = `url(#${ids}${kind ? `tip-${kind}` : 'tip'})`;
-        const ends = { 'marker-end': head, 'data-from': from.name, 'data-to': to.box.name };
-        lines.push(svg('path', { d, class: 'halo' }), svg('path', { d, class: `arrow ${kind}`, ...ends }));
-        roots.push(svg('circle', { class: `root ${kind}`, cx: start[0], cy: y, r: 3 }));
+        const { d, start } = ways.way(from, y, to.box, to.spot), ends = { 'data-from': from.name, 'data-to': to.box.name };
+        lines.push(...drawing.arrow(`${from.name} ${at}`, d, kind, ends));
+        roots.push(drawing.root(`${from.name} ${at}`, kind, start[0], y));
       });
     }
     return { lines, roots };
@@ -124,6 +112,41 @@ class StorePicture {
   }
 }
 
+// The elements of one picture after the other.
+class Drawing {
+  constructor() {
+    Object.assign(this, { elements: new Elements(), ids: `p${++pictures}-` });
+    this.svg = svg('svg', { class: 'picture', role: 'img', xmlns: 'http://www.w3.org/2000/svg' });
+    this.tips = svg('defs', {}, ...['tip', 'tip changed', 'tip from-call'].map(kind => arrowHead(this.ids, kind)));
+  }
+
+  begin() { this.elements.begin(); }
+
+  show(attributes, parts) {
+    setAttributes(this.svg, attributes);
+    arrange(this.svg, [this.tips, ...parts]);
+  }
+
+  box(box) { return this.elements.get(JSON.stringify(box), () => boxParts(box)); }
+
+  fold({ cells, ...box }) {
+    const { elements } = this, head = elements.get(JSON.stringify(box), () => [...boxParts(box).childNodes]);
+    const group = elements.get(box.name, () => svg('g', { class: 'box fold', 'data-name': box.name }));
+    const cell = it => elements.get(`cell ${it.name} ${it.x} ${it.y} ${it.value} ${it.isOwn} ${it.changed}`, () => foldCell(it));
+    arrange(group, [...head, ...cells.map(cell)]);
+    return group;
+  }
+
+  arrow(name, d, kind, ends) {
+    const head = `url(#${this.ids}${kind ? `tip-${kind}` : 'tip'})`, arrow = { d, class: `arrow ${kind}`, 'marker-end': head, ...ends };
+    return this.elements.get(`arrow ${name} ${ends['data-to']} ${kind} ${d}`, () => [svg('path', { d, class: 'halo' }), svg('path', arrow)]);
+  }
+
+  root(name, kind, cx, cy) {
+    return this.elements.get(`root ${name} ${kind} ${cx} ${cy}`, () => svg('circle', { class: `root ${kind}`, cx, cy, r: 3 }));
+  }
+}
+
 // ---- boxes
 
 function objectBox(run, index, object, own) {
@@ -138,6 +161,7 @@ function objectBox(run, index, object, own) {
 // Whether the last move has made an object, or changed a field of it.
 function isChanged(run, index, object) {
   const before = index > 0 ? run.object(index - 1, object.name) : object;
+  if (before === object) return false;
   if (!before) return run.looks.has(index - 1);
   return before.cells.length !== object.cells.length || before.cells.some(([, value], at) => value !== object.cells[at][1]);
 }

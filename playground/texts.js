@@ -32,18 +32,38 @@ function listingOf(text) {
   return { cells, marks, statics, cellNames, names: cellNames.map(([, name]) => name) };
 }
 
-// The states that a script of the machine's debugger shows, each with the registers and cells that follow it.
+// A state that a script of the machine's debugger shows. The registers and cells that follow it are read when they are
+// asked for.
+class State {
+  constructor(line, printed) {
+    const [at, place, branch, direction] = line.slice(1, 5).map(Number);
+    Object.assign(this, { at, place, branch, direction, said: line[5] ?? '', printed });
+  }
+
+  get registers() { return this.parts.registers; }
+
+  get cells() { return this.parts.cells; }
+
+  get parts() {
+    if (this.read) return this.read;
+    this.read = { registers: new Map(), cells: new Map() };
+    for (const line of this.printed.split('\n')) {
+      const [name, value] = line.split(' = ');
+      if (line.startsWith('cell ')) this.read.cells.set(Number(name.slice(5)), value);
+      else if (line.startsWith('$')) this.read.registers.set(name, value);
+    }
+    this.printed = '';
+    return this.read;
+  }
+}
+
+// The states that a script shows.
 function statesOf(text) {
   const states = [];
-  for (const line of text.split('\n')) {
-    const found = STATE.exec(line), value = /^(?:(\$\d+)|cell (\d+)) = (-?\d+)$/.exec(line);
-    if (found) {
-      const [at, place, branch, direction] = found.slice(1, 5).map(Number);
-      states.push({ at, place, branch, direction, said: found[5] ?? '', registers: new Map(), cells: new Map() });
-    } else if (value && states.length) {
-      if (value[1]) states.at(-1).registers.set(value[1], value[3]);
-      else states.at(-1).cells.set(Number(value[2]), value[3]);
-    }
+  for (let at = 0, next; at < text.length; at = next) {
+    const end = text.indexOf('\n', at) + 1 || text.length, found = STATE.exec(text.slice(at, end).trimEnd());
+    next = text.startsWith('at ', end) ? end : text.indexOf('\nat ', end) + 1 || text.length;
+    if (found) states.push(new State(found, text.slice(end, next)));
   }
   return states;
 }

@@ -2,7 +2,7 @@
 'use strict';
 
 const SHIFTED = { 'step-on': 'over-on', 'step-back': 'over-back' }, MOST_MARKS = 300, SPEAK_MILLISECONDS = 250;
-const TIMELINE_BARS = 1500;
+const TIMELINE_BARS = 600;
 
 class Transport {
   // `bench` shows positions; `breakLines` gives the lines with breakpoints.

@@ -1,18 +1,48 @@
 """Pictures of the store, the listing, and long runs."""
-from drawn import equal, holds, read
+import json
 
-CROSSINGS = '''
-const boxes = [...document.querySelectorAll('#store .box')].map(it => ({ name: it.dataset.name, box: it.querySelector('.frame').getBBox() }));
-const crossed = [];
-for (const arrow of document.querySelectorAll('#store .arrow')) {
-  for (let at = 4; at < arrow.getTotalLength() - 4; at += 3) {
-    const { x, y } = arrow.getPointAtLength(at);
-    const hit = boxes.find(({ name, box }) => ![arrow.dataset.from, arrow.dataset.to].includes(name)
-      && x > box.x + 1 && x < box.x + box.width - 1 && y > box.y + 1 && y < box.y + box.height - 1);
-    if (hit) { crossed.push(`${arrow.dataset.from} to ${arrow.dataset.to} through ${hit.name}`); break; }
+from drawn import IS_DRAWN, equal, holds, read
+
+# The most milliseconds of the processor for a move: of a run with 1,000 nodes, and of a program with 20,000 tokens.
+MOST_OF_NODES, MOST_OF_TOKENS, MEASURED, BEFORE = 60, 50, 20, 4
+# Examples that are stepped through. Then how many positions are looked at, of these and of the others, and at which of them arrows are.
+STEPPED, ALL_POSITIONS, SOME_POSITIONS = ('list', 'tree', 'doubly', 'queue', 'visitor'), (80, 9), (12, 1)
+
+# Goes through positions of the run, at most so many, and looks at arrows at each that this number divides. Gives the objects that move while they live, places that two objects have at
+# once, arrows that go through a box, and how many objects it saw.
+PLACES = IS_DRAWN + '''
+const line = document.querySelector('#timeline input'), last = Number(line.max), frame = () => new Promise(done => requestAnimationFrame(done));
+const moved = new Set(), shared = new Set(), crossed = new Set(), seen = new Set();
+const isElsewhere = (one, other) => one.some((it, axis) => Math.abs(it - other[axis]) > 1.5);
+let before = new Map();
+for (let next = 0; next <= last; next += Math.max(1, last / arguments[0])) {
+  const at = Math.round(next);
+  line.value = at;
+  line.dispatchEvent(new Event('input'));
+  do await frame(); while (!document.getElementById('where').textContent.replaceAll(',', '').startsWith(`${at} /`));
+  const picture = document.querySelector('#store .picture').getBoundingClientRect(), now = new Map();
+  const boxes = [...document.querySelectorAll('#store .box')].filter(isDrawn).map(it => ({ name: it.dataset.name, kind: it.getAttribute('class'),
+    box: it.querySelector('.frame').getBBox(), rect: it.querySelector('.frame').getBoundingClientRect() }));
+  for (const { name, kind, rect } of boxes) if (kind.includes(' object') && !document.querySelector(`#store .fold [data-name="${name}"]`)) {
+    now.set(name, [rect.left - picture.left, rect.top - picture.top]);
+    seen.add(name);
+  }
+  for (const [name, place] of now) {
+    if (before.has(name) && isElsewhere(place, before.get(name))) moved.add(`${name} at ${at}`);
+    for (const [other, where] of now) if (other !== name && !isElsewhere(place, where)) shared.add(`${name} and ${other} at ${at}`);
+  }
+  before = now;
+  if (at % arguments[1]) continue;
+  for (const arrow of document.querySelectorAll('#store .arrow')) {
+    for (let along = 4; along < arrow.getTotalLength() - 4; along += 5) {
+      const { x, y } = arrow.getPointAtLength(along);
+      const hit = boxes.find(({ name, box }) => ![arrow.dataset.from, arrow.dataset.to].includes(name)
+        && x > box.x + 1 && x < box.x + box.width - 1 && y > box.y + 1 && y < box.y + box.height - 1);
+      if (hit) { crossed.add(`${arrow.dataset.from} to ${arrow.dataset.to} through ${hit.name}`); break; }
+    }
   }
 }
-return crossed;
+return [[...moved], [...shared], [...crossed], seen.size];
 '''
 LONG = '''class Main
   int x
@@ -43,7 +73,7 @@ method main()
     n += 1
   loop
     skip
-  until n = 200
+  until n = {count}
 method put()
   local Node fresh = nil
     new Node fresh
@@ -59,32 +89,14 @@ method hang(Node list, int v)
 '''
 
 
-def step_through(page, most=70):
-    """Steps from the start, and gives the boxes of objects at each position."""
-    page.go('start')
-    seen = [[it for it in page.boxes() if ' object' in it['kind']]]
-    for _ in range(min(most, page.position()[1])):
-        page.run('document.querySelector("[data-go=step-on]").click(); await new Promise(done => setTimeout(done, 12))')
-        seen.append([it for it in page.boxes() if ' object' in it['kind']])
-    return seen
-
-
-def is_elsewhere(at, before):
-    """Whether a place is another one, and not the same one rounded to another pixel."""
-    return any(abs(one - other) > 1 for one, other in zip(at, before))
-
-
 def objects_keep_their_places(page):
-    """No object moves while it lives, no two objects have one place, and no arrow goes through a box."""
-    for title in ('Linked list', 'Search tree', 'Doubly linked list', 'Queue', 'Visitor'):
+    """In all examples, no object moves while it lives, no two objects have one place, and no arrow goes through a box."""
+    ladder = json.loads(read('playground/lessons.json'))['ladder']
+    for name, title, _ in (it for _, rung in ladder for it in rung):
         page.choose(title)
-        before = {}
-        for boxes in step_through(page):
-            now = {it['name']: it['at'] for it in boxes}
-            equal([name for name, at in now.items() if is_elsewhere(at, before.get(name, at))], [], f'{title}: objects move')
-            equal(len({tuple(at) for at in now.values()}), len(now), f'{title}: two objects on one place')
-            before = now
-        equal(page.run(CROSSINGS), [], title)
+        *wrong, count = page.run(PLACES, *(ALL_POSITIONS if name in STEPPED else SOME_POSITIONS))
+        equal(wrong, [[], [], []], f'{title}: objects that move, objects on one place, arrows through boxes')
+        holds(count, f'{title}: no object is drawn')
 
 
 def tree_program(keys):
@@ -174,19 +186,47 @@ def runs_have_no_end(page):
     equal(page.store()['#1 P'], {'x': '1250025000'})
 
 
+def cells_of_fold(page):
+    return page.run('return [...document.querySelectorAll("#store .fold g[data-name] text")].map(it => it.textContent)')
+
+
 def long_chains_fold(page):
-    """A list of 200 nodes is one folded box, which has a cell for each node; a move takes little time."""
-    page.write(CHAIN)
+    """A list of 200 nodes is one folded box, which has a cell for each node, in the order of the list."""
+    page.write(CHAIN.replace('{count}', '200'))
     page.go('end')
     fold = [it for it in page.boxes() if ' fold' in it['kind']]
     equal([it['title'] for it in fold], ['200 × Node'])
-    cells = page.run('return [...document.querySelectorAll("#store .fold g[data-name] text")].map(it => it.textContent)')
-    equal(sorted(map(int, cells)), list(range(200)))
-    page.run('document.querySelector("#store .fold g[data-name]").getBoundingClientRect()')
-    took = page.run('const begin = performance.now(); for (let at = 0; at < 10; at++) {'
-                    'document.querySelector("[data-go=step-back]").click(); await new Promise(done => requestAnimationFrame(done)); }'
-                    'return (performance.now() - begin) / 10')
-    holds(took < 2000, f'a move takes {took:.0f} ms')
+    equal(sorted(map(int, cells_of_fold(page))), list(range(200)))
+
+
+def is_quick(cost, most, what):
+    holds(cost <= most, f'{what}: a move takes {cost:.0f} ms of the processor')
+
+
+def a_thousand_nodes_move(page):
+    """With 1,000 nodes a move takes at most 60 ms, and what the next moves show is there before they are made. It is drawn right."""
+    page.click('#gear')
+    page.put('#heap', '14')
+    page.write(CHAIN.replace('{count}', '1000'))
+    page.go('end')
+    equal(sorted(map(int, cells_of_fold(page))), list(range(1000)))
+    last = page.position()[1]
+    with page.without_answers():
+        for key, way in (('step-back', -1), ('step-on', 1)):
+            at = page.position()[0]
+            equal(page.steps(key, 8), [f'{at + way * (move + 1):,} / {last:,}' for move in range(8)], 'positions that are shown without a call')
+    for key in ('step-back', 'step-on'):
+        page.move_cost(key, BEFORE)
+        is_quick(page.move_cost(key, MEASURED), MOST_OF_NODES, key)
+        page.settled()
+    page.go('step-back')
+    shown, found = page.store(), (page.here(), sorted(cells_of_fold(page)))
+    page.go('start')
+    page.go('end')
+    page.go('step-back')
+    equal((page.store(), (page.here(), sorted(cells_of_fold(page)))), (shown, found), 'the same position, come to in another way')
+    page.click('#usual')
+    page.settled()
 
 
 def the_listing_is_coloured(page):
@@ -206,21 +246,29 @@ def the_listing_is_coloured(page):
     page.go('end')
     equal(page.position(), (1, 1))
     holds('finished' in page.text('#machine .caption'), page.text('#machine .caption'))
+    heads = page.run(IS_DRAWN + 'return [...document.querySelectorAll("#machine h3")].filter(isDrawn).map(it => it.innerText)')
+    equal(heads, ['Registers', 'Static words', 'Heap', 'Stack'])
     page.view('store')
 
 
 def large_programs_step(page):
-    """A program of 20,000 tokens steps in the listing without drawing it all."""
+    """A program of 20,000 tokens steps in less than 50 ms, with any view open. The listing draws only what is in sight, and the next
+    moves wait for no call."""
     page.write('class P\n  int x\nmethod main()\n' + '  x += 1\n' * 5000 + 'class Q\n')
     page.go('start')
-    page.view('machine')
+    for view, told in (('store', '#where'), ('machine', '#machine .caption')):
+        page.view(view)
+        page.move_cost('step-on', BEFORE, told)
+        is_quick(page.move_cost('step-on', MEASURED, told), MOST_OF_TOKENS, view)
+        page.settled()
+    equal(page.position()[0], 2 * (MEASURED + BEFORE))
     rows = page.run('return [document.querySelectorAll("#machine .listing li").length, document.querySelector("#machine .listing ol").offsetHeight]')
     holds(0 < rows[0] < 200 and rows[1] > 100000, f'{rows[0]} rows are drawn, and the list is {rows[1]} high')
-    took = page.run('const begin = performance.now(), rest = time => new Promise(done => setTimeout(done, time));'
-                    'for (let at = 0; at < 5; at++) { document.querySelector("[data-go=step-on]").click(); await rest(0);'
-                    'while (playground.running) await rest(5); } return (performance.now() - begin) / 5')
-    equal(page.position()[0], 5)
-    holds(took < 1500, f'a step takes {took:.0f} ms')
+    before = page.text('#machine .caption')
+    with page.without_answers():
+        seen = page.steps('step-on', 6, '#machine .caption')
+        equal(page.steps('step-back', 6, '#machine .caption'), [*seen[-2::-1], before], 'the machine on the way back')
+    equal(len(set(seen)), 6, 'states of the machine that are shown without a call')
     page.view('store')
 
 
@@ -244,4 +292,4 @@ def the_inverse_is_paired(page):
 
 
 TESTS = (objects_keep_their_places, a_tree_looks_like_one, a_change_is_marked, one_object_has_one_name, long_runs_open, runs_have_no_end,
-         long_chains_fold, the_listing_is_coloured, large_programs_step, the_inverse_is_paired)
+         long_chains_fold, a_thousand_nodes_move, the_listing_is_coloured, large_programs_step, the_inverse_is_paired)
