@@ -1,5 +1,5 @@
 """Runs: what is shown at each position, forward and back; faults at their place; limits; the editor."""
-from drawn import CONTROL, END, ENTER, HOME, LEFT, RIGHT, SHIFT, SPACE, equal, holds, read
+from drawn import CONTROL, END, ENTER, HOME, IS_DRAWN, LEFT, RIGHT, SHIFT, SPACE, equal, holds, read
 
 COUNTER = 'class P\n  int x\nmethod main()\n  x += 5\n'
 ENDLESS = 'class P int x int y method main()\n  from x = 0 do\n    skip\n  loop\n    x += 2\n  until y = 1'
@@ -121,6 +121,78 @@ def keys_move(page):
     page.press(CONTROL, ENTER)
     page.press(CONTROL, ENTER)
     equal(page.position(), (last, last), 'keys of the editor do not move the run')
+
+
+# The timeline: its bars with their spans and heights, how much of it is done, and the handle.
+TIMELINE = IS_DRAWN + '''
+const line = document.querySelector('#timeline input'), area = drawn('#timeline svg').getBoundingClientRect();
+const bars = [...document.querySelectorAll('#timeline svg:not(.passed) rect')].map(it => [it, it.getBoundingClientRect()])
+  .map(([it, box]) => ({ kind: it.getAttribute('class'), from: (box.left - area.left) / area.width, to: (box.right - area.left) / area.width, high: box.height }));
+const marks = [...document.querySelectorAll('#timeline .mark')].filter(isDrawn).map(it => it.getBoundingClientRect())
+  .map(box => (box.left + box.width / 2 - area.left) / area.width);
+const behind = parseFloat(/ ([\\d.]+)%/.exec(getComputedStyle(document.querySelector('#timeline .passed')).clipPath)?.[1] ?? 0);
+return { bars, marks, behind: 1 - behind / 100, handle: line.value / line.max, flag: isDrawn(document.querySelector('#timeline .flag')) };
+'''
+
+
+# Plays for a while from the start, and gives how many moves were made in how many seconds.
+PLAYS = '''
+const begin = performance.now(), key = document.querySelector('[data-go=on]'), rest = time => new Promise(done => setTimeout(done, time));
+key.click();
+await rest(1200);
+key.click();
+await rest(100);
+return [parseInt(document.getElementById('where').textContent), (performance.now() - begin) / 1000];
+'''
+
+
+def the_timeline_shows_the_run(page):
+    """The timeline has the depth of the calls as height, the direction as colour, what is done, breakpoints and a fault."""
+    page.write(LIST)
+    page.click_line_number(14)
+    page.go('start')
+    last, depths = page.position()[1], {}
+    for at in range(last):
+        it = page.run(TIMELINE)
+        bar = [bar for bar in it['bars'] if bar['from'] - 0.001 <= at / last <= bar['to'] + 0.001][-1]
+        equal(bar['kind'], 'bar-back' if 'undone' in page.text('#doing') else 'bar-on', f'the bar at {at}')
+        depths.setdefault('in a call' if 'C::add' in page.text('#doing') else 'in main', set()).add(round(bar['high']))
+        holds(abs(it['behind'] - at / last) < 0.02 and abs(it['handle'] - at / last) < 0.02, f'at {at} of {last}: {it}')
+        page.go('step-on')
+    holds(min(depths['in a call']) > max(depths['in main']), f'the heights of the bars are {depths}')
+    equal([it['number'] for it in page.lines() if it['sign'] == '▶'], [], 'the end has no statement')
+    marked = page.run(TIMELINE)['marks']
+    equal(len(marked), 2, 'breakpoints on the timeline')
+    page.click_line_number(14)
+    equal(page.run(TIMELINE)['marks'], [], 'breakpoints that were taken away')
+    holds(not page.run(TIMELINE)['flag'], 'a run that ends has a flag')
+    page.write(FAULTS[6][0])
+    it = page.run(TIMELINE)
+    holds(it['flag'] and it['bars'][-1]['kind'] == 'bar-fault' and it['bars'][-1]['to'] > 0.99, f'the fault on the timeline: {it["bars"]}')
+
+
+def it_plays_at_a_speed(page):
+    """A run plays so many statements in a second as the speed says."""
+    page.choose('Search tree')
+    for speed in (1, 15):
+        page.go('start')
+        page.run('document.getElementById("speed").value = arguments[0]', str(speed))
+        moves, seconds = page.run(PLAYS)
+        holds(moves <= seconds * speed, f'{moves} moves in {seconds} seconds at a speed of {speed}')
+        holds(moves >= speed * 0.5, f'{moves} moves in {seconds} seconds at a speed of {speed}')
+
+
+def the_editor_is_next_to_the_views(page):
+    """The editor is next to each view, both are over the transport, and none covers another."""
+    page.choose('Search tree')
+    for view in ('store', 'output', 'inverse', 'machine'):
+        page.view(view)
+        boxes = 'return [".CodeMirror", arguments[0], "#transport"].map(it => document.querySelector(it).getBoundingClientRect().toJSON())'
+        left, right, below = page.run(boxes, f'#{view}')
+        holds(left['right'] <= right['left'] and max(left['bottom'], right['bottom']) <= below['top'], f'{view}: {left}, {right}, {below}')
+        holds(left['width'] > 400 and right['width'] > 400 and left['height'] > 400 and right['height'] > 400, f'{view}: {left}, {right}')
+        holds(page.lines() and page.is_drawn(f'#{view} *'), f'{view} or the editor is empty')
+    page.view('store')
 
 
 def all_views_agree(page):
@@ -256,5 +328,6 @@ def the_editor_shows_what_runs(page):
     page.browser.resize(1440, 1000)
 
 
-TESTS = (faults_are_where_they_are, back_is_back, plays_both_ways, keys_move, all_views_agree, takes_inputs_and_limits,
-         questions_say_what_they_rest_on, the_machine_begins_again, a_run_without_end_stops, mistakes_are_told, the_editor_shows_what_runs)
+TESTS = (faults_are_where_they_are, back_is_back, plays_both_ways, keys_move, the_timeline_shows_the_run, it_plays_at_a_speed,
+         the_editor_is_next_to_the_views, all_views_agree, takes_inputs_and_limits, questions_say_what_they_rest_on, the_machine_begins_again,
+         a_run_without_end_stops, mistakes_are_told, the_editor_shows_what_runs)
