@@ -1,4 +1,5 @@
 """What an editor asks about a text, in bytes: what is at a place, what can be written there, its outline, its folds."""
+from functools import cached_property
 from typing import Dict, Iterator, List, NamedTuple, Optional, Tuple
 
 from .forms import FORMS, SNIPPETS, Form, form_of
@@ -35,7 +36,10 @@ class Analysis:
 
     def __init__(self, text: bytes):
         self.source: Source = parsed(text)
-        self.names = Names(self.source)
+
+    @cached_property
+    def names(self) -> Names:
+        return Names(self.source)
 
     # ---- words about declarations
 

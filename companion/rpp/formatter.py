@@ -231,10 +231,13 @@ def layout_edits(text: bytes, source: Source) -> List[Tuple[int, int, bytes]]:
     """What the layout changes between the tokens: from byte to byte, and what is there afterwards. Nothing where tokens would change."""
     made = laid_out(text, source)
     found, end, other_end = [], 0, 0
-    for one, other in zip_longest(chain(spans(text), [(len(text),) * 2]), chain(spans(made), [(len(made),) * 2])):
-        if one is None or other is None or text[slice(*one)] != made[slice(*other)]:
+    for one, other in zip_longest(chain(source.tokens, [Token('end', '', len(text))]), chain(spans(made), [(len(made),) * 2])):
+        if one is None or other is None:
             return []
-        if text[end:one[0]] != made[other_end:other[0]]:
-            found.append((end, one[0], made[other_end:other[0]]))
-        end, other_end = one[1], other[1]
+        (_, word, begin), (other_begin, behind) = one, other
+        if word.encode('latin-1') != made[other_begin:behind]:
+            return []
+        if text[end:begin] != made[other_end:other_begin]:
+            found.append((end, begin, made[other_end:other_begin]))
+        end, other_end = begin + len(word), behind
     return found

@@ -36,10 +36,10 @@ class Glance(Analysis):
     """A text with the statements of the method at a byte, or of none."""
 
     def __init__(self, text: bytes, at: Optional[int] = None):
-        self.bodies = bodies(text)
-        self.open = next((each for each in self.bodies if at is not None and each.begin <= at <= each.end), None)
+        self.bodies = {each.head: each for each in bodies(text)}
+        self.open = self.body_at(at) if at is not None else None
         parts, end = [], 0
-        for each in self.bodies:
+        for each in self.bodies.values():
             if each is not self.open:
                 parts += [text[end:each.begin], blank(text[each.begin:each.end])]
                 end = each.end
@@ -48,12 +48,15 @@ class Glance(Analysis):
 
     def is_of(self, at: int) -> bool:
         """Whether the statements of the method at this byte are there, where there is one."""
-        found = next((each for each in self.bodies if each.begin <= at <= each.end), None)
+        found = self.body_at(at)
         return found is None or found is self.open
+
+    def body_at(self, at: int) -> Optional[Body]:
+        return next((each for each in self.bodies.values() if each.begin <= at <= each.end), None)
 
     def end_of(self, method: Method) -> int:
         begin = self.source.tokens[method.first].at
-        body = next((each for each in self.bodies if each.head == begin), None)
+        body = self.bodies.get(begin)
         if body is None:
             return super().end_of(method)
         code = COMMENT.sub(lambda found: b' ' * len(found[0]), self.whole[begin:body.end])

@@ -85,7 +85,7 @@ class Text:
     def position(self, offset: int) -> Position:
         row = self.row(offset)
         before = self.content[self.starts[row]:self.within(offset)]
-        return Position(row, utf16_length(decoded(before)))
+        return Position(row, len(before) if before.isascii() else utf16_length(decoded(before)))
 
     def position_offset(self, line: int, character: int) -> int:
         """The byte of a place of the protocols."""
