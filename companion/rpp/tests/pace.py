@@ -8,8 +8,18 @@ import time
 from typing import Callable
 
 LEAST_TRIES, MOST_TRIES = 5, 40
+METHODS = 570
 PART = re.compile(rb'\w+|[^\w\s]')
 LINES = b'  local int t = 12 // adds\n  if n = 12 then t += n else skip fi n = 12\n' * 700
+
+
+def long_text() -> str:
+    """A source of 20,000 tokens, which is as many as one may have. Some of its lines are not laid out."""
+    lines = ['class P', '  int x', 'method main()', '  call m0(x)']
+    for number in range(METHODS):
+        lines += [f'// adds {number}', f'method m{number}(int n)', f'  local int t = {number}', f'  if n = {number} then', '      t += n',
+                  f'  else  skip fi n = {number}', f'  n += t + {number}', f'  delocal int t = {number}', '']
+    return '\n'.join(lines)
 
 
 def texts_loop() -> None:

@@ -12,7 +12,7 @@ from rpp.lint import warnings
 from rpp.tokens import cut
 
 from .base import EXAMPLES, Case
-from .pace import loops
+from .pace import long_text, loops
 from .protocol_client import LanguageClient
 from .test_language_server import RIGHT, URI, applied, at, span
 
@@ -165,11 +165,7 @@ class Speed(unittest.TestCase):
 
     @classmethod
     def setUpClass(cls):
-        lines = ['class P', '  int x', 'method main()', '  call m0(x)']
-        for number in range(570):
-            lines += [f'// adds {number}', f'method m{number}(int n)', f'  local int t = {number}', f'  if n = {number} then', '      t += n',
-                      f'  else  skip fi n = {number}', f'  n += t + {number}', f'  delocal int t = {number}', '']
-        cls.text = '\n'.join(lines).encode()
+        cls.text = long_text().encode()
         assert TOKENS - 1000 < len(cut(cls.text)[0]) < TOKENS + 1000, len(cut(cls.text)[0])
 
     def takes_at_most(self, most, action):
