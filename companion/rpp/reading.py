@@ -6,6 +6,7 @@ ends, so that the program can read them as often as it needs.
 """
 import atexit
 import os
+import re
 import stat
 import sys
 from typing import Dict
@@ -13,6 +14,8 @@ from typing import Dict
 from .program import Folder
 
 STDIN = '-'
+# Open files of this process by name. A program that it starts has others.
+OPEN = re.compile(r'/dev/stdin|/(?:dev|proc/self)/fd/\d+')
 
 _folder = Folder()
 _kept: Dict[str, str] = {}
@@ -56,8 +59,8 @@ def keep(word: str) -> str:
 
 
 def is_once(word: str) -> bool:
-    """Whether this can be read only once: standard input, a pipe, a terminal or a socket."""
-    if word == STDIN:
+    """Whether this can be read only once: standard input, an open file by its name, a pipe, a terminal or a socket."""
+    if word == STDIN or OPEN.fullmatch(word):
         return True
     try:
         mode = os.stat(word).st_mode
