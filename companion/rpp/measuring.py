@@ -11,8 +11,9 @@ from typing import Any, Dict, List, NamedTuple, Optional, Tuple
 
 from .film import Directions
 from .heap_words import block_words, garbage_words
+from .json_values import JSON_VERSION
 from .messages import Told, read_answer
-from .options import DEPTH, HEAP, STEPS, MOST_DEPTH, MOST_HEAP, Parser, Unfit, add_source
+from .options import DEPTH, HEAP, STEPS, MOST_DEPTH, MOST_HEAP, Parser, Unfit, add_source, refuse_sources
 from .outline import Outline
 from .page import tell_refused
 from .plot import Panel, Series, plot
@@ -245,6 +246,7 @@ def measures_of(given: Optional[str], rows: List[Measured]) -> List[str]:
 
 def main(words: List[str]) -> int:
     given = parser().parse_intermixed_args(words)
+    refuse_sources(given.csv, given.json, given.svg)
     program = Program.found()
     ranging, inputs = inputs_of(given.ranges)
     results = given.results.split(',') if given.results else None
@@ -260,7 +262,8 @@ def main(words: List[str]) -> int:
     if given.csv:
         write(given.csv, as_csv(rows), given.source)
     if given.json:
-        plain = {'source': name, 'heap': given.heap, 'depth': given.depth, 'results': results, 'rows': [row.plain for row in rows]}
+        plain = {'version': JSON_VERSION, 'source': name, 'heap': given.heap, 'depth': given.depth, 'results': results,
+                 'rows': [row.plain for row in rows]}
         write(given.json, json.dumps(plain, indent=1) + '\n', given.source)
     if given.svg:
         write(given.svg, as_plot(name, ranging, rows, measures_of(given.measures, rows)), given.source)

@@ -20,6 +20,7 @@ DEPTH = 64
 STEPS = 100_000_000
 MOST_HEAP = 20
 MOST_DEPTH = 8192
+SOURCES = ('.rpp', '.pisa')
 ASSIGNMENT = re.compile(rf'^({NAME})=(-?[0-9]+)$')
 
 
@@ -33,6 +34,13 @@ class Parser(argparse.ArgumentParser):
     def error(self, message):
         # (inputs are never required, though argparse says so where the source is missing)
         raise Unfit(f'{message.replace(", NAME=NUMBER", "")}\n{self.format_usage().rstrip()}')
+
+
+def refuse_sources(*results: Optional[str]) -> None:
+    """Raises Unfit where a result would be written over a source, as by `--json a.rpp b.rpp`."""
+    for each in filter(None, results):
+        if each.endswith(SOURCES):
+            raise Unfit(f'{each} is a source: --csv, --json and --svg stand before the name of a file that is written')
 
 
 def add_source(parser) -> None:

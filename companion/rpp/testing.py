@@ -14,13 +14,13 @@ from typing import Any, Dict, List, NamedTuple, Optional
 
 from .confined import EACH_SECONDS, Confined
 from .expectations import BadExpectation, Expectations
+from .json_values import JSON_VERSION
 from .judging import Judge, Verdict, cleaned
 from .judging_assembly import AssemblyJudge
-from .options import Parser, Unfit
+from .options import SOURCES, Parser, Unfit, refuse_sources
 from .program import OverSource, Program, keep_apart
 from .reading import readable, shown
 
-ENDINGS = ('.rpp', '.pisa')
 MOST_BYTES = 262_144
 WHOLE_SECONDS = 30.0
 COLUMNS = ('submission', 'exercise', 'verdict', 'held', 'expected', 'seconds', 'why')
@@ -87,7 +87,7 @@ def read_plain(path: str, is_named: bool) -> bytes:
 def texts_below(folder: str) -> List[str]:
     """The sources and assembly texts in a folder and those below it; links to folders are not followed."""
     found = [os.path.join(above, name) for above, _, names in os.walk(folder) for name in names]
-    return sorted(path for path in found if path.endswith(ENDINGS))
+    return sorted(path for path in found if path.endswith(SOURCES))
 
 
 def exercise_of(path: str, by: Optional[str]) -> Optional[str]:
@@ -212,6 +212,7 @@ def parser() -> Parser:
 
 def main(words: List[str]) -> int:
     given = parser().parse_args(words)
+    refuse_sources(given.csv, given.json)
     if given.jobs < 1 or given.seconds <= 0 or given.each <= 0:
         raise Unfit('--jobs is 1 or more, --seconds and --each are above 0')
     named = [path for path in given.paths if not os.path.isdir(path)]
@@ -227,7 +228,7 @@ def main(words: List[str]) -> int:
         if given.csv:
             write_out(given.csv, as_csv(rows), paths)
         if given.json:
-            write_out(given.json, json.dumps([row.plain for row in rows], indent=1) + '\n', paths)
+            write_out(given.json, json.dumps({'version': JSON_VERSION, 'rows': [row.plain for row in rows]}, indent=1) + '\n', paths)
     except OverSource as wrong:
         raise Unfit(str(wrong)) from None
     return 0 if all(row.verdict.kind == 'right' for row in rows) else 1

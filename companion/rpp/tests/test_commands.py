@@ -118,9 +118,30 @@ class Standing(Case):
             self.assertEqual(done.returncode, status)
             self.assertIn(':1:29: refused 16 SelfUpdate', done.stdout.decode())
 
+    def test_files_as_standard_input(self):
+        source = self.write('a.rpp', 'class P int x method main() x += 5\n')
+        for word in ('-', '/dev/stdin', '/dev/fd/0', '/proc/self/fd/0'):
+            for command, wanted in (('check', f'{"<stdin>" if word == "-" else word}: accepted\n'), ('run', 'x = 5\nlive 0\nsteps 34\n')):
+                with self.subTest(word=word, command=command), open(source, 'rb') as file:
+                    done = subprocess.run([sys.executable, COMMAND, command, word], stdin=file, stdout=subprocess.PIPE, check=False)
+                    self.assertEqual(done.stdout.decode(), wanted)
+
     def test_an_input(self):
         done = self.rpp('run', os.path.join(EXAMPLES, 'counter.rpp'), '--input', '-', stdin='count = 4\n')
         self.assertEqual(done.stdout.split('\n')[0], 'count = 7')
+
+
+class Results(Case):
+    def test_no_table_is_written_over_a_source(self):
+        source, other = self.write('a.rpp', LOOSE), self.write('b.rpp', LOOSE)
+        for words in (['test', '--json', source, other], ['test', '--csv', source, other], ['stat', '--json', source, other],
+                      ['stat', '--svg', source, other]):
+            with self.subTest(words=words):
+                done = self.rpp(*words)
+                self.assertEqual((done.returncode, done.stdout), (1, ''))
+                self.assertIn(f'{source} is a source', done.stderr)
+                with open(source, encoding='utf-8') as file:
+                    self.assertEqual(file.read(), LOOSE)
 
 
 class Colours(Case):

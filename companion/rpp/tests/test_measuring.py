@@ -26,7 +26,9 @@ class MeasuringTest(Case):
     def rows(self, source: str, *words: str):
         done = self.rpp('stat', self.write('f.rpp', source), *words, '--json', '-')
         self.assertEqual((done.returncode, done.stderr), (0, ''))
-        return json.loads(done.stdout)['rows']
+        found = json.loads(done.stdout)
+        self.assertEqual(found['version'], 1)
+        return found['rows']
 
     def test_cost_and_statements(self):
         # local 1 + 1 + 1, from 1, its first iteration 3 + 1 + 3; and each further iteration 2 + 2 + 3 + 1 + 3
@@ -88,7 +90,8 @@ class MeasuringTest(Case):
         self.assertEqual(ElementTree.fromstring(drawn).tag, '{http://www.w3.org/2000/svg}svg')
         self.assertEqual(re.findall(r'class="title"[^>]*>([^<]*)', drawn), ['total.rpp', 'cost', 'statements'])
         self.assertEqual(drawn.count('<circle'), 6)
-        self.assertIn('is read as', self.rpp('stat', path, '--csv', path).stderr)
+        named = self.write('total', TOTAL)
+        self.assertIn('is read as', self.rpp('stat', named, '--csv', named).stderr)
         self.assertIn('the measures are', self.rpp('stat', path, 'n=1..2', '--svg', '-', '--measures', 'colour').stderr)
         self.assertIn('a plot needs', self.rpp('stat', path, 'n=1', '--svg', '-').stderr)
 

@@ -231,7 +231,9 @@ class TestingTest(Case):
         self.assertEqual({os.path.basename(path) for path in written}, {'out.csv', 'out.json'})
         self.assertEqual({path: size for path, size in snapshot(self.folder).items() if path in before}, before)
         with open(os.path.join(self.folder, 'out.json'), encoding='utf-8') as file:
-            rows = {os.path.basename(row['submission'])[:-4]: row for row in json.load(file)}
+            found = json.load(file)
+        self.assertEqual(found['version'], 1)
+        rows = {os.path.basename(row['submission'])[:-4]: row for row in found['rows']}
         self.assertEqual(len(rows), 30)
         for name, (_, verdict) in SUBMISSIONS.items():
             row = rows['=1+?[2J?--by' if name == 'right-2' else name]
