@@ -4,6 +4,7 @@
     told.kind, told.number, told.name, told.at      # 'refused', 16, 'SelfUpdate', 1131
     rule = refusal(16)                              # or fault(16), of rules.py: None where there is no such number
     see(rule)                                       # the page that says more, where the reader has one
+    placed('docs/reference/messages.md has them')   # the same text, with the path where the reader has that page
 """
 import functools
 import os
@@ -96,6 +97,18 @@ def page_path(page: str) -> Optional[str]:
         if os.path.isfile(os.path.join(folder, page)):
             return os.path.join(folder, page)
     return None
+
+
+PAGE = re.compile(r'docs/([\w/]+\.md)')
+
+
+def placed(text: str) -> str:
+    """A text with the pages of docs/ that it names: in the clone by their names there, else by their paths."""
+    def path(found) -> str:
+        there = page_path(found[1])
+        return found[0] if there in (None, os.path.join(TOP, found[0])) else there
+
+    return PAGE.sub(path, text)
 
 
 def see(rule: Rule) -> str:

@@ -11,6 +11,7 @@ import argparse
 import re
 from typing import List, Optional
 
+from .messages import placed
 from .program import Folder
 from .reading import readable
 from .tokens import NAME
@@ -29,7 +30,11 @@ class Unfit(Exception):
 
 
 class Parser(argparse.ArgumentParser):
-    """A parser that raises Unfit where words do not fit, so that one place ends the command."""
+    """A parser that raises Unfit where words do not fit, so that one place ends the command. Its help names pages where the reader
+    has them."""
+
+    def format_help(self):
+        return placed(super().format_help())
 
     def error(self, message):
         # (inputs are never required, though argparse says so where the source is missing)

@@ -17,6 +17,7 @@ from .expectations import BadExpectation, Expectations
 from .json_values import JSON_VERSION
 from .judging import Judge, Verdict, cleaned
 from .judging_assembly import AssemblyJudge
+from .messages import placed
 from .options import SOURCES, Parser, Unfit, refuse_sources
 from .program import OverSource, Program, keep_apart
 from .reading import readable, shown
@@ -112,7 +113,7 @@ def judged(path: str, is_named: bool, grading: Grading) -> Row:
         exercise = os.path.basename(by) if by else ''
         verdict, expected = verdict_on(path, by, read_plain(path, is_named), grading)
     except (Trouble, BadExpectation) as wrong:
-        verdict = Verdict('unreadable', [], cleaned([str(wrong)]))
+        verdict = Verdict('unreadable', [], cleaned([placed(str(wrong))]))
     except Exception as wrong:  # pylint: disable=broad-except
         # (whatever a text of a stranger does to this program, the others still get their verdicts)
         verdict = Verdict('unreadable', [], cleaned([f'it could not be checked: {type(wrong).__name__} {wrong}']))

@@ -8,7 +8,7 @@ from .repository import CannotRelease, names_below, path_of, read_bytes, read_te
 PROGRAM = 0o755
 COMPANION = 'share/rooplpp/rpp'
 # The pages that the companion names are in its own folder, because a system may leave out documents.
-PAGES_OF_COMPANION = ('docs/reference/messages.md', 'docs/reference/formats.md')
+PAGES_OF_COMPANION = 'docs/reference'
 MANUALS = 'docs/man'
 ZSH = 'share/zsh/site-functions'
 # Where completions go, by the shell that they are for.
@@ -33,7 +33,7 @@ def companion(target, proved):
     found = {f'{target}/docs/PROVED.txt': (FILE, proved.encode())}
     for name in names_below('companion/rpp'):
         found[target + name[len('companion/rpp'):]] = (FILE, read_bytes(name))
-    for name in PAGES_OF_COMPANION:
+    for name in names_below(PAGES_OF_COMPANION):
         found[f'{target}/{name}'] = (FILE, read_bytes(name))
     return found
 
