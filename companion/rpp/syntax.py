@@ -19,6 +19,8 @@ ENDS = ('end', 'endif', 'endwhile', 'endfor', 'endmethod', 'endclass', 'done', '
 PRINTS = ('print', 'println', 'printf', 'write', 'puts', 'echo', 'show', 'cout', 'System')
 RETURNS = ('return', 'yield', 'result')
 CHOICES = ('switch', 'case', 'match', 'when')
+ASSERTIONS = ('assert', 'require', 'ensure')
+LENGTHS = ('len', 'length', 'size', 'sizeof')
 TYPES_OF_OTHERS = ('var', 'let', 'const', 'auto', 'def', 'val', 'my', 'dim')
 HEADS_OF_OTHERS = ('public', 'private', 'protected', 'static', 'function', 'func', 'fn', 'def', 'void', 'proc', 'procedure', 'sub')
 PRODUCTS = {'*': 'A product', '/': 'A quotient', '%': 'A remainder'}
@@ -86,6 +88,10 @@ class Place:
     def line_of(self, token: int) -> int:
         return self.text.count(b'\n', 0, self.tokens[token].at) + 1
 
+    def has_method(self, name: str) -> bool:
+        """Whether the text declares a method of this name."""
+        return any((one.text, other.text) == ('method', name) for one, other in zip(self.tokens, self.tokens[1:]))
+
     def is_new_line(self) -> bool:
         """Whether a line ends in front of the token."""
         return self.at > 0 and b'\n' in self.text[self.end(-1):self.begin()]
@@ -108,6 +114,9 @@ class Place:
 def of_first_word(it: Place) -> Optional[Hint]:
     if it.at or it.inside:
         return None
+    comment = of_comment(it)
+    if comment:
+        return comment
     if it.word() in HEADS_OF_OTHERS:
         return Hint(f'A source must begin with a class, and there is no `{it.word()}` outside of one.',
                     'Write `class Program`, its fields, and then `method main()`.')
@@ -316,6 +325,9 @@ def of_foreign_word(word: str, it: Place) -> Optional[Hint]:
         return Hint(f'There is no `{word}`: a method has no result. Let it add what it computes to a parameter or a field.')
     if word in CHOICES:
         return Hint(f'There is no `{word}`: write `if`s one in another.')
+    if word in ASSERTIONS and not it.has_method(word):
+        return Hint(f'There is no `{word}`: what must hold stands after `fi`, `from`, `until` and `delocal`.',
+                    'What a run should give stands in comments `//?`, which `rpp test` checks.')
     if word in TYPES_OF_OTHERS:
         return Hint(f'There is no `{word}`: a variable is a field, or `local int {it.word() or "x"} = 0` .. `delocal int '
                     f'{it.word() or "x"} = 0`.')
@@ -355,11 +367,16 @@ def of_operator_word(word: str) -> Hint:
 
 def of_value(it: Place) -> Optional[Hint]:
     """What is no value where one is expected."""
-    if it.word() == 'new' and it.word(-1) == '<=>':
+    before = it.word(-1)
+    if it.word() == 'new' and before == '<=>':
         return of_word_for_value(it, '<=>')
+    if before == '<=>' and it.expects(NAME) and (it.kind() == 'number' or it.word() in ('nil', '-', '(')):
+        return Hint(f'`<=>` exchanges two variables or elements, and `{it.word()}` is neither.', 'A variable is changed by `+=`, `-=` or `^=`.')
     if not it.is_value():
         return None
-    before = it.word(-1)
+    if it.word() == '[':
+        return Hint('There are no lists of values: an array is made by `new int[3] a`, and each of its elements is set by itself.',
+                    'Write `a[0] += 1`, and so on.')
     if it.word() == '=' and before == '=':
         return Hint('The comparison is one `=`.', '', it.changes(0, 0, ''), 'Remove one `=`')
     if it.word() == '=' and before in ('!', '<', '>', '=='):
@@ -391,9 +408,7 @@ def of_word_for_value(it: Place, before: str) -> Optional[Hint]:
     if it.word() in ('call', 'uncall'):
         return Hint(f'`{it.word()}` is a statement and has no value: let the method add its result to an argument.')
     if before in ('fi', 'until'):
-        word = {'fi': 'An `if` must end with an assertion after `fi`: a condition that holds after `then` and not after `else`.',
-                'until': 'A `from` must end with a condition after `until`.'}[before]
-        return Hint(word, 'Often it is the condition of the `if` itself.' if before == 'fi' else '')
+        return of_missing_condition(before)
     if before in ('if', 'from'):
         return Hint(f'`{before}` must have a condition.')
     if it.word() in KEYWORDS and (it.is_new_line() or it.word() in ('class', 'method', 'then', 'do', 'else', 'fi', 'loop', 'until')):
@@ -410,6 +425,13 @@ def of_word_for_value(it: Place, before: str) -> Optional[Hint]:
     return None
 
 
+def of_missing_condition(word: str) -> Hint:
+    if word == 'fi':
+        return Hint('An `if` must end with an assertion after `fi`: a condition that holds after `then` and not after `else`.',
+                    'Often it is the condition of the `if` itself.')
+    return Hint('A `from` must end with a condition after `until`.')
+
+
 def of_value_end(it: Place) -> Optional[Hint]:
     """What is after a value and goes on as none."""
     if not OPERATORS <= it.expected:
@@ -418,6 +440,10 @@ def of_value_end(it: Place) -> Optional[Hint]:
         return Hint(f'A number must be decimal: `{it.word(-1)}{it.word()}` is none.', 'Write its decimal digits.')
     if it.kind(-1) == 'number' and it.kind() == 'number':
         return Hint('There must be an operator between two numbers.')
+    if it.word() == '(' and it.word(-1) in LENGTHS and not it.has_method(it.word(-1)):
+        return Hint(f'There is no `{it.word(-1)}`: the length of an array is not part of it.', 'Keep the length in a variable.')
+    if it.word() in UPDATES | {'<=>'} and it.word(-2) in ('fi', 'until') and it.kind(-1) == 'name':
+        return of_missing_condition(it.word(-2))
     if it.word() == '(' and it.kind(-1) == 'name':
         return Hint('A call is a statement and has no value: let the method add its result to an argument.',
                     f'Write `call {it.word(-1)}(..)` with one argument more.')
@@ -531,6 +557,8 @@ def of_local(it: Place) -> Optional[Hint]:
             return Hint(f'A local begins and ends with `=`: `{word} {kind} {name} = ..`.', '', it.changes(0, 0, '='), 'Write `=`')
         return Hint(f'`{word}` must have a value: `{word} {kind} {name} = {value}`.', '', (Edit(it.end(-1), it.end(-1), f' = {value}'),),
                     f'Write `= {value}`')
+    if it.expects(NAME, '[') and it.word(-2) in ('delocal', 'local'):
+        return Hint(f'`{it.word(-2)}` must have a type, a name and a value: `{it.word(-2)} int {it.word(-1)} = 0`.')
     if it.expects('int') and it.word() and it.word(-1) in ('delocal', 'local'):
         return Hint(f'`{it.word(-1)}` must have a type, a name and a value: `{it.word(-1)} int x = 0`.')
     if it.expects('int') and not it.word():
