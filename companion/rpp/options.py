@@ -45,7 +45,7 @@ def refuse_sources(*results: Optional[str]) -> None:
     """Raises Unfit where a result would be written over a source, as by `--json a.rpp b.rpp`."""
     for each in filter(None, results):
         if each.endswith(SOURCES):
-            raise Unfit(f'{each} is a source: --csv, --json and --svg stand before the name of a file that is written')
+            raise Unfit(f'{each} is a source: --csv, --json and --svg need the name of a file to write')
 
 
 def add_source(parser) -> None:

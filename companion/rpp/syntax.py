@@ -326,8 +326,8 @@ def of_foreign_word(word: str, it: Place) -> Optional[Hint]:
     if word in CHOICES:
         return Hint(f'There is no `{word}`: write `if`s one in another.')
     if word in ASSERTIONS and not it.has_method(word):
-        return Hint(f'There is no `{word}`: what must hold stands after `fi`, `from`, `until` and `delocal`.',
-                    'What a run should give stands in comments `//?`, which `rpp test` checks.')
+        return Hint(f'There is no `{word}`: conditions that must hold come after `fi`, `from`, `until` and `delocal`.',
+                    'Comments `//?` say what a run should give, and `rpp test` checks them.')
     if word in TYPES_OF_OTHERS:
         return Hint(f'There is no `{word}`: a variable is a field, or `local int {it.word() or "x"} = 0` .. `delocal int '
                     f'{it.word() or "x"} = 0`.')
