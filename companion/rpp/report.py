@@ -1,4 +1,5 @@
 """Messages about a source: where it is, the line with a caret, what is wrong, what to write, and where the pages say more."""
+import os
 from typing import List
 
 from .explain import Message, of_refusal
@@ -65,6 +66,8 @@ def fault_title(told: Told) -> str:
 
 def failure_lines(told: Told, file: str) -> List[str]:
     """What is said where the program could not do its work: files, memory, words, or an answer of no known form."""
+    if told.kind == 'read' and os.path.isdir(file):
+        return [f'{file}: cannot read it: it is a folder']
     if told.kind in ('read', 'write'):
         return [f'{file}: cannot {told.kind} it: {told.why or "failed"}']
     if told.kind == 'memory':

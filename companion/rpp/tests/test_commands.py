@@ -131,6 +131,15 @@ class Standing(Case):
         self.assertEqual(done.stdout.split('\n')[0], 'count = 7')
 
 
+class Folders(Case):
+    def test_a_folder_is_no_source(self):
+        for command in ('check', 'run', 'stat'):
+            with self.subTest(command=command):
+                done = self.rpp(command, self.folder)
+                self.assertEqual(done.returncode, 2)
+                self.assertIn(f'{self.folder}: cannot read it: it is a folder', done.stdout + done.stderr)
+
+
 class Results(Case):
     def test_no_table_is_written_over_a_source(self):
         source, other = self.write('a.rpp', LOOSE), self.write('b.rpp', LOOSE)
