@@ -5,12 +5,17 @@
     said.is_own                             # whether the sentence is of this very text, not the general one of the rule
 
 Only the program says that a text is refused, and where; this module reads the text."""
+import re
 from typing import NamedTuple, Optional, Tuple
 
 from .fault_slots import Where, fault_slots
 from .rules import FAULT_OF, REFUSAL_OF, Rule
 from .slots import filled, slots
 from .syntax import Edit, byte_hint, syntax_hint
+
+# A comment that goes on where a line ends with CR and no LF, and such a CR.
+HIDING = re.compile(rb'//[^\n]*?\r[^\n]*[^\s]')
+ONLY_CR = re.compile(rb'\r(?!\n)')
 
 
 class Message(NamedTuple):
@@ -33,6 +38,9 @@ def of_refusal(text: bytes, number: int, at: Optional[int]) -> Message:
     rule = REFUSAL_OF.get(number)
     if rule is None or at is None:
         return Message(rule, rule.sentence if rule else '', rule.fix if rule else '')
+    hiding = HIDING.search(text)
+    if hiding and hiding.start() <= at and len(ONLY_CR.findall(text)) > text.count(b'\n'):
+        return of_hiding_comment(text, rule, hiding.start())
     if rule.name == 'Syntax':
         return of_syntax(text, rule, at)
     if rule.name == 'BadByte':
@@ -41,6 +49,13 @@ def of_refusal(text: bytes, number: int, at: Optional[int]) -> Message:
             return Message(rule, hint.sentence, hint.fix, '', hint.edits, hint.title, True)
     found = filled(rule.forms, slots(text, number, at), rule.fix)
     return Message(rule, *(found or (rule.sentence, rule.fix)), is_own=found is not None)
+
+
+def of_hiding_comment(text: bytes, rule: Rule, begin: int) -> Message:
+    edits = tuple(Edit(found.start(), found.end(), '\n') for found in ONLY_CR.finditer(text))
+    line = text.count(b'\n', 0, begin) + 1
+    return Message(rule, f'Lines must end with LF: these end with CR and no LF, so the comment of line {line} goes on and hides what follows.',
+                   'Save the source with line ends LF or CR LF.', '', edits, 'Write line feeds', True)
 
 
 def of_syntax(text: bytes, rule: Rule, at: int) -> Message:
