@@ -230,12 +230,14 @@ def laid_out(text: bytes, source: Source) -> bytes:
 def layout_edits(text: bytes, source: Source) -> List[Tuple[int, int, bytes]]:
     """What the layout changes between the tokens: from byte to byte, and what is there afterwards. Nothing where tokens would change."""
     made = laid_out(text, source)
+    # (a character for each byte, as the tokens have it)
+    letters = made.decode('latin-1')
     found, end, other_end = [], 0, 0
     for one, other in zip_longest(chain(source.tokens, [Token('end', '', len(text))]), chain(spans(made), [(len(made),) * 2])):
         if one is None or other is None:
             return []
         (_, word, begin), (other_begin, behind) = one, other
-        if word.encode('latin-1') != made[other_begin:behind]:
+        if word != letters[other_begin:behind]:
             return []
         if text[end:begin] != made[other_end:other_begin]:
             found.append((end, begin, made[other_end:other_begin]))

@@ -1,6 +1,7 @@
 """A language server: what the program's `check` says of each open text, and help in writing one.
 
 It checks nothing itself. Whether a text is accepted, also after a rename, is what the program says."""
+import gc
 import os
 import pathlib
 import sys
@@ -23,6 +24,8 @@ from .tokens import is_name
 
 # (so many seconds without a message, and a changed text is checked)
 QUIET = 0.1
+# (a long text is 100,000 objects, none of them garbage; Python would look at all of them several times for one answer)
+OBJECTS = 200_000
 SYMBOL_KINDS = {'class': 5, 'method': 6, 'field': 8}
 ITEM_KINDS = {'class': 7, 'method': 2, 'field': 5, 'variable': 6, 'keyword': 14}
 # The commands of the lenses.
@@ -65,7 +68,8 @@ class Document:
         return self._glance
 
     def point(self, at: int) -> Dict[str, int]:
-        return self.places.position(at)._asdict()
+        line, character = self.places.position(at)
+        return {'line': line, 'character': character}
 
     def range(self, begin: int, end: int) -> Dict[str, Any]:
         return {'start': self.point(begin), 'end': self.point(end)}
@@ -98,6 +102,7 @@ class Server:
 
     def serve(self) -> int:
         """Answers until `exit` or the end of the stream. A text is checked when no message has come for a moment."""
+        gc.set_threshold(OBJECTS)
         quiet_at = 0.0
         while True:
             left = max(0.0, quiet_at - time.monotonic()) if self.waiting else None

@@ -83,8 +83,9 @@ class Text:
         return self.starts[row] + len(before.encode('utf-8'))
 
     def position(self, offset: int) -> Position:
-        row = self.row(offset)
-        before = self.content[self.starts[row]:self.within(offset)]
+        offset = self.within(offset)
+        row = bisect.bisect_right(self.starts, offset) - 1
+        before = self.content[self.starts[row]:offset]
         return Position(row, len(before) if before.isascii() else utf16_length(decoded(before)))
 
     def position_offset(self, line: int, character: int) -> int:
