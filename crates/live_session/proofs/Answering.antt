@@ -1,0 +1,160 @@
+-- What is put of the reply to a request.
+use Rattle.std.proofs.Common.{◌≡◌, ◌∙◌, refl, sym, ap, subst, ℕ, List, ◌∷◌, Bool, false, true, Some, None, Ok, Err, inl, inr}
+use Rattle.std.specs.Prelude.{Option, Result, ⊤}
+use Rattle.source_debugger.specs.meaning_points.rpp_tree.Views.{source_of}
+use Rattle.source_debugger.specs.Standing.{Standing, run_of}
+use Rattle.pisa_scripts.specs.declared.command.Command.{Command}
+use Rattle.live_port.specs.rpp_ports.declared.sink.SinkFault.{SinkFault}
+use Rattle.live_port.specs.Heard.{Heard, Line, Long, Lost, Over, Failed, Tells}
+use Rattle.live_requests.specs.declared.request.Request.{Request}
+use Rattle.live_requests.specs.declared.request.Request.TheVariants.{Nothing, Carry, Quit, Bad}
+use Rattle.live_requests.specs.Requests.{request_of, is_quit}
+use Rattle.live_session.specs.declared.ends.End.TheVariants as end
+use Rattle.live_session.specs.Ends.{end_line}
+use Rattle.live_session.specs.Talks.{Talk, Printed, Puts, status_by}
+use Rattle.live_session.specs.Sessions.{IsReply, IsLine, quits}
+use Rattle.live_session.specs.Serving.{IsSameRun, Answers, IsReplyTo, PutsText, PutsBye, PutsBy, Goes}
+use Rattle.live_session.proofs.Putting.{by_text, goes}
+
+-- what is put of the reply to a request
+abbrev pub PutsTo : Request → (quit : Bool) → (before after : Standing) → (old new : Printed) → Option ℕ → Type 0
+PutsTo request quit before after old new result =
+    PutsBy (IsReplyTo (source_of before.program) (run_of before) request before.position) quit ⊤ before after old new
+    result
+
+pub carried_said : (before after : Standing) (command : Command) (text shown : List ℕ) (old new : Printed)
+    (result : Option ℕ) → Answers before (Carry command) after text → shown ≡ text → PutsText shown old new result
+    → PutsTo (Carry command) false before after old new result
+carried_said before after command text shown old new result answers is puts =
+    by_text (IsReplyTo (source_of before.program) (run_of before) (Carry command) before.position) false ⊤ before after
+    old new result text (subst (λ (t : List ℕ). PutsText t old new result) is puts) (inl answers.replied) refl
+    answers.same
+
+pub unsaid : (before after : Standing) (request : Request) (quit : Bool) (old new : Printed) (result : Option ℕ)
+    → after ≡ before → quit ≡ false → PutsText (end_line end.Memory) old new result
+    → PutsTo request quit before after old new result
+unsaid before after request quit old new result same on puts =
+    by_text (IsReplyTo (source_of before.program) (run_of before) request before.position) quit ⊤ before after old new
+    result (end_line end.Memory) puts (inr (refl, ap (λ (d : Standing). d.position) same)) on
+    (subst (λ (d : Standing). IsSameRun before d) (sym same) refl)
+
+pub roomless : (before after : Standing) (request : Request) (quit : Bool) (old : Printed)
+    → PutsTo request quit before after old old (Some 7)
+roomless before after request quit old = inr (inr (tt, refl, refl))
+
+pub nothing_said : (d : Standing) (request : Request) (old new : Printed) (result : Option ℕ) → request ≡ Nothing
+    → PutsText (end_line end.Done) old new result → PutsTo request (is_quit request) d d old new result
+nothing_said d request old new result is puts =
+    subst (λ (r : Request). PutsTo r (is_quit r) d d old new result) (sym is)
+    (by_text (IsReplyTo (source_of d.program) (run_of d) Nothing d.position) false ⊤ d d old new result
+    (end_line end.Done) puts (inl refl) refl refl)
+
+pub bad_said : (d : Standing) (request : Request) (old new : Printed) (result : Option ℕ) → request ≡ Bad
+    → PutsText (end_line end.Bad) old new result → PutsTo request (is_quit request) d d old new result
+bad_said d request old new result is puts =
+    subst (λ (r : Request). PutsTo r (is_quit r) d d old new result) (sym is)
+    (by_text (IsReplyTo (source_of d.program) (run_of d) Bad d.position) false ⊤ d d old new result (end_line end.Bad)
+    puts (inl refl) refl refl)
+
+pub carry_said : (before after : Standing) (request : Request) (command : Command) (old new : Printed)
+    (result : Option ℕ) → request ≡ Carry command → PutsTo (Carry command) false before after old new result
+    → PutsTo request (is_quit request) before after old new result
+carry_said before after request command old new result is puts =
+    subst (λ (r : Request). PutsTo r (is_quit r) before after old new result) (sym is) puts
+
+bye : (d : Standing) (old new : Printed) (status : ℕ) (answer : Result (Unit {0}) SinkFault)
+    → Puts (end_line end.Bye) answer old new → status ≡ status_by 0 answer
+    → PutsTo Quit true d d old new (Some status)
+bye d old new status (Ok _) puts is =
+    inl (record { reply = end_line end.Bye; is_reply = inl refl; ends = refl; puts = puts; status_is = is })
+bye d old new status (Err fault) puts is = inr (inl (record {
+  reply = end_line end.Bye;
+  to = d.position;
+  fault = fault;
+  is_reply = inl refl;
+  puts = puts;
+  status_is = is;
+}))
+
+pub bye_put : (text : List ℕ) (answer : Result (Unit {0}) SinkFault) (old new : Printed) (status : ℕ)
+    → text ≡ end_line end.Bye → Puts text answer old new → status ≡ status_by 0 answer → PutsBye old new status
+bye_put text answer old new status is puts status_is = record {
+  answer = answer;
+  puts = subst (λ (t : List ℕ). Puts t answer old new) is puts;
+  status_is = status_is;
+}
+
+pub quit_said : (d : Standing) (request : Request) (old new : Printed) (status : ℕ) → request ≡ Quit
+    → PutsBye old new status → PutsTo request (is_quit request) d d old new (Some status)
+quit_said d request old new status is puts =
+    subst (λ (r : Request). PutsTo r (is_quit r) d d old new (Some status)) (sym is)
+    (bye d old new status puts.answer puts.puts puts.status_is)
+
+-- what is put of the reply to a line
+abbrev pub PutsToHeard : Heard → (N : Type 0) → (before after : Standing) → (old new : Printed) → Option ℕ → Type 0
+PutsToHeard it N before after old new result =
+    PutsBy (IsReply (source_of before.program) (run_of before) it before.position) (quits it) N before after old new
+    result
+
+pub line_said : (before after : Standing) (line : List ℕ) (request : Request) (old new : Printed) (result : Option ℕ)
+    → request ≡ request_of line → PutsTo request (is_quit request) before after old new result
+    → PutsToHeard (Line line) ⊤ before after old new result
+line_said before after line request old new result is puts =
+    subst (λ (r : Request). PutsTo r (is_quit r) before after old new result) is puts
+
+pub line_unsaid : (d : Standing) (line : List ℕ) (old new : Printed) (result : Option ℕ)
+    → is_quit (request_of line) ≡ false → PutsText (end_line end.Memory) old new result
+    → PutsToHeard (Line line) ⊤ d d old new result
+line_unsaid d line old new result on puts =
+    unsaid d d (request_of line) (is_quit (request_of line)) old new result refl on puts
+
+pub long_said : (d : Standing) (old new : Printed) (result : Option ℕ) → PutsText (end_line end.Long) old new result
+    → PutsToHeard Long ⊥ d d old new result
+long_said d old new result puts =
+    by_text (IsReply (source_of d.program) (run_of d) Long d.position) false ⊥ d d old new result (end_line end.Long)
+    puts (refl, refl) refl refl
+
+pub lost_said : (d : Standing) (old new : Printed) (result : Option ℕ) → PutsText (end_line end.Memory) old new result
+    → PutsToHeard Lost ⊥ d d old new result
+lost_said d old new result puts =
+    by_text (IsReply (source_of d.program) (run_of d) Lost d.position) false ⊥ d d old new result
+    (end_line end.Memory) puts (refl, refl) refl refl
+
+-- ---- what comes of what is heard
+
+pub heard_goes : (before after : Standing) (talk : Talk) (lines : Option (List (List ℕ))) (heard : List Heard)
+    (new : Printed) (result : Option ℕ) (it₀ it : Heard) (N : Type 0) → it₀ ≡ it → Tells talk.lines it₀ lines
+    → heard ≡ it₀ ∷ talk.heard → (N → IsLine it) → PutsToHeard it N before after talk.out new result
+    → Goes before after talk (record { lines = lines; heard = heard; out = new }) result
+heard_goes before after talk lines heard new result it₀ it N is told noted line puts =
+    let between : Talk = record { lines = lines; heard = heard; out = talk.out } in
+    let talk' : Talk = record { lines = lines; heard = heard; out = new } in
+    goes it N before after talk between talk' result (record {
+      told = subst (λ (i : Heard). Tells talk.lines i lines) is told;
+      noted = noted ∙ ap (λ (i : Heard). i ∷ talk.heard) is;
+      silent = refl;
+    }) line puts refl refl
+
+pub over_goes : (d : Standing) (talk : Talk) (lines : Option (List (List ℕ))) (heard : List Heard) (it : Heard)
+    → it ≡ Over → Tells talk.lines it lines → heard ≡ it ∷ talk.heard
+    → Goes d d talk (record { lines = lines; heard = heard; out = talk.out }) (Some 0)
+over_goes d talk lines heard it is told noted = inl (
+  inl (record {
+    told = subst (λ (i : Heard). Tells talk.lines i lines) is told;
+    noted = noted ∙ ap (λ (i : Heard). i ∷ talk.heard) is;
+    silent = refl;
+  }),
+  refl,
+)
+
+pub failed_goes : (d : Standing) (talk : Talk) (lines : Option (List (List ℕ))) (heard : List Heard) (it : Heard)
+    → it ≡ Failed → Tells talk.lines it lines → heard ≡ it ∷ talk.heard
+    → Goes d d talk (record { lines = lines; heard = heard; out = talk.out }) (Some 2)
+failed_goes d talk lines heard it is told noted = inr (inl (
+  record {
+    told = subst (λ (i : Heard). Tells talk.lines i lines) is told;
+    noted = noted ∙ ap (λ (i : Heard). i ∷ talk.heard) is;
+    silent = refl;
+  },
+  refl,
+))

@@ -1,0 +1,4 @@
+pub mod Carried
+pub mod Putting
+pub mod Answering
+pub mod Scripted

@@ -1,0 +1,192 @@
+-- The lines of a script are requests.
+use Rattle.std.proofs.Common.{◌≡◌, ◌∙◌, refl, sym, ap, subst, cond, ℕ, zero, suc, ◌+◌, List, [], ◌∷◌, ◌++◌, Bool, true, false, Some, None, Result, Ok, Err, append_assoc, append-nil}
+use Rattle.std.specs.Prelude.{Option, nat_eq, ◌&&◌, ◌||◌, if◌then◌else◌, codes}
+use Rattle.std.proofs.lemmas.Bool.{false_from_ne_true}
+use Rattle.std.proofs.lemmas.Slice.Eq.{bytes_eq-Decides}
+use Rattle.std.specs.List.{list_any, list_all, slice_split, onto_first}
+use Rattle.std.specs.Str.{bytes_eq}
+use Rattle.pisa_scripts.specs.Lines.{is_blank, pieces, begins_with, kept_byte, without_returns}
+use Rattle.pisa_scripts.specs.declared.command.Command.{Command}
+use Rattle.source_debugger.specs.meaning_points.rpp_tree.Tree.{Source}
+use Rattle.source_debugger.specs.meaning_points.Trail.{Trail}
+use Rattle.source_debugger.specs.Shown.{Told, told, told_by, and_told, behind_text}
+use Rattle.live_requests.specs.two_way_debugger.declared.error.ScriptError.{ScriptError}
+use Rattle.live_requests.specs.two_way_debugger.Scripts.{script_of, command_of, with_command, with_line, and_then, commands_from}
+use Rattle.live_requests.specs.declared.request.Request.{Request}
+use Rattle.live_requests.specs.declared.request.Request.TheVariants.{Nothing, Carry, Quit, Bad}
+use Rattle.live_requests.specs.Requests.{asked, read_as, request_of}
+use Rattle.live_session.specs.Replies.{said, said_of}
+
+-- ---- lines have no line feed
+
+abbrev has_feed : List ℕ → Bool
+has_feed line = list_any (λ b. nat_eq b 10) line
+
+-- none of the lines has one
+abbrev HaveNone : List (List ℕ) → Type 0
+HaveNone [] = Unit {0}
+HaveNone (line ∷ lines) = (has_feed line ≡ false) × HaveNone lines
+
+none_onto : (x : ℕ) (lines : List (List ℕ)) → nat_eq x 10 ≡ false → HaveNone lines → HaveNone (onto_first x lines)
+none_onto x [] is none = (rw is refl, tt)
+none_onto x (line ∷ lines) is none = (rw (is, none.0) refl, none.1)
+
+none_cond : (b : Bool) (x : ℕ) (lines : List (List ℕ)) → nat_eq x 10 ≡ b → HaveNone lines
+    → HaveNone (cond b ([] ∷ lines) (onto_first x lines))
+none_cond true x lines is none = (refl, none)
+none_cond false x lines is none = none_onto x lines is none
+
+pieces_none : (bytes : List ℕ) → HaveNone (slice_split (λ b. nat_eq b 10) bytes)
+pieces_none [] = (refl, tt)
+pieces_none (b ∷ bytes) = none_cond (nat_eq b 10) b (slice_split (λ b. nat_eq b 10) bytes) refl (pieces_none bytes)
+
+or_left : (a b : Bool) → (a || b) ≡ false → a ≡ false
+or_left true b e = e
+or_left false b e = refl
+
+or_right : (a b : Bool) → (a || b) ≡ false → b ≡ false
+or_right true b e = cc
+or_right false b e = e
+
+split_whole : (line : List ℕ) → has_feed line ≡ false → pieces 10 line ≡ line ∷ []
+split_whole [] none = refl
+split_whole (b ∷ line) none =
+    rw (or_left (nat_eq b 10) (has_feed line) none, split_whole line (or_right (nat_eq b 10) (has_feed line) none)) refl
+
+begins_not : (line : List ℕ) → has_feed line ≡ false → begins_with 10 line ≡ false
+begins_not [] none = refl
+begins_not (b ∷ line) none = or_left (nat_eq b 10) (has_feed line) none
+
+and_no : (a : Bool) → (a && false) ≡ false
+and_no true = refl
+and_no false = refl
+
+returns_whole : (line : List ℕ) → has_feed line ≡ false → without_returns line ≡ line
+returns_whole [] none = refl
+returns_whole (b ∷ line) none =
+    let rest = or_right (nat_eq b 10) (has_feed line) none in
+    rw (begins_not line rest, and_no (nat_eq b 13), returns_whole line rest) refl
+
+-- ---- what one line asks
+
+last_line : (read : Result (List Command) ScriptError) → and_then read (λ more. commands_from 2 more []) ≡ read
+unfolding commands_from
+last_line (Ok commands) = refl
+last_line (Err e) = refl
+
+one_line : (line : List ℕ) → has_feed line ≡ false → script_of line ≡ with_line 1 [] line
+unfolding commands_from
+one_line line none =
+    ap (λ (text : List ℕ). commands_from 1 [] (pieces 10 text)) (returns_whole line none)
+    ∙ ap (commands_from 1 []) (split_whole line none) ∙ last_line (with_line 1 [] line)
+
+quit_is_no_command : command_of (pieces 32 (codes "quit")) ≡ None
+unfolding command_of
+quit_is_no_command = refl
+
+none_some : (command : Command) → None ≡ Some command → ⊥
+none_some command e = cc
+
+err_ok : {line : ScriptError} {commands : List Command} → Err line ≡ Ok commands → ⊥
+err_ok e = cc
+
+abbrev good : List Command → Result (List Command) ScriptError
+good commands = Ok commands
+
+ok_ok : {one two : List Command} → good one ≡ good two → one ≡ two
+ok_ok e = cc
+
+no_quit : (line : List ℕ) → (line ≡ codes "quit" → ⊥) → bytes_eq line (codes "quit") ≡ false
+no_quit line other = false_from_ne_true (bytes_eq line (codes "quit"))
+    (λ e. other ((bytes_eq-Decides line (codes "quit")).0 e))
+
+blank_quit : is_blank (codes "quit") ≡ true → ⊥
+blank_quit e = cc
+
+command_quit : (command : Command) → command_of (pieces 32 (codes "quit")) ≡ Some command → ⊥
+command_quit command e = none_some command (sym quit_is_no_command ∙ e)
+
+asks_read : (line : List ℕ) → has_feed line ≡ false → (line ≡ codes "quit" → ⊥)
+    → request_of line ≡ read_as (with_line 1 [] line)
+asks_read line none other = rw (no_quit line other, one_line line none) refl
+
+blank_asks : (line : List ℕ) → has_feed line ≡ false → is_blank line ≡ true → request_of line ≡ Nothing
+blank_asks line none blank =
+    asks_read line none (λ e. blank_quit (subst (λ (l : List ℕ). is_blank l ≡ true) e blank)) ∙ rw blank refl
+
+command_asks : (line : List ℕ) (command : Command) → has_feed line ≡ false → is_blank line ≡ false
+    → command_of (pieces 32 line) ≡ Some command → request_of line ≡ Carry command
+command_asks line command none blank is =
+    asks_read line none (λ e. command_quit command
+    (subst (λ (l : List ℕ). command_of (pieces 32 l) ≡ Some command) e is)) ∙ rw (blank, is) refl
+
+-- ---- line by line
+
+behind_nothing : (o : Option Told) → behind_text [] o ≡ o
+behind_nothing None = refl
+behind_nothing (Some t) = refl
+
+said_next : (o : Option Told) (f g : ℕ → Option Told) → ((j : ℕ) → f j ≡ g j) → and_told o f ≡ and_told o g
+said_next None f g same = refl
+said_next (Some t) f g same = ap (behind_text t.text) (same t.position)
+
+-- the commands of these lines come after others, and print what the lines do
+record AreLines (before commands : List Command) (lines : List (List ℕ)) : Type 0 where
+  rest : List Command
+  joined : commands ≡ before ++ rest
+  same : (program : Source) (trail : Trail) (j : ℕ) → said_of program trail lines j ≡ told program trail rest j
+
+blank_line : (before commands : List Command) (line : List ℕ) (lines : List (List ℕ)) → request_of line ≡ Nothing
+    → AreLines before commands lines → AreLines before commands (line ∷ lines)
+blank_line before commands line lines is h = record {
+  rest = h.rest;
+  joined = h.joined;
+  same = λ program trail j.
+      ap (λ (r : Request). and_told (said program trail r j) (said_of program trail lines)) is
+      ∙ behind_nothing (said_of program trail lines j) ∙ h.same program trail j;
+}
+
+command_line : (before commands : List Command) (command : Command) (line : List ℕ) (lines : List (List ℕ))
+    → request_of line ≡ Carry command → AreLines (before ++ command ∷ []) commands lines
+    → AreLines before commands (line ∷ lines)
+command_line before commands command line lines is h = record {
+  rest = command ∷ h.rest;
+  joined = h.joined ∙ append_assoc before (command ∷ []) h.rest;
+  same = λ program trail j.
+      ap (λ (r : Request). and_told (said program trail r j) (said_of program trail lines)) is
+      ∙ said_next (told_by program trail command j) (said_of program trail lines) (told program trail h.rest)
+      (h.same program trail);
+}
+
+-- one line, by whether it is blank, and by the command that it is
+by_line : (n : ℕ) (before commands : List Command) (line : List ℕ) (lines : List (List ℕ)) (b : Bool)
+    (o : Option Command) → has_feed line ≡ false → is_blank line ≡ b → command_of (pieces 32 line) ≡ o
+    → ((more : List Command) → commands_from (n + 1) more lines ≡ Ok commands → AreLines more commands lines)
+    → and_then (if b then Ok before else with_command n before o) (λ more. commands_from (n + 1) more lines)
+    ≡ Ok commands
+    → AreLines before commands (line ∷ lines)
+by_line n before commands line lines true o none blank is next e =
+    blank_line before commands line lines (blank_asks line none blank) (next before e)
+by_line n before commands line lines false (Some command) none blank is next e =
+    command_line before commands command line lines (command_asks line command none blank is)
+    (next (before ++ command ∷ []) e)
+by_line n before commands line lines false None none blank is next e = absurd (err_ok e)
+
+are_lines : (n : ℕ) (before commands : List Command) (lines : List (List ℕ)) → HaveNone lines
+    → commands_from n before lines ≡ Ok commands → AreLines before commands lines
+unfolding commands_from
+are_lines n before commands [] none e = record {
+  rest = [];
+  joined = sym (ok_ok e) ∙ sym (append-nil before);
+  same = λ program trail j. refl;
+}
+are_lines n before commands (line ∷ lines) none e =
+    by_line n before commands line lines (is_blank line) (command_of (pieces 32 line)) none.0 refl refl
+    (λ more. are_lines (n + 1) more commands lines none.1) e
+
+pub script_is_session : (program : Source) (trail : Trail) (script : List ℕ) (commands : List Command) (j : ℕ)
+    → script_of script ≡ Ok commands
+    → said_of program trail (pieces 10 (without_returns script)) j ≡ told program trail commands j
+script_is_session program trail script commands j read =
+    let h = are_lines 1 [] commands (pieces 10 (without_returns script)) (pieces_none (without_returns script)) read in
+    h.same program trail j ∙ ap (λ (c : List Command). told program trail c j) (sym h.joined)

@@ -1,0 +1,23 @@
+use Rattle.source_debugger.specs.meaning_points.rpp_tree.Views.{source_of}
+use Rattle.source_debugger.specs.Standing.{run_of}
+use Rattle.live_session.specs.Sessions.{Exchanges}
+use Rattle.live_session.specs.Serving.{IsSameRun}
+use Rattle.live_session.proofs.session.serve.Given as goal
+
+-- so many lines were heard and answered
+abbrev pub invariant-loop : goal.invariant-loop
+invariant-loop g l = record {
+  exchanges : Exchanges (source_of l.fn.debugger.program) (run_of l.fn.debugger) l.counter l.fn.debugger.position
+      l.debugger.position
+      (record {
+        lines = g.A.Asker.lines l.fn.asker;
+        heard = g.A.Asker.events l.fn.asker;
+        out = record { bytes = g.K.Sink.written l.fn.out; puts = g.K.Sink.puts l.fn.out };
+      })
+      (record {
+        lines = g.A.Asker.lines l.asker;
+        heard = g.A.Asker.events l.asker;
+        out = record { bytes = g.K.Sink.written l.out; puts = g.K.Sink.puts l.out };
+      });
+  same : IsSameRun l.fn.debugger l.debugger;
+}

@@ -1,0 +1,45 @@
+-- How replies end.
+use Rattle.std.specs.Prelude.{ℕ, ◌==◌, ◌+◌, ◌-◌, Bool, ◌&&◌, nat_lt, if◌then◌else◌, List, ◌++◌, codes}
+use Rattle.std.specs.List.{list_any}
+use Rattle.pisa_scripts.specs.rpp_words.Texts.{line_end}
+use Rattle.pisa_scripts.specs.declared.command.Command.{Command}
+use Rattle.pisa_scripts.specs.declared.command.Command.TheVariants.{Step, Back, To, BackTo}
+use Rattle.pisa_scripts.specs.declared.command.Command.TheVariants.{Regs, Cells}
+use Rattle.live_session.specs.declared.ends.End.{End}
+use Rattle.live_session.specs.declared.ends.End.TheVariants.{Done, Start, Over, Fault, Bad, Long}
+use Rattle.live_session.specs.declared.ends.End.TheVariants.{Memory, Bye}
+
+-- the last line of a reply
+abbrev pub end_line : End → List ℕ
+end_line Done = codes ". done" ++ line_end
+end_line Start = codes ". start" ++ line_end
+end_line Over = codes ". end" ++ line_end
+end_line Fault = codes ". fault" ++ line_end
+end_line Bad = codes ". bad" ++ line_end
+end_line Long = codes ". long" ++ line_end
+end_line Memory = codes ". memory" ++ line_end
+end_line Bye = codes ". bye" ++ line_end
+
+-- whether fewer moves were made than were allowed
+abbrev pub is_short : (most from to : ℕ) → Bool
+is_short most from to = nat_lt (to - from + (from - to)) most
+
+-- whether a text has a letter
+abbrev pub has : ℕ → List ℕ → Bool
+has letter text = list_any (λ b. b == letter) text
+
+-- How moves ended, by the line on them. It is `at J place P depth D` or `at J end`, and then perhaps
+-- ` start` or ` fault C NAME`. Only a fault has an f, else only ` start` has an s, else only ` end`
+-- has an n. `short` says that fewer were made than were allowed.
+abbrev pub end_in : (short : Bool) → List ℕ → End
+end_in short text = if has 102 text then Fault else if has 115 text then Start
+    else if has 110 text && short then Over else Done
+
+-- how the reply to a command ends that led from a position to another, and printed this
+abbrev pub end_shown : Command → (from to : ℕ) → List ℕ → End
+end_shown (Step n) from to text = end_in (is_short n from to) text
+end_shown (Back n) from to text = end_in (is_short n from to) text
+end_shown (To place n) from to text = end_in (is_short n from to) text
+end_shown (BackTo place n) from to text = end_in (is_short n from to) text
+end_shown Regs from to text = Done
+end_shown (Cells number count) from to text = Done

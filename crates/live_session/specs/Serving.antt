@@ -1,0 +1,88 @@
+-- What the parts of a session say of a debugger, and of what they put.
+use Rattle.std.specs.Prelude.{◌≡◌, ◌⊎◌, ℕ, Bool, true, false, List, None, Some, Result, Ok, Err}
+use Rattle.std.specs.declared.option.Option.{Option}
+use Rattle.source_debugger.specs.meaning_points.rpp_tree.Tree.{Source}
+use Rattle.source_debugger.specs.meaning_points.rpp_tree.Views.{source_of}
+use Rattle.source_debugger.specs.meaning_points.Trail.{Trail}
+use Rattle.source_debugger.specs.Standing.{Standing, run_of}
+use Rattle.live_port.specs.rpp_ports.declared.sink.SinkFault.{SinkFault}
+use Rattle.live_requests.specs.declared.request.Request.{Request}
+use Rattle.live_session.specs.declared.ends.End.TheVariants.{Memory, Bye}
+use Rattle.live_session.specs.Ends.{end_line}
+use Rattle.live_session.specs.Replies.{replied}
+use Rattle.live_session.specs.Talks.{Talk, Printed, Puts, status_by, over_by}
+use Rattle.live_session.specs.Sessions.{IsAlone, Replies, Closes}
+
+-- a debugger of the same run, at some position
+abbrev pub IsSameRun : (before after : Standing) → Type 0
+IsSameRun before after = after ≡ record before { position = after.position }
+
+-- this is the reply to a request
+pub record Answers (before : Standing) (request : Request) (after : Standing) (reply : List ℕ)
+    : Type 0 where
+  pub replied : replied (source_of before.program) (run_of before) request before.position
+      ≡ Some (record { position = after.position; text = reply })
+  pub same : IsSameRun before after
+
+-- the reply to a request, or that there is no memory for it
+abbrev pub IsReplyTo : Source → Trail → Request → (from : ℕ) → (reply : List ℕ) → (to : ℕ) → Type 0
+IsReplyTo program trail request from reply to =
+    (replied program trail request from ≡ Some (record { position = to; text = reply }))
+    ⊎ IsAlone Memory from reply to
+
+-- a text was put; if it was not taken, the session ends with this status
+pub record PutsText (text : List ℕ) (old new : Printed) (over : Option ℕ) : Type 0 where
+  pub answer : Result (Unit {0}) SinkFault
+  pub puts : Puts text answer old new
+  pub over_is : over ≡ over_by answer
+
+-- the last reply was put, and the session ends with this status
+pub record PutsBye (old new : Printed) (status : ℕ) : Type 0 where
+  pub answer : Result (Unit {0}) SinkFault
+  pub puts : Puts (end_line Bye) answer old new
+  pub status_is : status ≡ status_by 0 answer
+
+-- a reply was put, and the session goes on
+pub record PutsReply (R : (reply : List ℕ) → (to : ℕ) → Type 0) (quit : Bool)
+    (before after : Standing) (old new : Printed) : Type 0 where
+  pub reply : List ℕ
+  pub is_reply : R reply after.position
+  pub goes_on : quit ≡ false
+  pub puts : Puts reply (Ok tt) old new
+  pub same : IsSameRun before after
+
+-- or it ends: by `quit`, since a reply was not taken, or since there is no memory for its last line
+pub record PutsLast (R : (reply : List ℕ) → (to : ℕ) → Type 0) (quit : Bool) (from : ℕ)
+    (old new : Printed) (status : ℕ) : Type 0 where
+  pub reply : List ℕ
+  pub is_reply : R reply from
+  pub ends : quit ≡ true
+  pub puts : Puts reply (Ok tt) old new
+  pub status_is : status ≡ 0
+
+pub record FailsToPut (R : (reply : List ℕ) → (to : ℕ) → Type 0) (old new : Printed) (status : ℕ)
+    : Type 0 where
+  pub reply : List ℕ
+  pub to : ℕ
+  pub fault : SinkFault
+  pub is_reply : R reply to
+  pub puts : Puts reply (Err fault) old new
+  pub status_is : status ≡ status_by 0 (Err fault)
+
+abbrev pub PutsNothing : (N : Type 0) → (old new : Printed) → (status : ℕ) → Type 0
+PutsNothing N old new status = N × (new ≡ old) × (status ≡ 7)
+
+-- what was put of a reply as R says, which leads somewhere; N says that it may need memory
+abbrev pub PutsBy : (R : (reply : List ℕ) → (to : ℕ) → Type 0) → (quit : Bool) → (N : Type 0)
+    → (before after : Standing) → (old new : Printed) → Option ℕ → Type 0
+PutsBy R quit N before after old new None = PutsReply R quit before after old new
+PutsBy R quit N before after old new (Some status) = PutsLast R quit before.position old new status
+    ⊎ (FailsToPut R old new status ⊎ PutsNothing N old new status)
+
+-- what comes of a line: its reply, and the session goes on, or it ends with a status
+abbrev pub Goes : (before after : Standing) → (talk talk' : Talk) → Option ℕ → Type 0
+Goes before after talk talk' None =
+    Replies (source_of before.program) (run_of before) false (Ok tt) before.position
+    after.position talk talk' × IsSameRun before after
+Goes before after talk talk' (Some status) =
+    Closes (source_of before.program) (run_of before) before.position talk talk' status

@@ -1,0 +1,92 @@
+// How replies end.
+ghost use Rattle.std.specs.Prelude.{◌≡◌, ◌+◌, ◌-◌};
+ghost use Rattle.live_session.specs.Ends.{end_line as line_of_end, is_short as is_short_of, has as has_letter, end_in as end_in_text, end_shown as shown_end};
+
+use pisa_scripts::Command;
+
+/// How a reply ends.
+#[derive(Clone, Copy, PartialEq, Eq, Debug)]
+pub enum End {
+    /// The reply is complete. After moves: all were made, or the place was met.
+    Done,
+    /// The moves back reached position 0 before all were made.
+    Start,
+    /// The run ended before all moves were made.
+    Over,
+    /// The run stops with a fault before all moves are made.
+    Fault,
+    /// The line is no request.
+    Bad,
+    /// The line is too long.
+    Long,
+    /// There was no memory. The position is as before.
+    Memory,
+    /// The session is over.
+    Bye,
+}
+
+/// The last line of a reply.
+pub fn end_line(end: End) -> &'static str
+    ensures { result.now ≡ line_of_end end }
+{
+    match end {
+        End::Done => ". done\n",
+        End::Start => ". start\n",
+        End::Over => ". end\n",
+        End::Fault => ". fault\n",
+        End::Bad => ". bad\n",
+        End::Long => ". long\n",
+        End::Memory => ". memory\n",
+        End::Bye => ". bye\n",
+    }
+}
+
+// How many moves lie between two positions.
+fn distance(from: u64, to: u64) -> u64
+    ensures { result ≡ to - from + (from - to) }
+{
+    if from <= to { to - from } else { from - to }
+}
+
+// Whether fewer moves were made than were allowed.
+fn is_short(most: u64, from: u64, to: u64) -> bool
+    ensures { result ≡ is_short_of most from to }
+{
+    distance(from, to) < most
+}
+
+// How moves ended, by the line on them. Its other words have none of these letters.
+fn end_in(short: bool, text: &str) -> End
+    ensures { result ≡ end_in_text short text.now }
+{
+    if has(b'f', text) {
+        return End::Fault;
+    }
+    if has(b's', text) {
+        return End::Start;
+    }
+    if has(b'n', text) && short {
+        return End::Over;
+    }
+    End::Done
+}
+
+fn has(letter: u8, text: &str) -> bool
+    ensures { result ≡ has_letter letter text.now }
+{
+    text.as_bytes().contains(&letter)
+}
+
+/// How the reply to a command ends that led from a position to another, and printed this.
+pub(crate) fn end_shown(command: Command, from: u64, to: u64, text: &str) -> End
+    ensures { result ≡ shown_end command from to text.now }
+{
+    match command {
+        Command::Step(most) => end_in(is_short(most, from, to), text),
+        Command::Back(most) => end_in(is_short(most, from, to), text),
+        Command::To(_, most) => end_in(is_short(most, from, to), text),
+        Command::BackTo(_, most) => end_in(is_short(most, from, to), text),
+        Command::Regs => End::Done,
+        Command::Cells(_, _) => End::Done,
+    }
+}

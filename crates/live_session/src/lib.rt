@@ -1,0 +1,14 @@
+//! A live session: a run of a source that is held open. It hears lines, and puts one reply to each. The
+//! layer above may use that the replies are those of the definitions on the trace points of the run,
+//! in order, and that nothing else is put.
+#![tactic(auto)]
+
+mod ends;
+pub mod laws;
+mod replying;
+mod saying;
+mod session;
+
+pub use ends::{End, end_line};
+pub use saying::{say, status_by};
+pub use session::serve;

@@ -1,0 +1,127 @@
+// The replies to requests.
+ghost use Rattle.std.specs.Prelude.{◌≡◌, ◌++◌, false, ⊤, IfOk, IsErrOf, string_bytes};
+ghost use Rattle.source_debugger.specs.meaning_points.rpp_tree.Views.{source_of};
+ghost use Rattle.source_debugger.specs.Standing.{run_of};
+ghost use Rattle.live_requests.specs.declared.request.Request.TheVariants.{Carry};
+ghost use Rattle.live_requests.specs.Requests.{is_quit};
+ghost use Rattle.live_session.specs.Ends.{end_line as line_of_end, end_shown as end_of_command};
+ghost use Rattle.live_session.specs.Serving.{Answers, IsReplyTo, PutsText, PutsBye, PutsBy};
+
+use crate::ends::{End, end_line, end_shown};
+use crate::saying::{over_by, say, status_by};
+use live_requests::Request;
+use pisa_scripts::Command;
+use rpp_ports::Sink;
+use rpp_words::NoMemory;
+use source_debugger::SourceDebugger;
+use std::alloc::Global;
+
+const NO_MEMORY: u8 = 7;
+
+// Why there is no reply: no memory was left.
+#[derive(Clone, Copy, PartialEq, Eq, Debug)]
+enum Unanswered {
+    // For the command, and the position is as before.
+    Unmoved,
+    // Only for the last line.
+    Moved,
+}
+
+// Puts a reply. If it is not taken, the session ends.
+fn say_text<K: Sink>(out: &mut K, text: &str) -> Option<u8>
+    ensures { PutsText text.now
+        (record { bytes = K.written out.old; puts = K.puts out.old })
+        (record { bytes = K.written out.new; puts = K.puts out.new }) result }
+{
+    let answer = say(out, text);
+    over_by(answer)
+}
+
+/// Puts a reply that is one last line.
+pub(crate) fn say_end<K: Sink>(out: &mut K, end: End) -> Option<u8>
+    ensures { PutsText (line_of_end end)
+        (record { bytes = K.written out.old; puts = K.puts out.old })
+        (record { bytes = K.written out.new; puts = K.puts out.new }) result }
+{
+    say_text(out, end_line(end))
+}
+
+// Puts the last reply, and gives the status.
+fn say_bye<K: Sink>(out: &mut K) -> u8
+    ensures { PutsBye (record { bytes = K.written out.old; puts = K.puts out.old })
+        (record { bytes = K.written out.new; puts = K.puts out.new }) result }
+{
+    let answer = say(out, end_line(End::Bye));
+    status_by(0, answer)
+}
+
+// What a command printed, and the last line.
+fn ended(command: Command, from: u64, to: u64, text: String) -> Result<String, Unanswered>
+    ensures told { IfOk result (λ reply. string_bytes reply ≡ string_bytes text
+        ++ line_of_end (end_of_command command from to (string_bytes text))) }
+    ensures moved { IsErrOf result Unanswered.Unmoved → ⊥ }
+{
+    let mut text = text;
+    let end = end_shown(command, from, to, text.as_str());
+    match text.push_str(end_line(end)) {
+        Ok(()) => Ok(text),
+        Err(_) => Err(Unanswered::Moved),
+    }
+}
+
+// Carries out a command.
+fn carry_out(
+    alloc: Global,
+    debugger: &mut SourceDebugger<'_>,
+    command: Command,
+) -> Result<String, Unanswered>
+    ensures told { IfOk result
+        (λ text. Answers debugger.old (Carry command) debugger.new (string_bytes text)) }
+    ensures stays { IsErrOf result Unanswered.Unmoved → debugger.new ≡ debugger.old }
+{
+    let from = debugger.position();
+    let mut text = String::new(alloc);
+    match debugger.command(alloc, &command, &mut text) {
+        Ok(()) => ended(command, from, debugger.position(), text),
+        Err(NoMemory) => Err(Unanswered::Unmoved),
+    }
+}
+
+// Carries out a command, and puts the reply.
+fn say_carried<K: Sink>(
+    alloc: Global,
+    debugger: &mut SourceDebugger<'_>,
+    command: Command,
+    out: &mut K,
+) -> Option<u8>
+    ensures { PutsBy (IsReplyTo (source_of debugger.old.program) (run_of debugger.old)
+        (Carry command) debugger.old.position) false ⊤ debugger.old debugger.new
+        (record { bytes = K.written out.old; puts = K.puts out.old })
+        (record { bytes = K.written out.new; puts = K.puts out.new }) result }
+{
+    match carry_out(alloc, debugger, command) {
+        Ok(text) => say_text(out, text.as_str()),
+        Err(Unanswered::Unmoved) => say_end(out, End::Memory),
+        Err(Unanswered::Moved) => Some(NO_MEMORY),
+    }
+}
+
+/// Puts the reply to a request. There is a status where the session ends.
+pub(crate) fn answer<K: Sink>(
+    alloc: Global,
+    debugger: &mut SourceDebugger<'_>,
+    request: Request,
+    out: &mut K,
+) -> Option<u8>
+    ensures { PutsBy (IsReplyTo (source_of debugger.old.program) (run_of debugger.old) request
+        debugger.old.position) (is_quit request) ⊤ debugger.old debugger.new
+        (record { bytes = K.written out.old; puts = K.puts out.old })
+        (record { bytes = K.written out.new; puts = K.puts out.new }) result }
+{
+    match request {
+        Request::Nothing => say_end(out, End::Done),
+        Request::Carry(command) => say_carried(alloc, debugger, command, out),
+        Request::Quit => Some(say_bye(out)),
+        Request::Bad => say_end(out, End::Bad),
+    }
+}
