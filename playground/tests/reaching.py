@@ -78,6 +78,7 @@ WIDER = IS_DRAWN + '''
 return [...document.querySelectorAll(arguments[0])].filter(isDrawn).filter(it => it.scrollWidth > it.clientWidth + 1).map(it => it.id || it.className);
 '''
 KEYS = '.controls button, .controls select, #readout, #timeline, #head button, [role=tab], #limits, #limits input, #toast, #toast button'
+SMALL = (320, 720)
 SIZES = ((320, 700), (390, 844), (720, 500), (1024, 768), (1440, 1000))
 # Tries to reach the network in three ways, and gives the rules of the page's policy that forbid it.
 FETCHES = '''
@@ -201,11 +202,10 @@ def it_fits(page):
     for width, height in SIZES:
         page.browser.resize(width, height)
         fits(page, width)
-    page.browser.resize(1440, 1000)
+        if width in SMALL:
+            fits_with_more(page, width)
     page.run('document.getElementById("large").click()')
-    for width, height in ((720, 500), (1440, 1000)):
-        page.browser.resize(width, height)
-        fits(page, f'{width}, larger text')
+    fits(page, 'larger text')
     page.run('document.getElementById("large").click()')
 
 
@@ -219,6 +219,9 @@ def fits(page, size):
     page.click('#gear')
     equal(page.run(OFF_SCREEN, KEYS), [], f'{size}, limits')
     page.press(ESCAPE)
+
+
+def fits_with_more(page, size):
     for key, dialog in (('#pick', '#ladder'), ('#help', '#helping')):
         page.click(key)
         equal((page.run(TOO_WIDE), page.run(OFF_SCREEN, dialog), page.run(WIDER, dialog)), ([False, False], [], []), f'{size}, {dialog}')
