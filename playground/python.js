@@ -52,6 +52,11 @@ class Pattern {
     return first?.found.index === 0 ? first : undefined;
   }
 
+  search(where) {
+    const [first] = this.finditer(where);
+    return first;
+  }
+
   sub(made, where) { return where.replace(this.form, (...found) => (typeof made === 'string' ? made : made(new Match(found, false)))); }
 }
 
@@ -65,6 +70,8 @@ class Match {
   group(number = 0) { return this.at(number); }
 
   start() { return this.found.index; }
+
+  end() { return this.found.index + this.found[0].length; }
 }
 
 const SPACE = /[\t-\r\x1c-\x20\x85\xa0\u1680\u2000-\u200a\u2028\u2029\u202f\u205f\u3000]+/;

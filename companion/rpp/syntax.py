@@ -90,7 +90,7 @@ class Place:
 
     def has_method(self, name: str) -> bool:
         """Whether the text declares a method of this name."""
-        return any((one.text, other.text) == ('method', name) for one, other in zip(self.tokens, self.tokens[1:]))
+        return any(self.tokens[at].text == 'method' and self.tokens[at + 1].text == name for at in range(0, len(self.tokens) - 1))
 
     def is_new_line(self) -> bool:
         """Whether a line ends in front of the token."""

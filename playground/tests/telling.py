@@ -11,7 +11,7 @@ MUTATED, DRAWN, SEED = 300, 24, 20
 WORDS = ('class inherits method int nil skip if then else fi from do loop until local delocal construct destruct new delete copy uncopy call uncall + - * / % ^ & | '
          '&& || = != < > <= >= ( ) [ ] , :: += -= ^= <=> x y 0 1 99999999999 ; . { } ! true this self while for return print Foo elsif é “').split()
 # What is drawn below the line of a test that fails: what it found and what it needed, in place of the companion's sentence.
-AT_PLACE = {'3 Delocal': ' '.join(('a local is closed with another value', 'fault 3 Delocal', 'found', 't = 1', 'wanted', 't = 7'))}
+AT_PLACE = {'3 Delocal': ' '.join(('a local ends with another value', 'fault 3 Delocal', 'found', 't = 1', 'wanted', 't = 7'))}
 # What the program says of each text, and what the page makes of that.
 SAID = '''
 const said = [];
