@@ -1,5 +1,4 @@
 pub use Rattle.rpp_words.proofs as rpp_words_laws
 pub mod Blocks
-pub mod PartByPart
 pub mod Statements
 pub mod Walks

@@ -1,8 +1,7 @@
-// Copies of syntax trees.
+// Copies of names and variables.
 ghost use Rattle.std.specs.Prelude.{◌≡◌, IfOk};
-ghost use Rattle.rpp_tree.specs.Views.{expression_of, lvalue_of, creation_of, statement_of, block_of, optional_lvalue_of};
 
-use crate::tree::{Block, Class, Expr, Ident, Made, Method, Place, Program, Stmt, Var, VarType};
+use crate::tree::{Ident, Var, VarType};
 use std::alloc::{AllocError, Global};
 
 impl Ident {
@@ -43,74 +42,6 @@ impl Var {
     }
 }
 
-impl Place {
-    /// An equal place, with equal places in the source. The only error is that memory ran out.
-    #[cycle(copy_values)]
-    pub fn copy(&self, alloc: Global) -> Result<Place, AllocError>
-        ensures { IfOk result (λ place. lvalue_of place ≡ lvalue_of self.now) }
-    {
-        let name = self.name.copy(alloc)?;
-        match &self.index {
-            None => Ok(Place { name, index: None }),
-            Some(index) => {
-                let index = index.copy(alloc)?;
-                Ok(Place {
-                    name,
-                    index: Some(Box::new(alloc, index)?),
-                })
-            }
-        }
-    }
-}
-
-impl Expr {
-    /// An equal expression, with equal places. The only error is that memory ran out.
-    #[cycle(copy_values)]
-    pub fn copy(&self, alloc: Global) -> Result<Expr, AllocError>
-        ensures { IfOk result (λ copied. expression_of copied ≡ expression_of self.now) }
-    {
-        match self {
-            Expr::Number { at, word } => Ok(Expr::Number {
-                at: *at,
-                word: *word,
-            }),
-            Expr::Nil { at } => Ok(Expr::Nil { at: *at }),
-            Expr::Read(place) => Ok(Expr::Read(place.copy(alloc)?)),
-            Expr::Binary {
-                at,
-                op,
-                left,
-                right,
-            } => {
-                let left = Box::new(alloc, left.copy(alloc)?)?;
-                let right = Box::new(alloc, right.copy(alloc)?)?;
-                Ok(Expr::Binary {
-                    at: *at,
-                    op: *op,
-                    left,
-                    right,
-                })
-            }
-        }
-    }
-}
-
-impl Made {
-    /// An equal creation, with equal places. The only error is that memory ran out.
-    pub fn copy(&self, alloc: Global) -> Result<Made, AllocError>
-        ensures { IfOk result (λ made. creation_of made ≡ creation_of self.now) }
-    {
-        match self {
-            Made::Object(class) => Ok(Made::Object(class.copy(alloc)?)),
-            Made::Ints(length) => Ok(Made::Ints(length.copy(alloc)?)),
-            Made::Objects(class, length) => Ok(Made::Objects(
-                class.copy(alloc)?,
-                length.copy(alloc)?,
-            )),
-        }
-    }
-}
-
 /// Equal names, with equal places. The only error is that memory ran out.
 pub fn copy_names(alloc: Global, names: &[Ident]) -> Result<Vec<Ident>, AllocError>
     ensures { IfOk result (λ copied. copied.items ≡ names.now) }
@@ -122,12 +53,23 @@ pub fn copy_names(alloc: Global, names: &[Ident]) -> Result<Vec<Ident>, AllocErr
     Ok(copied)
 }
 
-/// An equal receiver, with equal places. The only error is that memory ran out.
-pub fn copy_receiver(alloc: Global, receiver: &Option<Place>) -> Result<Option<Place>, AllocError>
-    ensures { IfOk result (λ copied. optional_lvalue_of copied ≡ optional_lvalue_of receiver.now) }
+/// Equal variables, with equal places. The only error is that memory ran out.
+pub fn copy_vars(alloc: Global, vars: &[Var]) -> Result<Vec<Var>, AllocError>
+    ensures { IfOk result (λ copied. copied.items ≡ vars.now) }
 {
-    match receiver {
+    let mut copied = Vec::new(alloc);
+    for var in vars {
+        copied.push(var.copy(alloc)?)?;
+    }
+    Ok(copied)
+}
+
+/// An equal parent, with an equal place. The only error is that memory ran out.
+pub fn copy_parent(alloc: Global, parent: &Option<Ident>) -> Result<Option<Ident>, AllocError>
+    ensures { IfOk result (λ copied. copied ≡ parent.now) }
+{
+    match parent {
         None => Ok(None),
-        Some(place) => Ok(Some(place.copy(alloc)?)),
+        Some(parent) => Ok(Some(parent.copy(alloc)?)),
     }
 }

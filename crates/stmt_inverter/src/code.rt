@@ -10,6 +10,7 @@ use crate::form::{
 use rpp_tree::tree::{Block, Stmt};
 use rpp_words::NoMemory;
 use std::alloc::Global;
+use tree_walks::copy_statement;
 
 /// The statement that undoes a statement.
 pub fn invert_stmt(alloc: Global, s: &Stmt) -> Result<Stmt, NoMemory>
@@ -122,6 +123,6 @@ fn undo_stmt(alloc: Global, s: &Stmt, turn: bool) -> Result<Stmt, NoMemory>
             method,
             args,
         } => { call(alloc, *at, turn_call(*back, turn), receiver, method, args) }
-        Stmt::Swap { .. } | Stmt::Skip { .. } => Ok(s.copy(alloc)?),
+        Stmt::Swap { .. } | Stmt::Skip { .. } => Ok(copy_statement(alloc, s)?),
     }
 }

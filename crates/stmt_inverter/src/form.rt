@@ -5,9 +5,10 @@ ghost use Rattle.rpp_tree.specs.Views.{expression_of, lvalue_of, creation_of, op
 ghost use Rattle.stmt_inverter.specs.Inverse.{inverse_operator};
 
 use rpp_tree::tree::{Block, Expr, Ident, Made, Place, Stmt, UpdateOp, Var, VarType};
-use rpp_tree::{copy_names, copy_receiver};
+use rpp_tree::copy_names;
 use rpp_words::NoMemory;
 use std::alloc::Global;
+use tree_walks::{copy_expr, copy_made, copy_place, copy_receiver};
 
 /// The operator of the update that undoes one.
 pub fn invert_op(op: UpdateOp) -> UpdateOp
@@ -31,8 +32,8 @@ pub fn update(
     ensures { IfOk result (λ s. statement_of s
         ≡ Update at op (lvalue_of place.now) (expression_of value.now)) }
 {
-    let place = place.copy(alloc)?;
-    let value = value.copy(alloc)?;
+    let place = copy_place(alloc, place)?;
+    let value = copy_expr(alloc, value)?;
     Ok(Stmt::Update {
         at,
         op,
@@ -53,8 +54,8 @@ pub fn conditional(
     ensures { IfOk result (λ s. statement_of s
         ≡ If at (expression_of test.now) (block_of yes) (block_of no) (expression_of after.now)) }
 {
-    let test = test.copy(alloc)?;
-    let after = after.copy(alloc)?;
+    let test = copy_expr(alloc, test)?;
+    let after = copy_expr(alloc, after)?;
     Ok(Stmt::If {
         at,
         test,
@@ -77,8 +78,8 @@ pub fn turns(
         ≡ FromLoop at (expression_of entry.now) (block_of first) (block_of again)
         (expression_of until.now)) }
 {
-    let entry = entry.copy(alloc)?;
-    let until = until.copy(alloc)?;
+    let entry = copy_expr(alloc, entry)?;
+    let until = copy_expr(alloc, until)?;
     Ok(Stmt::From {
         at,
         entry,
@@ -127,9 +128,9 @@ pub fn local(
         (expression_of end_value.now)) }
 {
     let var = var.copy(alloc)?;
-    let value = value.copy(alloc)?;
+    let value = copy_expr(alloc, value)?;
     let end_var = end_var.copy(alloc)?;
-    let end_value = end_value.copy(alloc)?;
+    let end_value = copy_expr(alloc, end_value)?;
     Ok(Stmt::Local {
         at,
         var,
@@ -144,8 +145,8 @@ pub fn local(
 pub fn new_stmt(alloc: Global, at: u32, made: &Made, place: &Place) -> Result<Stmt, NoMemory>
     ensures { IfOk result (λ s. statement_of s ≡ New at (creation_of made.now) (lvalue_of place.now)) }
 {
-    let made = made.copy(alloc)?;
-    let place = place.copy(alloc)?;
+    let made = copy_made(alloc, made)?;
+    let place = copy_place(alloc, place)?;
     Ok(Stmt::New { at, made, place })
 }
 
@@ -153,8 +154,8 @@ pub fn new_stmt(alloc: Global, at: u32, made: &Made, place: &Place) -> Result<St
 pub fn delete_stmt(alloc: Global, at: u32, made: &Made, place: &Place) -> Result<Stmt, NoMemory>
     ensures { IfOk result (λ s. statement_of s ≡ Delete at (creation_of made.now) (lvalue_of place.now)) }
 {
-    let made = made.copy(alloc)?;
-    let place = place.copy(alloc)?;
+    let made = copy_made(alloc, made)?;
+    let place = copy_place(alloc, place)?;
     Ok(Stmt::Delete { at, made, place })
 }
 
@@ -170,8 +171,8 @@ pub fn copy_stmt(
         ≡ CopyTo at kind.now (lvalue_of source.now) (lvalue_of target.now)) }
 {
     let kind = kind.copy(alloc)?;
-    let source = source.copy(alloc)?;
-    let target = target.copy(alloc)?;
+    let source = copy_place(alloc, source)?;
+    let target = copy_place(alloc, target)?;
     Ok(Stmt::Copy {
         at,
         kind,
@@ -192,8 +193,8 @@ pub fn uncopy_stmt(
         ≡ Uncopy at kind.now (lvalue_of source.now) (lvalue_of target.now)) }
 {
     let kind = kind.copy(alloc)?;
-    let source = source.copy(alloc)?;
-    let target = target.copy(alloc)?;
+    let source = copy_place(alloc, source)?;
+    let target = copy_place(alloc, target)?;
     Ok(Stmt::Uncopy {
         at,
         kind,

@@ -5,10 +5,10 @@ ghost use Rattle.rpp_tree.specs.Views.{expression_of, statement_of};
 
 use rpp_tree::{
     BinOp, Block, Class, Expr, Ident, Method, Place, Program, Stmt, Text, UpdateOp, Var, VarType,
-    alike, depth, nodes,
 };
 use std::alloc::{AllocError, Global};
 use std::test::Fail;
+use tree_walks::{alike, copy_program, depth, nodes};
 
 fn ident(alloc: Global, at: u32, text: &str) -> Result<Ident, AllocError> {
     Ok(Ident {
@@ -82,7 +82,7 @@ fn compares_and_copies(rt: HostRuntime) -> Result<(), Fail> {
     for (at, word, same) in [(5, 1, true), (9, 1, true), (5, 2, false)] {
         let other = program(rt.alloc(), at, word)?;
         assert_eq!(rt; alike(&first, &other), same, "at {at} with {word}");
-        let copied = other.copy(rt.alloc())?;
+        let copied = copy_program(rt.alloc(), &other)?;
         assert_eq!(rt; alike(&first, &copied), same, "a copy, at {at} with {word}");
     }
     Ok(())

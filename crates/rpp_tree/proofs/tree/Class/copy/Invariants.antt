@@ -1,6 +1,0 @@
-use Rattle.std.proofs.Common.{◌≡◌, take, map}
-use Rattle.rpp_tree.specs.Views.{procedure_of}
-use Rattle.rpp_tree.proofs.tree.Class.copy.Given as goal
-
-abbrev pub invariant-loop-method : goal.invariant-loop-method
-invariant-loop-method l = map procedure_of l.methods.items ≡ map procedure_of (take l.method-index l.method-items)

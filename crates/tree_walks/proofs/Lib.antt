@@ -1,0 +1,2 @@
+pub use Rattle.rpp_tree.proofs as rpp_tree_laws
+pub mod PartByPart

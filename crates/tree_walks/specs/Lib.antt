@@ -1,0 +1,1 @@
+pub use Rattle.rpp_tree.specs as rpp_tree
