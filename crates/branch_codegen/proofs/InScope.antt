@@ -2,7 +2,7 @@
 use Rattle.std.proofs.Common.{◌≡◌, List, sym, subst}
 use Rattle.std.specs.Prelude.{Result, Ok, Err, IfOk}
 use Rattle.rpp_tree.specs.Tree.{Expression}
-use Rattle.refine_expressions.specs.class_table.declared.kind.Kind.TheVariants as kind
+use Rattle.refine_expressions.specs.class_rules.declared.kind.Kind.TheVariants as kind
 use Rattle.refine_expressions.specs.paired_code.declared.part.Symbol.{Symbol}
 use Rattle.refine_expressions.specs.paired_code.Code.{Code}
 use Rattle.refine_expressions.specs.code_conventions.declared.registers.TheConstants.{FLAG}

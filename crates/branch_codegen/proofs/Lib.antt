@@ -1,5 +1,5 @@
-pub use Rattle.refine_expressions.proofs.class_table_laws
-pub use Rattle.refine_expressions.proofs.stmt_inverter_laws
+pub use Rattle.refine_expressions.proofs.class_rules_laws
+pub use Rattle.refine_expressions.proofs.inverse_rules_laws
 pub use Rattle.refine_expressions.proofs.meaning_sound_laws
 pub use Rattle.refine_expressions.proofs.paired_code_laws
 pub use Rattle.refine_form.proofs as refine_form_laws

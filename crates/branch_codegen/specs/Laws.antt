@@ -3,7 +3,7 @@
 -- for.
 use Rattle.std.specs.Prelude.{◌≡◌, ℕ, List}
 use Rattle.rpp_tree.specs.Tree.{Expression, Statements, If, From}
-use Rattle.refine_expressions.specs.class_table.declared.kind.Kind.TheVariants as kind
+use Rattle.refine_expressions.specs.class_rules.declared.kind.Kind.TheVariants as kind
 use Rattle.refine_expressions.specs.paired_code.declared.part.Symbol.{Symbol}
 use Rattle.refine_expressions.specs.code_scope.Visible.{Known}
 use Rattle.refine_form.specs.Form.{Scope, TestLaw, BlockLaw, StmtLaw}

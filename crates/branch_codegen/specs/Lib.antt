@@ -1,6 +1,6 @@
 pub use Rattle.rpp_tree.specs as rpp_tree
-pub use Rattle.refine_expressions.specs.class_table
-pub use Rattle.refine_expressions.specs.stmt_inverter
+pub use Rattle.refine_expressions.specs.class_rules
+pub use Rattle.refine_expressions.specs.inverse_rules
 pub use Rattle.refine_expressions.specs.pisa_isa
 pub use Rattle.refine_expressions.specs.code_conventions
 pub use Rattle.refine_expressions.specs.roopl_semantics

@@ -2,10 +2,10 @@
 ghost use Rattle.std.specs.Prelude.{◌≡◌, MatchResult, None, [], slice_get, map, length, ◌≤◌, IfSome, ◌<◌};
 ghost use Rattle.std.specs.Option.{option_map, unwrap_or};
 ghost use Rattle.rpp_tree.specs.Views.{source_of, class_text_of};
-ghost use Rattle.class_table.specs.Rules.{IsFirst, class_names};
-ghost use Rattle.class_table.specs.Chains.{class_named, parent_named, parents as parents_of, chain as chain_within, inheritance_cycle, lines as lines_of};
+ghost use Rattle.class_rules.specs.Rules.{IsFirst, class_names};
+ghost use Rattle.class_rules.specs.Chains.{class_named, parent_named, parents as parents_of, chain as chain_within, inheritance_cycle, lines as lines_of};
 
-use crate::error::ClassError;
+use class_rules::ClassError;
 use indexmap::IndexSet;
 use rpp_tree::Text;
 use rpp_tree::limits::MOST_CLASSES;

@@ -1,8 +1,8 @@
 // Accepted programs with their tables.
 ghost use Rattle.std.specs.Prelude.{◌≡◌};
 ghost use Rattle.rpp_tree.specs.Views.{source_of};
-ghost use Rattle.class_table.specs.Table.{table_of};
-ghost use Rattle.class_table.specs.Program.{IsAccepted};
+ghost use Rattle.class_rules.specs.Table.{table_of};
+ghost use Rattle.class_rules.specs.Program.{IsAccepted};
 
 use crate::table::ClassTable;
 use rpp_tree::tree::Program;
@@ -27,8 +27,8 @@ impl Model for Checked {
 
     ghost use Rattle.std.specs.Prelude.{◌≡◌};
     ghost use Rattle.rpp_tree.specs.Views.{source_of};
-    ghost use Rattle.class_table.specs.Table.{table_of};
-    ghost use Rattle.class_table.specs.Program.{IsAccepted};
+    ghost use Rattle.class_rules.specs.Table.{table_of};
+    ghost use Rattle.class_rules.specs.Program.{IsAccepted};
 
     ghost view = { λ c. c.program };
 

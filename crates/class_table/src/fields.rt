@@ -2,13 +2,13 @@
 ghost use Rattle.std.specs.Prelude.{◌≡◌, ◌-◌, ◌<◌, ◌≤◌, ◌++◌, MatchResult, IfSome, None, [], map, length, take, position};
 ghost use Rattle.std.specs.Str.{bytes_eq};
 ghost use Rattle.rpp_tree.specs.Views.{source_of, class_text_of};
-ghost use Rattle.class_table.specs.Rules.{IsFirst};
-ghost use Rattle.class_table.specs.Names.{with_names};
-ghost use Rattle.class_table.specs.Chains.{lines as lines_of};
-ghost use Rattle.class_table.specs.Members.{class_at, field_name, fields_of, taken_field, duplicate_field_at, too_many_fields_at, inherited, fields_along as all_fields, names_along as all_names, fields as fields_of_all, duplicate_field, too_many_fields};
+ghost use Rattle.class_rules.specs.Rules.{IsFirst};
+ghost use Rattle.class_rules.specs.Names.{with_names};
+ghost use Rattle.class_rules.specs.Chains.{lines as lines_of};
+ghost use Rattle.class_rules.specs.Members.{class_at, field_name, fields_of, taken_field, duplicate_field_at, too_many_fields_at, inherited, fields_along as all_fields, names_along as all_names, fields as fields_of_all, duplicate_field, too_many_fields};
 
 use crate::chains::line_at;
-use crate::error::ClassError;
+use class_rules::ClassError;
 use crate::names::add_name;
 use indexmap::IndexSet;
 use rpp_tree::Text;
@@ -27,7 +27,7 @@ pub struct ClassFields {
 impl Model for ClassFields {
     ghost use Rattle.std.specs.Prelude.{◌≡◌, List, map, length, ◌≤◌};
     ghost use Rattle.rpp_tree.specs.declared.tree.Var.{Var};
-    ghost use Rattle.class_table.specs.Members.{field_name};
+    ghost use Rattle.class_rules.specs.Members.{field_name};
 
     ghost Value = { List Var };
 

@@ -1,8 +1,8 @@
 // Sets of names.
 ghost use Rattle.std.specs.Prelude.{◌≡◌, MatchResult, not, IsTrue, ◌++◌, ◌∷◌, []};
-ghost use Rattle.class_table.specs.Names.{has_name, with_name};
+ghost use Rattle.class_rules.specs.Names.{has_name, with_name};
 
-use crate::error::ClassError;
+use class_rules::ClassError;
 use indexmap::IndexSet;
 use rpp_tree::Text;
 use std::alloc::Global;

@@ -1,14 +1,14 @@
 // Methods that a class declares twice, or overrides with other parameters.
 ghost use Rattle.std.specs.Prelude.{◌≡◌, ◌<◌, ◌≤◌, MatchResult, None, [], map, length, take};
 ghost use Rattle.rpp_tree.specs.Views.{source_of, class_text_of, procedure_of};
-ghost use Rattle.class_table.specs.Rules.{IsFirst};
-ghost use Rattle.class_table.specs.First.{first_in, first_after};
-ghost use Rattle.class_table.specs.Chains.{lines as lines_of};
-ghost use Rattle.class_table.specs.Overrides.{method_name, method_taken, duplicate_method_in, duplicate_method, same_type, same_types as equal_types, parameters_of, override_differs, inherited_slots, override_differs_at, differing_override};
+ghost use Rattle.class_rules.specs.Rules.{IsFirst};
+ghost use Rattle.class_rules.specs.First.{first_in, first_after};
+ghost use Rattle.class_rules.specs.Chains.{lines as lines_of};
+ghost use Rattle.class_rules.specs.Overrides.{method_name, method_taken, duplicate_method_in, duplicate_method, same_type, same_types as equal_types, parameters_of, override_differs, inherited_slots, override_differs_at, differing_override};
 
 use crate::chains::line_at;
-use crate::error::ClassError;
-use crate::method::MethodId;
+use class_rules::ClassError;
+use class_rules::MethodId;
 use crate::names::add_name;
 use crate::slots::{methods_at, runs_at, slots_along};
 use indexmap::{IndexMap, IndexSet};

@@ -1,10 +1,10 @@
 // The phases in which a class table is refused.
 ghost use Rattle.std.specs.Prelude.{◌≡◌, MatchResult, None, map};
 ghost use Rattle.rpp_tree.specs.Views.{source_of, class_text_of, procedure_of};
-ghost use Rattle.class_table.specs.Rules.{IsFirst, class_names, duplicate_class, unknown_class, unknown_in_class, unknown_params, unknown_var, unknown_type, unknown_name, unknown_parent};
-ghost use Rattle.class_table.specs.First.{first_in};
+ghost use Rattle.class_rules.specs.Rules.{IsFirst, class_names, duplicate_class, unknown_class, unknown_in_class, unknown_params, unknown_var, unknown_type, unknown_name, unknown_parent};
+ghost use Rattle.class_rules.specs.First.{first_in};
 
-use crate::error::ClassError;
+use class_rules::ClassError;
 use crate::names::add_name;
 use indexmap::IndexSet;
 use rpp_tree::Text;

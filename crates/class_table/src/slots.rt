@@ -2,14 +2,14 @@
 ghost use Rattle.std.specs.Prelude.{◌≡◌, ◌<◌, ◌≤◌, MatchResult, None, [], map, length, position};
 ghost use Rattle.std.specs.Str.{bytes_eq};
 ghost use Rattle.rpp_tree.specs.Views.{source_of, class_text_of, procedure_of};
-ghost use Rattle.class_table.specs.Rules.{IsFirst};
-ghost use Rattle.class_table.specs.Chains.{lines as lines_of};
-ghost use Rattle.class_table.specs.Overrides.{run_at};
-ghost use Rattle.class_table.specs.Members.{class_at, with_methods, slots_along as all_slots, slots_of, slots as slots_of_all, too_many_slots_at, too_many_slots};
+ghost use Rattle.class_rules.specs.Rules.{IsFirst};
+ghost use Rattle.class_rules.specs.Chains.{lines as lines_of};
+ghost use Rattle.class_rules.specs.Overrides.{run_at};
+ghost use Rattle.class_rules.specs.Members.{class_at, with_methods, slots_along as all_slots, slots_of, slots as slots_of_all, too_many_slots_at, too_many_slots};
 
 use crate::chains::line_at;
-use crate::error::ClassError;
-use crate::method::MethodId;
+use class_rules::ClassError;
+use class_rules::MethodId;
 use indexmap::IndexMap;
 use rpp_tree::Text;
 use rpp_tree::limits::{LimitKind, MOST_METHODS};
@@ -25,7 +25,7 @@ pub struct MethodSlots {
 
 impl Model for MethodSlots {
     ghost use Rattle.std.specs.Prelude.{List, ℕ, length, ◌≤◌};
-    ghost use Rattle.class_table.specs.declared.method.MethodId.{MethodId};
+    ghost use Rattle.class_rules.specs.declared.method.MethodId.{MethodId};
     ghost use Rattle.rpp_tree.specs.declared.limits.TheConstants.{MOST_METHODS};
 
     ghost Value = { List (List ℕ × MethodId) };

@@ -1,14 +1,14 @@
 // The class table.
 ghost use Rattle.std.specs.Prelude.{◌≡◌, ◌<◌, ◌≤◌, IfOk, IfErr, OnOk, IfSome, length};
 ghost use Rattle.rpp_tree.specs.Views.{source_of};
-ghost use Rattle.class_table.specs.Rules.{IsFirst};
-ghost use Rattle.class_table.specs.Table.{table_of, first_class_refusal, HasClassTable, class_of, fields_in, field_in, slots_in, slot_in, dispatch_in, inherits_in};
+ghost use Rattle.class_rules.specs.Rules.{IsFirst};
+ghost use Rattle.class_rules.specs.Table.{table_of, first_class_refusal, HasClassTable, class_of, fields_in, field_in, slots_in, slot_in, dispatch_in, inherits_in};
 
 use crate::chains::{line_at, lines, number_of, parents};
-use crate::error::ClassError;
+use class_rules::ClassError;
 use crate::fields::{ClassFields, check_fields, fields};
 use crate::mains::the_main;
-use crate::method::MethodId;
+use class_rules::MethodId;
 use crate::overrides::{check_methods, check_overrides};
 use crate::phases::{know_classes, name_classes};
 use crate::slots::{MethodSlots, slots};
@@ -33,7 +33,7 @@ pub struct ClassTable {
 }
 
 impl Model for ClassTable {
-    ghost use Rattle.class_table.specs.Table.{Table};
+    ghost use Rattle.class_rules.specs.Table.{Table};
 
     ghost Value = { Table };
 

@@ -4,8 +4,8 @@ use Rattle.std.specs.Prelude.{map, if◌then◌else◌}
 use Rattle.std.specs.Option.{option_map}
 use Rattle.std.specs.Str.{bytes_eq}
 use Rattle.refine_form.specs.rpp_tree.declared.tree.Var.{Var}
-use Rattle.refine_form.specs.class_table.Members.{field_name, field_of}
-use Rattle.refine_form.proofs.class_table_laws.FirstPlaces.{position_cons}
+use Rattle.refine_form.specs.class_rules.Members.{field_name, field_of}
+use Rattle.refine_form.proofs.class_rules_laws.FirstPlaces.{position_cons}
 use Rattle.code_scope.specs.Visible.{place_named}
 
 pub place_is : (name : List ℕ) (fields : List Var) → place_named name fields ≡ field_of fields name

@@ -5,9 +5,9 @@ use Rattle.std.specs.Option.{unwrap_or}
 use Rattle.std.proofs.lemmas.List.Elements.{All-head, All-tail}
 use Rattle.refine_form.specs.rpp_tree.Tree.{Procedure, ClassText, Source}
 use Rattle.refine_form.specs.rpp_tree.Limits.{IsSmallMethod, IsWithinLimits}
-use Rattle.refine_form.specs.class_table.declared.method.MethodId.{MethodId}
-use Rattle.refine_form.specs.class_table.Members.{class_at, no_class, no_procedure}
-use Rattle.refine_form.specs.class_table.Classes.{procedure_at}
+use Rattle.refine_form.specs.class_rules.declared.method.MethodId.{MethodId}
+use Rattle.refine_form.specs.class_rules.Members.{class_at, no_class, no_procedure}
+use Rattle.refine_form.specs.class_rules.Classes.{procedure_at}
 
 -- what holds for all, and for what no name denotes, holds at every number
 all_at : {X : Type 0} (P : X → Type 0) (xs : List X) (i : ℕ) (d : X) → All P xs → P d → P (unwrap_or (slice_get xs i) d)

@@ -1,6 +1,6 @@
 pub use Rattle.refine_form.specs.rpp_words
 pub use Rattle.refine_form.specs.rpp_tree
-pub use Rattle.refine_form.specs.stmt_inverter
+pub use Rattle.refine_form.specs.inverse_rules
 pub use Rattle.refine_form.specs.pisa_isa
 pub use Rattle.refine_form.specs.code_conventions
 pub use Rattle.refine_form.specs.roopl_semantics

@@ -8,10 +8,10 @@ use Rattle.refine_form.specs.rpp_tree.declared.tree.Program.{Program}
 use Rattle.refine_form.specs.rpp_tree.declared.tree.Var.{Var}
 use Rattle.refine_form.specs.rpp_tree.declared.tree.VarType.{VarType}
 use Rattle.refine_form.specs.rpp_tree.Views.{source_of}
-use Rattle.refine_form.specs.class_table.declared.method.MethodId.{MethodId}
-use Rattle.refine_form.specs.class_table.Members.{field_of}
-use Rattle.refine_form.specs.class_table.Scope.{no_var}
-use Rattle.refine_form.specs.class_table.Table.{table_of, fields_in}
+use Rattle.refine_form.specs.class_rules.declared.method.MethodId.{MethodId}
+use Rattle.refine_form.specs.class_rules.Members.{field_of}
+use Rattle.refine_form.specs.class_rules.Scope.{no_var}
+use Rattle.refine_form.specs.class_rules.Table.{table_of, fields_in}
 use Rattle.refine_form.specs.code_conventions.declared.memory.TheConstants.{HEADER_WORDS, FIRST_VARIABLE}
 use Rattle.refine_form.specs.declared.spot.Spot.{Spot}
 use Rattle.refine_form.specs.declared.spot.Spot.TheVariants.{Field, Frame}

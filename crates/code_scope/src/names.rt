@@ -1,7 +1,7 @@
 // The storage slots of names, among variables and fields.
 ghost use Rattle.std.specs.Prelude.{◌≡◌, ◌<◌, ◌≤◌, ◌^◌, length, reverse, IfSome};
 ghost use Rattle.std.specs.Option.{option_map};
-ghost use Rattle.refine_form.specs.class_table.Members.{field_of};
+ghost use Rattle.refine_form.specs.class_rules.Members.{field_of};
 ghost use Rattle.refine_form.specs.code_conventions.declared.memory.TheConstants.{MOST_VARIABLES};
 ghost use Rattle.code_scope.specs.Visible.{offset_of, word_named, place_named, type_named, field_type, kind_named, spot_named, spot_of as spot_of_name, free_of, known_by};
 

@@ -2,8 +2,8 @@
 ghost use Rattle.std.specs.Prelude.{◌≡◌, ◌<◌, ◌≤◌, ◌^◌, ◌∷◌, map, length, reverse, IfOk, OnOk, OnErr, IfSome, slice_get};
 ghost use Rattle.std.specs.Option.{option_map, unwrap_or};
 ghost use Rattle.refine_form.specs.rpp_tree.Views.{source_of, procedure_of};
-ghost use Rattle.refine_form.specs.class_table.Members.{no_procedure};
-ghost use Rattle.refine_form.specs.class_table.Classes.{procedure_at};
+ghost use Rattle.refine_form.specs.class_rules.Members.{no_procedure};
+ghost use Rattle.refine_form.specs.class_rules.Classes.{procedure_at};
 ghost use Rattle.refine_form.specs.code_conventions.declared.memory.TheConstants.{MOST_VARIABLES};
 ghost use Rattle.code_scope.specs.Visible.{offset_of, kind_named, spot_named, free_of, known_by, known_in, outer_of};
 

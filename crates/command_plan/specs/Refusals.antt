@@ -1,7 +1,7 @@
 -- The refusals of a source, with their numbers, names and places.
 use Rattle.std.specs.Prelude.{ℕ, ◌==◌, List, ◌++◌, codes, if◌then◌else◌}
 use Rattle.std.specs.Fmt.{decimal}
-use Rattle.class_table.specs.Refusal.{Refusal}
+use Rattle.class_table.specs.class_rules.Refusal.{Refusal}
 use Rattle.pisa_scripts.specs.rpp_words.Texts.{line_end}
 
 -- the name of a refusal of a source

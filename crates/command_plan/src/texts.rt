@@ -1,7 +1,7 @@
 // What is printed: refusals of texts, images and inputs, faults and numbers of steps.
 ghost use Rattle.std.specs.Prelude.{◌≡◌, IfOk, string_bytes, ◌<◌, ◌++◌, Ok};
 ghost use Rattle.command_plan.specs.Plans.{planned, prints};
-ghost use Rattle.class_table.specs.Refusal.{refused as refusal};
+ghost use Rattle.class_table.specs.class_rules.Refusal.{refused as refusal};
 ghost use Rattle.command_plan.specs.Refusals.{refused_line as line_of_refusal, refusal_name as name_of_refusal};
 ghost use Rattle.command_plan.specs.Texts.{load_line as line_of_load, bad_command_line as line_of_bad_command, steps_line, bound_lines, asm_line as line_of_asm, image_line as line_of_image};
 ghost use Rattle.pisa_scripts.specs.Stops.{fault_line as line_of_fault};

@@ -9,7 +9,7 @@ use Rattle.register_expressions.proofs.rpp_words_laws.Laws.{difference_of-sum_of
 use Rattle.rpp_tree.specs.declared.tree.UpdateOp.{UpdateOp}
 use Rattle.rpp_tree.specs.declared.tree.UpdateOp.TheVariants as update
 use Rattle.rpp_tree.specs.Tree.{Expression, Lvalue, Whole, Item}
-use Rattle.register_expressions.specs.stmt_inverter.Inverse.{inverse_operator}
+use Rattle.register_expressions.specs.inverse_rules.Inverse.{inverse_operator}
 use Rattle.register_expressions.specs.pisa_isa.Machine.{Memory}
 use Rattle.register_expressions.specs.paired_code.Machine.{Image, reg}
 use Rattle.register_expressions.specs.paired_code.Pieces.{Done, Trapped, Runs}

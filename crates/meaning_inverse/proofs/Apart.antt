@@ -5,15 +5,15 @@ use Rattle.std.proofs.Common.{eqb-true, length-set}
 use Rattle.std.specs.Str.{bytes_eq}
 use Rattle.meaning_reached.specs.rpp_tree.declared.tree.Ident.{Ident}
 use Rattle.meaning_reached.specs.rpp_tree.Tree.{Expression, Element, Lvalue, Whole, Item, Source}
-use Rattle.meaning_reached.specs.class_table.declared.kind.Kind.{Kind}
-use Rattle.meaning_reached.specs.class_table.declared.kind.Kind.TheVariants as kind
-use Rattle.meaning_reached.specs.class_table.Table.{table_of}
-use Rattle.meaning_reached.specs.class_table.Scope.{Typing, Locals, kind_in}
-use Rattle.meaning_reached.specs.class_table.Refusal.{unknown_name, not_an_array}
-use Rattle.meaning_reached.specs.class_table.Expressions.{element_kind, element_of as element_type, index_is_int, variable_type}
-use Rattle.meaning_reached.specs.class_table.Expressions.{type_of, place_type, first_token}
+use Rattle.meaning_reached.specs.class_rules.declared.kind.Kind.{Kind}
+use Rattle.meaning_reached.specs.class_rules.declared.kind.Kind.TheVariants as kind
+use Rattle.meaning_reached.specs.class_rules.Table.{table_of}
+use Rattle.meaning_reached.specs.class_rules.Scope.{Typing, Locals, kind_in}
+use Rattle.meaning_reached.specs.class_rules.Refusal.{unknown_name, not_an_array}
+use Rattle.meaning_reached.specs.class_rules.Expressions.{element_kind, element_of as element_type, index_is_int, variable_type}
+use Rattle.meaning_reached.specs.class_rules.Expressions.{type_of, place_type, first_token}
 use Rattle.meaning_reached.specs.rpp_tree.Places.{place_name}
-use Rattle.meaning_reached.specs.class_table.Program.{setting_in}
+use Rattle.meaning_reached.specs.class_rules.Program.{setting_in}
 use Rattle.meaning_reached.specs.roopl_semantics.Store.{Value, Word, Nil, Name, Head, OfClass, OfInts, OfObjects, Object, Store, State}
 use Rattle.meaning_reached.specs.roopl_semantics.Store.{number_of, same_value, object_named, object_at, no_object, class_of_head}
 use Rattle.meaning_reached.specs.roopl_semantics.Value.{Cell, Slot, Part, cell_named, own_class, variable_value, element_cell}
@@ -24,8 +24,8 @@ use Rattle.meaning_reached.specs.meaning_sound.Sound.{Typed}
 use Rattle.meaning_reached.proofs.meaning_sound_laws.Cells.{read_fits, heads_written}
 use Rattle.meaning_reached.proofs.meaning_sound_laws.Classes.{KnowsClasses}
 use Rattle.meaning_reached.proofs.meaning_sound_laws.Names.{is_object, IsMeant, variable, field, meant, cell_named_kind}
-use Rattle.meaning_reached.proofs.class_table_laws.FirstPlaces.{bytes_turned}
-use Rattle.meaning_reached.proofs.class_table_laws.PassedRules.{handed_on, some_of}
+use Rattle.meaning_reached.proofs.class_rules_laws.FirstPlaces.{bytes_turned}
+use Rattle.meaning_reached.proofs.class_rules_laws.PassedRules.{handed_on, some_of}
 use Rattle.meaning_reached.specs.roopl_semantics.Execution.{exec}
 use Rattle.meaning_reached.proofs.meaning_sound_laws.Keeping.{exec_keeps}
 use Rattle.meaning_reached.proofs.meaning_sound_laws.Calls.{meant_apart}

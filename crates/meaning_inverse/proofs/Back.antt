@@ -12,10 +12,10 @@ use Rattle.meaning_reached.specs.rpp_tree.declared.tree.Var.{Var}
 use Rattle.meaning_reached.specs.rpp_tree.declared.tree.VarType.{VarType}
 use Rattle.meaning_reached.specs.rpp_tree.declared.tree.VarType.TheVariants as kind
 use Rattle.meaning_reached.specs.rpp_tree.Tree.{Procedure, ClassText, Source}
-use Rattle.meaning_reached.specs.class_table.Program.{IsAccepted}
-use Rattle.meaning_reached.specs.class_table.declared.method.MethodId.{MethodId}
-use Rattle.meaning_reached.specs.class_table.Classes.{class_fields, procedure_at, main_of}
-use Rattle.meaning_reached.specs.stmt_inverter.Inverse.{inverse_as, inverse_program}
+use Rattle.meaning_reached.specs.class_rules.Program.{IsAccepted}
+use Rattle.meaning_reached.specs.class_rules.declared.method.MethodId.{MethodId}
+use Rattle.meaning_reached.specs.class_rules.Classes.{class_fields, procedure_at, main_of}
+use Rattle.meaning_reached.specs.inverse_rules.Inverse.{inverse_as, inverse_program}
 use Rattle.meaning_reached.specs.roopl_semantics.Run.{Done, More}
 use Rattle.meaning_reached.specs.roopl_semantics.Store.{Value, Word, Nil, Name, Head, OfClass, OfInts, OfObjects, Object, Store}
 use Rattle.meaning_reached.specs.roopl_semantics.Store.{Binding, State, main_name, zero_value, zero_values, object_named, object_at}

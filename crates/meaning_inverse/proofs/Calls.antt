@@ -6,13 +6,13 @@ use Rattle.std.proofs.lemmas.List.{map-append}
 use Rattle.std.specs.Str.{bytes_eq}
 use Rattle.meaning_reached.specs.rpp_tree.declared.tree.Ident.{Ident}
 use Rattle.meaning_reached.specs.rpp_tree.Tree.{Whole, Statements, Call, End, Then, Procedure}
-use Rattle.meaning_reached.specs.class_table.Classes.{class_fields, method_named}
-use Rattle.meaning_reached.specs.stmt_inverter.Inverse.{inverse}
-use Rattle.meaning_reached.proofs.stmt_inverter_laws.Inverses.{inverse-twice}
+use Rattle.meaning_reached.specs.class_rules.Classes.{class_fields, method_named}
+use Rattle.meaning_reached.specs.inverse_rules.Inverse.{inverse}
+use Rattle.meaning_reached.proofs.inverse_rules_laws.Inverses.{inverse-twice}
 use Rattle.meaning_reached.specs.roopl_semantics.Run.{Run, Done, ◌>>=◌, spend, fault_if}
 use Rattle.meaning_reached.specs.roopl_semantics.Store.{Value, Word, Nil, Name, Object, Binding, State, is_nil, number_of, object_named}
 use Rattle.meaning_reached.specs.roopl_semantics.Store.{object_at, class_of_head, no_object}
-use Rattle.meaning_reached.specs.class_table.Members.{field_of}
+use Rattle.meaning_reached.specs.class_rules.Members.{field_of}
 use Rattle.meaning_reached.specs.roopl_semantics.Value.{Cell, Slot, Part, slot_of, slot_or_field, cell_named, own_class, value_at, read}
 use Rattle.meaning_reached.specs.roopl_semantics.Value.{nil_fault}
 use Rattle.meaning_reached.specs.roopl_semantics.Execution.{Setting, statement, exec, bound, moved_out, moved_back, in_direction}

@@ -7,12 +7,12 @@ use Rattle.meaning_reached.specs.rpp_tree.declared.tree.Var.{Var}
 use Rattle.meaning_reached.specs.rpp_tree.Tree.{Expression, Null, Lvalue, Whole, Item, Object as AnObject, Ints, Objects, Statement}
 use Rattle.meaning_reached.specs.rpp_tree.Tree.{Statements, Update, Swap, If, From, Construct, Local, New, Delete, Copy, Uncopy, Call}
 use Rattle.meaning_reached.specs.rpp_tree.Tree.{Skip, End, Then, Procedure, nodes}
-use Rattle.meaning_reached.specs.class_table.declared.kind.Kind.{Kind}
-use Rattle.meaning_reached.specs.class_table.declared.kind.Kind.TheVariants as kind
-use Rattle.meaning_reached.specs.class_table.Table.{table_of}
-use Rattle.meaning_reached.specs.class_table.Classes.{class_number, class_fields, method_named}
-use Rattle.meaning_reached.specs.class_table.Statements.{passed, in_turn, test_rules, check_statement, check_statements}
-use Rattle.meaning_reached.specs.class_table.Program.{setting_in}
+use Rattle.meaning_reached.specs.class_rules.declared.kind.Kind.{Kind}
+use Rattle.meaning_reached.specs.class_rules.declared.kind.Kind.TheVariants as kind
+use Rattle.meaning_reached.specs.class_rules.Table.{table_of}
+use Rattle.meaning_reached.specs.class_rules.Classes.{class_number, class_fields, method_named}
+use Rattle.meaning_reached.specs.class_rules.Statements.{passed, in_turn, test_rules, check_statement, check_statements}
+use Rattle.meaning_reached.specs.class_rules.Program.{setting_in}
 use Rattle.meaning_reached.specs.buddy_book.Place.{Taken, count_taken, place}
 use Rattle.meaning_reached.specs.roopl_semantics.Operators.{updated}
 use Rattle.meaning_reached.specs.roopl_semantics.Run.{Run, after_cost, Done, ◌>>=◌, spend, fault_if}
@@ -31,7 +31,7 @@ use Rattle.meaning_reached.specs.roopl_semantics.Execution.{not_empty_fault, hea
 use Rattle.meaning_reached.specs.roopl_semantics.Execution.{length_differs_fault, length_fault, too_deep_fault, touched_fault}
 use Rattle.meaning_reached.proofs.meaning_sound_laws.Cells.{changed_objects}
 use Rattle.meaning_reached.proofs.meaning_sound_laws.Classes.{KnowsClasses}
-use Rattle.meaning_reached.proofs.class_table_laws.PassedRules.{both_passed}
+use Rattle.meaning_reached.proofs.class_rules_laws.PassedRules.{both_passed}
 use Rattle.meaning_reached.proofs.meaning_sound_laws.Runs.{ends_done as e2_done}
 use Rattle.meaning_reached.proofs.meaning_sound_laws.Keeping.{exec_keeps}
 use Rattle.meaning_inverse.proofs.Runs.{given_done, passed_check}

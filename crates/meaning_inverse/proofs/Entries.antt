@@ -6,19 +6,19 @@ use Rattle.meaning_reached.specs.rpp_tree.declared.tree.Ident.{Ident}
 use Rattle.meaning_reached.specs.rpp_tree.declared.tree.Var.{Var}
 use Rattle.meaning_reached.specs.rpp_tree.Tree.{Expression, Null, Element, Whole, Item, Object as AnObject, Statements, Swap, New}
 use Rattle.meaning_reached.specs.rpp_tree.Tree.{Delete, Construct, Local, Call, End, Then, joined, Procedure, Source}
-use Rattle.meaning_reached.specs.class_table.declared.kind.Kind.{Kind}
-use Rattle.meaning_reached.specs.class_table.declared.kind.Kind.TheVariants as kind
-use Rattle.meaning_reached.specs.class_table.Table.{table_of, class_of as class_in, slot_in, dispatch_in}
-use Rattle.meaning_reached.specs.class_table.Overrides.{same_type, parameters_of}
-use Rattle.meaning_reached.specs.class_table.Classes.{method_named}
-use Rattle.meaning_reached.specs.class_table.Refusal.{type_differs, redeclared, self_update, local_in_own_expression, unknown_name}
-use Rattle.meaning_reached.specs.class_table.Scope.{Typing, Local as ALocal, Locals, kind_of, class_kind, kind_in}
-use Rattle.meaning_reached.specs.class_table.Expressions.{and_then, type_of, place_type, occurs}
-use Rattle.meaning_reached.specs.class_table.Statements.{passed, Verdict, required, in_turn, type_known, class_known, same_kind}
-use Rattle.meaning_reached.specs.class_table.Statements.{in_either_index, swap_rules, call_rules, receiver_class, receiver_kind}
-use Rattle.meaning_reached.specs.class_table.Statements.{place_class, slot_rules, local_rules, construct_rules, with_local, with_object}
-use Rattle.meaning_reached.specs.class_table.Statements.{check_statement, check_statements}
-use Rattle.meaning_reached.specs.class_table.Program.{setting_in}
+use Rattle.meaning_reached.specs.class_rules.declared.kind.Kind.{Kind}
+use Rattle.meaning_reached.specs.class_rules.declared.kind.Kind.TheVariants as kind
+use Rattle.meaning_reached.specs.class_rules.Table.{table_of, class_of as class_in, slot_in, dispatch_in}
+use Rattle.meaning_reached.specs.class_rules.Overrides.{same_type, parameters_of}
+use Rattle.meaning_reached.specs.class_rules.Classes.{method_named}
+use Rattle.meaning_reached.specs.class_rules.Refusal.{type_differs, redeclared, self_update, local_in_own_expression, unknown_name}
+use Rattle.meaning_reached.specs.class_rules.Scope.{Typing, Local as ALocal, Locals, kind_of, class_kind, kind_in}
+use Rattle.meaning_reached.specs.class_rules.Expressions.{and_then, type_of, place_type, occurs}
+use Rattle.meaning_reached.specs.class_rules.Statements.{passed, Verdict, required, in_turn, type_known, class_known, same_kind}
+use Rattle.meaning_reached.specs.class_rules.Statements.{in_either_index, swap_rules, call_rules, receiver_class, receiver_kind}
+use Rattle.meaning_reached.specs.class_rules.Statements.{place_class, slot_rules, local_rules, construct_rules, with_local, with_object}
+use Rattle.meaning_reached.specs.class_rules.Statements.{check_statement, check_statements}
+use Rattle.meaning_reached.specs.class_rules.Program.{setting_in}
 use Rattle.meaning_reached.specs.roopl_semantics.Store.{Value, Nil, Name, State, is_nil}
 use Rattle.meaning_reached.specs.roopl_semantics.Value.{Cell, cell_named, own_class, read, value as value_in}
 use Rattle.meaning_reached.specs.roopl_semantics.Execution.{Setting, opened, constructed, element_call, element_name, cells_named}
@@ -28,15 +28,15 @@ use Rattle.meaning_reached.specs.meaning_sound.Plain.{IsPlain}
 use Rattle.meaning_reached.proofs.meaning_sound_laws.Cells.{typed_of, read_fits}
 use Rattle.meaning_reached.proofs.meaning_sound_laws.Classes.{KnowsClasses}
 use Rattle.meaning_reached.proofs.meaning_sound_laws.Names.{is_object, cell_named_kind, meant}
-use Rattle.meaning_reached.proofs.class_table_laws.FirstPlaces.{same_name, equal_name}
-use Rattle.meaning_reached.proofs.class_table_laws.PassedRules.{both_passed, in_turn_passes, held as was_held, required_passes, hands_on}
-use Rattle.meaning_reached.proofs.class_table_laws.PassedRules.{handed_on, some_of, neither_true, same_as_itself}
+use Rattle.meaning_reached.proofs.class_rules_laws.FirstPlaces.{same_name, equal_name}
+use Rattle.meaning_reached.proofs.class_rules_laws.PassedRules.{both_passed, in_turn_passes, held as was_held, required_passes, hands_on}
+use Rattle.meaning_reached.proofs.class_rules_laws.PassedRules.{handed_on, some_of, neither_true, same_as_itself}
 use Rattle.meaning_reached.proofs.meaning_sound_laws.Locals.{means_under, type_of_under, IsLocalEnd, nil_end, no_int_class, begins}
 use Rattle.meaning_reached.proofs.meaning_sound_laws.Locals.{opened_sound, local_parts}
 use Rattle.meaning_reached.proofs.meaning_sound_laws.Undone.{check_joined, plain_joined}
 use Rattle.meaning_reached.proofs.meaning_sound_laws.Expansions.{innermost, made_in, not_in, slots_under}
 use Rattle.meaning_reached.proofs.meaning_sound_laws.Removal.{reference, one_name}
-use Rattle.meaning_reached.specs.class_table.Program.{with_parameters}
+use Rattle.meaning_reached.specs.class_rules.Program.{with_parameters}
 use Rattle.meaning_inverse.proofs.Ground.{entered}
 use Rattle.meaning_reached.proofs.meaning_sound_laws.Invocations.{IsCall, begun_sound, body_checks, body_plain, means_callee, more, callee}
 use Rattle.std.proofs.lemmas.Bool.{or_left}

@@ -3,7 +3,7 @@ use Rattle.std.proofs.Common.{◌≡◌, ℕ, refl, subst}
 use Rattle.meaning_reached.specs.rpp_tree.declared.tree.UpdateOp.{UpdateOp}
 use Rattle.meaning_reached.specs.rpp_tree.declared.tree.VarType.{VarType}
 use Rattle.meaning_reached.specs.rpp_tree.Tree.{Expression, Lvalue, Statement, Update, Swap, Copy, Uncopy, End, Then}
-use Rattle.meaning_reached.specs.stmt_inverter.Inverse.{inverse_statement}
+use Rattle.meaning_reached.specs.inverse_rules.Inverse.{inverse_statement}
 use Rattle.meaning_reached.specs.roopl_semantics.Run.{Done}
 use Rattle.meaning_reached.specs.roopl_semantics.Store.{State}
 use Rattle.meaning_reached.specs.roopl_semantics.Execution.{Setting, statement, exec}

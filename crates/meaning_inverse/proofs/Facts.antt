@@ -7,16 +7,16 @@ use Rattle.meaning_reached.specs.rpp_tree.declared.tree.VarType.{VarType}
 use Rattle.meaning_reached.specs.rpp_tree.declared.tree.UpdateOp.{UpdateOp}
 use Rattle.meaning_reached.specs.rpp_tree.Tree.{Expression, Lvalue, Whole, Item, Statement, Update, Swap, Copy, Uncopy, End, Then}
 use Rattle.meaning_reached.specs.rpp_tree.Tree.{Source}
-use Rattle.meaning_reached.specs.class_table.declared.kind.Kind.{Kind}
-use Rattle.meaning_reached.specs.class_table.declared.kind.Kind.TheVariants as kind
-use Rattle.meaning_reached.specs.class_table.Table.{table_of}
-use Rattle.meaning_reached.specs.class_table.Refusal.{type_differs, self_update, unknown_name, same_argument}
-use Rattle.meaning_reached.specs.class_table.Scope.{Typing, Locals, kind_in}
-use Rattle.meaning_reached.specs.class_table.Expressions.{is_int, element_kind, type_of, place_type, occurs, occurs_in_index}
+use Rattle.meaning_reached.specs.class_rules.declared.kind.Kind.{Kind}
+use Rattle.meaning_reached.specs.class_rules.declared.kind.Kind.TheVariants as kind
+use Rattle.meaning_reached.specs.class_rules.Table.{table_of}
+use Rattle.meaning_reached.specs.class_rules.Refusal.{type_differs, self_update, unknown_name, same_argument}
+use Rattle.meaning_reached.specs.class_rules.Scope.{Typing, Locals, kind_in}
+use Rattle.meaning_reached.specs.class_rules.Expressions.{is_int, element_kind, type_of, place_type, occurs, occurs_in_index}
 use Rattle.meaning_reached.specs.rpp_tree.Places.{place_name}
-use Rattle.meaning_reached.specs.class_table.Statements.{passed, required, same_kind, same_plain, occurs_in_own_index, in_either_index}
-use Rattle.meaning_reached.specs.class_table.Statements.{copy_rules, written_kind, type_known, takes_copy, check_statement}
-use Rattle.meaning_reached.specs.class_table.Program.{setting_in}
+use Rattle.meaning_reached.specs.class_rules.Statements.{passed, required, same_kind, same_plain, occurs_in_own_index, in_either_index}
+use Rattle.meaning_reached.specs.class_rules.Statements.{copy_rules, written_kind, type_known, takes_copy, check_statement}
+use Rattle.meaning_reached.specs.class_rules.Program.{setting_in}
 use Rattle.meaning_reached.specs.roopl_semantics.Store.{Value, Word, Nil, Name, Object, State, number_of, is_nil, object_named}
 use Rattle.meaning_reached.specs.roopl_semantics.Store.{no_object}
 use Rattle.meaning_reached.specs.roopl_semantics.Value.{Cell, cell_named, variable_value, read, written, value as value_in, cell_of}
@@ -25,9 +25,9 @@ use Rattle.meaning_reached.specs.roopl_semantics.Execution.{Setting, same_cell, 
 use Rattle.meaning_reached.specs.meaning_sound.Sound.{cell_kind, Typed}
 use Rattle.meaning_reached.proofs.meaning_sound_laws.Cells.{read_fits, changed_told}
 use Rattle.meaning_reached.proofs.meaning_sound_laws.Classes.{KnowsClasses}
-use Rattle.meaning_reached.proofs.class_table_laws.FirstPlaces.{same_name}
-use Rattle.meaning_reached.proofs.class_table_laws.PassedRules.{both_passed, held as was_held, handed_on, some_of, both_true, neither_true}
-use Rattle.meaning_reached.proofs.class_table_laws.PassedRules.{int_kind, kinds_same}
+use Rattle.meaning_reached.proofs.class_rules_laws.FirstPlaces.{same_name}
+use Rattle.meaning_reached.proofs.class_rules_laws.PassedRules.{both_passed, held as was_held, handed_on, some_of, both_true, neither_true}
+use Rattle.meaning_reached.proofs.class_rules_laws.PassedRules.{int_kind, kinds_same}
 use Rattle.meaning_reached.proofs.meaning_sound_laws.Values.{int_value, value_found, cell_found, value_fits, place_fits}
 use Rattle.meaning_reached.proofs.meaning_sound_laws.Removal.{reference}
 use Rattle.meaning_reached.proofs.meaning_sound_laws.AfterWrites.{read_other}

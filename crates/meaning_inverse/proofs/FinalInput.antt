@@ -14,12 +14,12 @@ use Rattle.meaning_reached.specs.rpp_tree.declared.tree.Var.{Var}
 use Rattle.meaning_reached.specs.rpp_tree.declared.tree.VarType.{VarType}
 use Rattle.meaning_reached.specs.rpp_tree.declared.tree.VarType.TheVariants as type
 use Rattle.meaning_reached.specs.rpp_tree.Tree.{Source}
-use Rattle.meaning_reached.specs.class_table.Inheritance.{kind_of_var}
-use Rattle.meaning_reached.specs.class_table.Scope.{kind_of, array_kind}
-use Rattle.meaning_reached.specs.class_table.Table.{Table, table_of, class_of}
-use Rattle.meaning_reached.specs.class_table.Expressions.{is_int}
-use Rattle.meaning_reached.specs.class_table.Program.{IsAccepted}
-use Rattle.meaning_reached.proofs.class_table_laws.PassedRules.{both_true}
+use Rattle.meaning_reached.specs.class_rules.Inheritance.{kind_of_var}
+use Rattle.meaning_reached.specs.class_rules.Scope.{kind_of, array_kind}
+use Rattle.meaning_reached.specs.class_rules.Table.{Table, table_of, class_of}
+use Rattle.meaning_reached.specs.class_rules.Expressions.{is_int}
+use Rattle.meaning_reached.specs.class_rules.Program.{IsAccepted}
+use Rattle.meaning_reached.proofs.class_rules_laws.PassedRules.{both_true}
 use Rattle.meaning_reached.specs.roopl_semantics.Run.{Done}
 use Rattle.meaning_reached.specs.roopl_semantics.Store.{Value, Word, Nil, Name, Store, State, main_name, zero_value, zero_values}
 use Rattle.meaning_reached.specs.roopl_semantics.Store.{object_at}

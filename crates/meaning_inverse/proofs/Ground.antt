@@ -14,9 +14,9 @@ use Rattle.meaning_reached.specs.rpp_tree.Tree.{Expression, Lvalue, Whole, Item,
 use Rattle.meaning_reached.specs.rpp_tree.Tree.{Statements, Update, Swap, If, From, Construct, Local, New, Delete, Copy, Uncopy, Call}
 use Rattle.meaning_reached.specs.rpp_tree.Tree.{End, Then, Procedure, Source, Part, Operand, Target, Typed as TypedTarget}
 use Rattle.meaning_reached.specs.rpp_tree.Tree.{Creates, Invokes, each_part, own_parts}
-use Rattle.meaning_reached.specs.class_table.Expressions.{occurs}
+use Rattle.meaning_reached.specs.class_rules.Expressions.{occurs}
 use Rattle.meaning_reached.specs.roopl_semantics.Run.{Done}
-use Rattle.meaning_reached.specs.class_table.Classes.{class_number, class_fields, method_named}
+use Rattle.meaning_reached.specs.class_rules.Classes.{class_number, class_fields, method_named}
 use Rattle.meaning_reached.specs.roopl_semantics.Store.{Value, Word, Nil, Name, Head, OfClass, OfInts, OfObjects, Object, Store, State}
 use Rattle.meaning_reached.specs.roopl_semantics.Store.{main_name, is_nil, number_of, zero_values, object_named}
 use Rattle.meaning_reached.specs.roopl_semantics.Value.{Cell, value_at, read, written, value as value_in, cell_of, cell_named}

@@ -6,28 +6,28 @@ use Rattle.meaning_reached.specs.rpp_tree.declared.tree.Var.{Var}
 use Rattle.meaning_reached.specs.rpp_tree.Tree.{Expression, Whole, Object as AnObject, Ints, Objects, Statement, Statements, Update}
 use Rattle.meaning_reached.specs.rpp_tree.Tree.{Swap, If, From, Construct, Local, New, Delete, Copy, Uncopy, Call, Skip, End, Then}
 use Rattle.meaning_reached.specs.rpp_tree.Tree.{Procedure, Source}
-use Rattle.meaning_reached.specs.class_table.declared.kind.Kind.{Kind}
-use Rattle.meaning_reached.specs.class_table.declared.kind.Kind.TheVariants as kind
-use Rattle.meaning_reached.specs.class_table.Table.{table_of}
-use Rattle.meaning_reached.specs.class_table.Classes.{method_named}
-use Rattle.meaning_reached.specs.class_table.Scope.{Typing, Locals}
-use Rattle.meaning_reached.specs.class_table.Expressions.{is_int, type_of, place_type}
-use Rattle.meaning_reached.specs.class_table.Statements.{in_turn, test_rules, check_statements}
-use Rattle.meaning_reached.specs.class_table.Program.{setting_in}
+use Rattle.meaning_reached.specs.class_rules.declared.kind.Kind.{Kind}
+use Rattle.meaning_reached.specs.class_rules.declared.kind.Kind.TheVariants as kind
+use Rattle.meaning_reached.specs.class_rules.Table.{table_of}
+use Rattle.meaning_reached.specs.class_rules.Classes.{method_named}
+use Rattle.meaning_reached.specs.class_rules.Scope.{Typing, Locals}
+use Rattle.meaning_reached.specs.class_rules.Expressions.{is_int, type_of, place_type}
+use Rattle.meaning_reached.specs.class_rules.Statements.{in_turn, test_rules, check_statements}
+use Rattle.meaning_reached.specs.class_rules.Program.{setting_in}
 use Rattle.meaning_reached.specs.buddy_book.Place.{Log, count_taken}
 use Rattle.meaning_reached.specs.roopl_semantics.Run.{Done}
 use Rattle.meaning_reached.specs.roopl_semantics.Store.{Nil, Name, Object, Store, Binding, State, is_nil, object_at}
 use Rattle.meaning_reached.specs.roopl_semantics.Value.{Cell, Slot, Part, cell_named, own_class, read}
 use Rattle.meaning_reached.specs.roopl_semantics.Execution.{Setting, same_cell, bound, moved_out, moved_back, cells_named, class_of}
 use Rattle.meaning_reached.specs.roopl_semantics.Execution.{exec}
-use Rattle.meaning_reached.specs.class_table.Inheritance.{kind_of_var}
+use Rattle.meaning_reached.specs.class_rules.Inheritance.{kind_of_var}
 use Rattle.meaning_reached.specs.meaning_sound.Sound.{head_of, head_named, is_live, fits, cell_kinds, cell_kind, Descending}
 use Rattle.meaning_reached.proofs.meaning_sound_laws.Lists.{all_inside, all_get}
 use Rattle.meaning_reached.proofs.meaning_sound_laws.Stores.{live_object}
 use Rattle.meaning_reached.specs.meaning_sound.Sound.{Typed}
 use Rattle.meaning_reached.proofs.meaning_sound_laws.Cells.{read_fits, part_of}
 use Rattle.meaning_reached.proofs.meaning_sound_laws.Classes.{KnowsClasses}
-use Rattle.meaning_reached.proofs.class_table_laws.PassedRules.{both_passed, handed_on}
+use Rattle.meaning_reached.proofs.class_rules_laws.PassedRules.{both_passed, handed_on}
 use Rattle.meaning_reached.proofs.meaning_sound_laws.Moves.{CellsHave, ApartFrom, AllApart, own_cells_kept, moves_out}
 use Rattle.meaning_reached.proofs.meaning_sound_laws.Invocations.{cells_append}
 use Rattle.meaning_reached.proofs.meaning_sound_laws.Makes.{copy_parts}

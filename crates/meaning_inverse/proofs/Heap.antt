@@ -8,7 +8,7 @@ use Rattle.meaning_reached.specs.rpp_tree.declared.tree.Var.{Var}
 use Rattle.meaning_reached.specs.rpp_tree.declared.tree.VarType.{VarType}
 use Rattle.meaning_reached.specs.rpp_tree.declared.tree.VarType.TheVariants as kind
 use Rattle.meaning_reached.specs.rpp_tree.Tree.{Expression, Lvalue, Object as AnObject, New, Delete, End, Then, nodes, index_nodes}
-use Rattle.meaning_reached.specs.class_table.Classes.{class_number, class_fields}
+use Rattle.meaning_reached.specs.class_rules.Classes.{class_number, class_fields}
 use Rattle.meaning_reached.specs.buddy_book.Place.{Log, Taken, Given, count_taken, block_of, after_request, place}
 use Rattle.meaning_reached.proofs.buddy_book_laws.Orders.{give_gave}
 use Rattle.meaning_reached.specs.roopl_semantics.Run.{Run, Done, ◌>>=◌, give as ends, spend, fault_if}

@@ -6,7 +6,7 @@ use Rattle.std.proofs.Common.{refl}
 use Rattle.meaning_reached.specs.rpp_tree.declared.tree.VarType.TheVariants as kind
 use Rattle.meaning_reached.specs.rpp_tree.declared.tree.UpdateOp.TheVariants as update
 use Rattle.meaning_reached.specs.rpp_tree.Tree.{Number, Variable, Whole, Ints, Update, New, Delete, Call, Source}
-use Rattle.meaning_reached.specs.stmt_inverter.Inverse.{inverse_program}
+use Rattle.meaning_reached.specs.inverse_rules.Inverse.{inverse_program}
 use Rattle.meaning_reached.proofs.roopl_semantics_laws.Testing.{named, var, procedure, class_text, block, program, Finished, Faulted, lines}
 use Rattle.meaning_reached.proofs.roopl_semantics_laws.Testing.{ending, word_for}
 

@@ -4,16 +4,16 @@ use Rattle.std.proofs.Common.{◌&&◌, List, [], ◌∷◌, ◌++◌, length, m
 use Rattle.std.proofs.Common.{Err, Result, nat_eq, is_some, slice_get, if◌then◌else◌, eqb-true}
 use Rattle.meaning_reached.specs.rpp_tree.Tree.{Expression, Number, Null, Variable, Element, Binary, Lvalue, Whole, Item, Statements}
 use Rattle.meaning_reached.specs.rpp_tree.Tree.{Source}
-use Rattle.meaning_reached.specs.class_table.declared.kind.Kind.{Kind}
-use Rattle.meaning_reached.specs.class_table.declared.kind.Kind.TheVariants as kind
-use Rattle.meaning_reached.specs.class_table.Table.{Table, table_of}
-use Rattle.meaning_reached.specs.class_table.Scope.{Typing, Locals}
-use Rattle.meaning_reached.specs.class_table.Refusal.{type_differs, refused_operator}
-use Rattle.meaning_reached.specs.class_table.Expressions.{is_int, element_of as element_type, index_is_int, variable_type, type_of}
-use Rattle.meaning_reached.specs.class_table.Expressions.{place_type, is_comparison, is_refused, compares, operands_fit, operator_type}
-use Rattle.meaning_reached.specs.class_table.Expressions.{first_token}
-use Rattle.meaning_reached.specs.class_table.Statements.{passed, check_statements}
-use Rattle.meaning_reached.specs.class_table.Program.{setting_in}
+use Rattle.meaning_reached.specs.class_rules.declared.kind.Kind.{Kind}
+use Rattle.meaning_reached.specs.class_rules.declared.kind.Kind.TheVariants as kind
+use Rattle.meaning_reached.specs.class_rules.Table.{Table, table_of}
+use Rattle.meaning_reached.specs.class_rules.Scope.{Typing, Locals}
+use Rattle.meaning_reached.specs.class_rules.Refusal.{type_differs, refused_operator}
+use Rattle.meaning_reached.specs.class_rules.Expressions.{is_int, element_of as element_type, index_is_int, variable_type, type_of}
+use Rattle.meaning_reached.specs.class_rules.Expressions.{place_type, is_comparison, is_refused, compares, operands_fit, operator_type}
+use Rattle.meaning_reached.specs.class_rules.Expressions.{first_token}
+use Rattle.meaning_reached.specs.class_rules.Statements.{passed, check_statements}
+use Rattle.meaning_reached.specs.class_rules.Program.{setting_in}
 use Rattle.meaning_reached.specs.buddy_book.Place.{block_of, count_taken}
 use Rattle.meaning_reached.proofs.buddy_book_laws.Kept.{given_back}
 use Rattle.meaning_reached.specs.roopl_semantics.Store.{Value, Word, Nil, Name, Head, Object, Store, Binding, State, main_name}
@@ -31,7 +31,7 @@ use Rattle.meaning_reached.proofs.meaning_sound_laws.Cells.{typed_of, part_of, v
 use Rattle.meaning_reached.proofs.meaning_sound_laws.Classes.{KnowsClasses}
 use Rattle.meaning_reached.specs.meaning_sound.Kept.{MeansSame}
 use Rattle.meaning_reached.proofs.meaning_sound_laws.Names.{is_object}
-use Rattle.meaning_reached.proofs.class_table_laws.PassedRules.{handed_on, both_true}
+use Rattle.meaning_reached.proofs.class_rules_laws.PassedRules.{handed_on, both_true}
 use Rattle.meaning_reached.proofs.meaning_sound_laws.Values.{ValueFits, value_fits}
 use Rattle.meaning_reached.proofs.meaning_sound_laws.Objects.{all_live}
 use Rattle.meaning_reached.proofs.meaning_sound_laws.Removal.{one_name}

@@ -6,7 +6,7 @@ use Rattle.std.proofs.Common.{if◌then◌else◌, eqb-true, replicate, cond, �
 use Rattle.meaning_reached.specs.rpp_tree.Tree.{Expression, Null, Lvalue, Whole, Item, Object as AnObject, Ints, Objects, Statement}
 use Rattle.meaning_reached.specs.rpp_tree.Tree.{Statements, Update, Swap, If, From, Construct, Local, New, Delete, Copy, Uncopy, Call}
 use Rattle.meaning_reached.specs.rpp_tree.Tree.{Skip, End, Then, Procedure}
-use Rattle.meaning_reached.specs.class_table.Classes.{class_number, class_fields, method_named}
+use Rattle.meaning_reached.specs.class_rules.Classes.{class_number, class_fields, method_named}
 use Rattle.meaning_reached.specs.buddy_book.Place.{Taken, Given, count_taken}
 use Rattle.meaning_reached.specs.roopl_semantics.Operators.{updated}
 use Rattle.meaning_reached.specs.roopl_semantics.Run.{Run, Done, More, ◌>>=◌, spend, fault_if}

@@ -4,12 +4,12 @@ use Rattle.std.proofs.Common.{Some, None, nat_eq, eqb-true, if◌then◌else◌}
 use Rattle.meaning_reached.specs.rpp_words.declared.input.Limits.{Limits}
 use Rattle.meaning_reached.specs.rpp_words.declared.input.FieldWord.{FieldWord}
 use Rattle.meaning_reached.specs.rpp_tree.Tree.{Statements, Source}
-use Rattle.meaning_reached.specs.class_table.Program.{IsAccepted}
+use Rattle.meaning_reached.specs.class_rules.Program.{IsAccepted}
 use Rattle.meaning_reached.specs.roopl_semantics.Run.{Done}
 use Rattle.meaning_reached.specs.roopl_semantics.Store.{OfClass, Object, State, main_name, object_named, object_at}
 use Rattle.meaning_reached.specs.roopl_semantics.Execution.{Setting, exec}
 use Rattle.meaning_reached.specs.rpp_words.Limits.{IsLimits}
-use Rattle.meaning_reached.specs.class_table.Classes.{main_of}
+use Rattle.meaning_reached.specs.class_rules.Classes.{main_of}
 use Rattle.meaning_reached.specs.roopl_semantics.Source.{IsValid, main_body, main_object, source, starting}
 use Rattle.meaning_inverse.specs.InverseLaws.{LeadsBack}
 use Rattle.meaning_reached.proofs.roopl_semantics_laws.MainPlace.{class_inside}
@@ -17,10 +17,10 @@ use Rattle.meaning_reached.specs.meaning_sound.Plain.{ProgramIsPlain}
 use Rattle.meaning_reached.proofs.meaning_sound_laws.Accepted.{knows_classes}
 use Rattle.meaning_reached.proofs.meaning_sound_laws.Plainness.{program_plain}
 use Rattle.meaning_reached.proofs.meaning_sound_laws.Starting.{starting_sound, main_text}
-use Rattle.meaning_reached.specs.class_table.Scope.{Locals}
-use Rattle.meaning_reached.specs.class_table.Table.{table_of}
-use Rattle.meaning_reached.specs.class_table.Statements.{passed, check_statements}
-use Rattle.meaning_reached.specs.class_table.Program.{setting_in}
+use Rattle.meaning_reached.specs.class_rules.Scope.{Locals}
+use Rattle.meaning_reached.specs.class_rules.Table.{table_of}
+use Rattle.meaning_reached.specs.class_rules.Statements.{passed, check_statements}
+use Rattle.meaning_reached.specs.class_rules.Program.{setting_in}
 use Rattle.meaning_reached.specs.meaning_sound.Sound.{Sound, main_alone}
 use Rattle.meaning_reached.specs.meaning_sound.Plain.{IsPlain}
 use Rattle.meaning_reached.specs.meaning_sound.Kept.{MeansSame}

@@ -4,15 +4,15 @@ use Rattle.std.proofs.Common.{Some, None, option_map, unwrap_or, Ok, ifâ—Œthenâ—
 use Rattle.meaning_reached.specs.rpp_tree.declared.tree.Ident.{Ident}
 use Rattle.meaning_reached.specs.rpp_tree.Tree.{Expression, Lvalue, Creation, Object as AnObject, Ints, Objects, New, Delete, End, Then}
 use Rattle.meaning_reached.specs.rpp_tree.Tree.{Source}
-use Rattle.meaning_reached.specs.class_table.declared.kind.Kind.{Kind}
-use Rattle.meaning_reached.specs.class_table.declared.kind.Kind.TheVariants as kind
-use Rattle.meaning_reached.specs.class_table.Table.{table_of, class_of}
-use Rattle.meaning_reached.specs.class_table.Classes.{class_fields}
-use Rattle.meaning_reached.specs.class_table.Scope.{Typing}
-use Rattle.meaning_reached.specs.class_table.Expressions.{and_then, is_int, element_kind as elements_of, type_of, occurs}
+use Rattle.meaning_reached.specs.class_rules.declared.kind.Kind.{Kind}
+use Rattle.meaning_reached.specs.class_rules.declared.kind.Kind.TheVariants as kind
+use Rattle.meaning_reached.specs.class_rules.Table.{table_of, class_of}
+use Rattle.meaning_reached.specs.class_rules.Classes.{class_fields}
+use Rattle.meaning_reached.specs.class_rules.Scope.{Typing}
+use Rattle.meaning_reached.specs.class_rules.Expressions.{and_then, is_int, element_kind as elements_of, type_of, occurs}
 use Rattle.meaning_reached.specs.rpp_tree.Places.{place_name}
-use Rattle.meaning_reached.specs.class_table.Statements.{is_int_array, takes_objects_of}
-use Rattle.meaning_reached.specs.class_table.Program.{setting_in}
+use Rattle.meaning_reached.specs.class_rules.Statements.{is_int_array, takes_objects_of}
+use Rattle.meaning_reached.specs.class_rules.Program.{setting_in}
 use Rattle.meaning_reached.specs.roopl_semantics.Store.{Value, Word, Nil, Name, Head, OfClass, OfInts, OfObjects, Object, State}
 use Rattle.meaning_reached.specs.roopl_semantics.Store.{main_name, number_of, is_nil, object_named, object_at}
 use Rattle.meaning_reached.specs.roopl_semantics.Value.{Cell, read, value as value_in, cell_of}
@@ -23,7 +23,7 @@ use Rattle.meaning_reached.specs.meaning_sound.Plain.{HasWords}
 use Rattle.meaning_reached.proofs.meaning_sound_laws.Lists.{all_length}
 use Rattle.meaning_reached.proofs.meaning_sound_laws.Cells.{read_fits}
 use Rattle.meaning_reached.proofs.meaning_sound_laws.Classes.{KnowsClasses}
-use Rattle.meaning_reached.proofs.class_table_laws.PassedRules.{handed_on, int_kind}
+use Rattle.meaning_reached.proofs.class_rules_laws.PassedRules.{handed_on, int_kind}
 use Rattle.meaning_reached.proofs.meaning_sound_laws.Values.{int_value, value_found, value_fits}
 use Rattle.meaning_reached.proofs.meaning_sound_laws.Removal.{reference, named_of}
 use Rattle.meaning_reached.proofs.meaning_sound_laws.Makes.{no_int_takes, new_class}

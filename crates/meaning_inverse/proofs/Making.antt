@@ -7,15 +7,15 @@ use Rattle.meaning_reached.specs.rpp_tree.declared.tree.Var.{Var}
 use Rattle.meaning_reached.specs.rpp_tree.declared.tree.VarType.{VarType}
 use Rattle.meaning_reached.specs.rpp_tree.declared.tree.VarType.TheVariants as type
 use Rattle.meaning_reached.specs.rpp_tree.Tree.{Expression, Lvalue, Whole, Item, Creation, Source}
-use Rattle.meaning_reached.specs.class_table.declared.kind.Kind.{Kind}
-use Rattle.meaning_reached.specs.class_table.Table.{table_of, class_of}
-use Rattle.meaning_reached.specs.class_table.Refusal.{type_differs, self_update}
-use Rattle.meaning_reached.specs.class_table.Scope.{Typing, Locals, kind_in, kind_of, array_kind}
-use Rattle.meaning_reached.specs.class_table.Expressions.{is_int, element_kind, type_of, place_type, occurs}
+use Rattle.meaning_reached.specs.class_rules.declared.kind.Kind.{Kind}
+use Rattle.meaning_reached.specs.class_rules.Table.{table_of, class_of}
+use Rattle.meaning_reached.specs.class_rules.Refusal.{type_differs, self_update}
+use Rattle.meaning_reached.specs.class_rules.Scope.{Typing, Locals, kind_in, kind_of, array_kind}
+use Rattle.meaning_reached.specs.class_rules.Expressions.{is_int, element_kind, type_of, place_type, occurs}
 use Rattle.meaning_reached.specs.rpp_tree.Places.{place_name}
-use Rattle.meaning_reached.specs.class_table.Statements.{passed, required, occurs_in_own_index, occurs_in_length, make_rules}
-use Rattle.meaning_reached.specs.class_table.Statements.{made_known, length_is_int, takes}
-use Rattle.meaning_reached.specs.class_table.Program.{setting_in}
+use Rattle.meaning_reached.specs.class_rules.Statements.{passed, required, occurs_in_own_index, occurs_in_length, make_rules}
+use Rattle.meaning_reached.specs.class_rules.Statements.{made_known, length_is_int, takes}
+use Rattle.meaning_reached.specs.class_rules.Program.{setting_in}
 use Rattle.meaning_reached.specs.buddy_book.Place.{count_taken}
 use Rattle.meaning_reached.specs.roopl_semantics.Store.{Value, Word, Nil, Name, Head, Store, State, is_zero, zero_value, zero_values}
 use Rattle.meaning_reached.specs.roopl_semantics.Store.{object_named, object_at, no_object, class_of_head}
@@ -23,10 +23,10 @@ use Rattle.meaning_reached.specs.roopl_semantics.Value.{Cell, Slot, Part, slot_o
 use Rattle.meaning_reached.specs.roopl_semantics.Value.{read, written, value as value_in, cell_of}
 use Rattle.meaning_reached.specs.roopl_semantics.Elements.{elements, index_elements, own_element, share_array}
 use Rattle.meaning_reached.specs.roopl_semantics.Execution.{Setting, new_object, all_zero}
-use Rattle.meaning_reached.specs.class_table.Inheritance.{kind_of_var}
+use Rattle.meaning_reached.specs.class_rules.Inheritance.{kind_of_var}
 use Rattle.meaning_reached.specs.meaning_sound.Sound.{AllFit}
 use Rattle.meaning_reached.proofs.meaning_sound_laws.Classes.{KnowsClasses}
-use Rattle.meaning_reached.proofs.class_table_laws.PassedRules.{both_passed, held as was_held, handed_on, both_true, neither_true}
+use Rattle.meaning_reached.proofs.class_rules_laws.PassedRules.{both_passed, held as was_held, handed_on, both_true, neither_true}
 use Rattle.meaning_reached.proofs.meaning_sound_laws.Locals.{no_int_class}
 use Rattle.meaning_reached.proofs.meaning_sound_laws.AfterWrites.{read_other}
 use Rattle.meaning_inverse.proofs.Cells.{IsCell, IsSlot, IsPart}

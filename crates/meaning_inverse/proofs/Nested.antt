@@ -3,7 +3,7 @@ use Rattle.std.proofs.Common.{◌≡◌, ℕ, zero, suc, ◌+◌, ◌<◌, ◌�
 use Rattle.std.proofs.Common.{not, if◌then◌else◌, Ok}
 use Rattle.meaning_reached.specs.rpp_tree.Tree.{Expression, Number, Null, Variable, Element, Binary, Statements, If, From, End, Then}
 use Rattle.meaning_reached.specs.rpp_tree.Tree.{nodes}
-use Rattle.meaning_reached.specs.stmt_inverter.Inverse.{inverse}
+use Rattle.meaning_reached.specs.inverse_rules.Inverse.{inverse}
 use Rattle.meaning_reached.specs.roopl_semantics.Run.{Run, Done, ◌>>=◌, give, fault_if}
 use Rattle.meaning_reached.specs.roopl_semantics.Store.{Value, State}
 use Rattle.meaning_reached.specs.roopl_semantics.Value.{value as value_in, evaluated}

@@ -24,10 +24,10 @@ use Rattle.meaning_reached.specs.rpp_tree.Parts.{var_tokens, list_tokens, tokens
 use Rattle.meaning_reached.specs.rpp_tree.Parts.{parent_tokens, class_tokens}
 use Rattle.meaning_reached.specs.rpp_tree.Limits.{part_index_depth, small, IsSmallStatement, AreSmall, IsSmallMethod, IsWithinLimits}
 use Rattle.meaning_reached.proofs.rpp_tree_laws.Walks.{walk_joined}
-use Rattle.meaning_reached.specs.stmt_inverter.Inverse.{inverse_statement_as, inverse_as, inverse_procedure, inverse_class}
-use Rattle.meaning_reached.specs.stmt_inverter.Inverse.{inverse_program}
-use Rattle.meaning_reached.proofs.stmt_inverter_laws.InverseWalks.{IsTurned, block_turned as walk_block_turned, own_parts_turned}
-use Rattle.meaning_reached.proofs.stmt_inverter_laws.InverseWalks.{depth_undone, locals_undone}
+use Rattle.meaning_reached.specs.inverse_rules.Inverse.{inverse_statement_as, inverse_as, inverse_procedure, inverse_class}
+use Rattle.meaning_reached.specs.inverse_rules.Inverse.{inverse_program}
+use Rattle.meaning_reached.proofs.inverse_rules_laws.InverseWalks.{IsTurned, block_turned as walk_block_turned, own_parts_turned}
+use Rattle.meaning_reached.proofs.inverse_rules_laws.InverseWalks.{depth_undone, locals_undone}
 
 -- ---- lists with the same elements
 

@@ -9,9 +9,9 @@ use Rattle.meaning_reached.specs.rpp_tree.Tree.{Expression, Number, Null, Variab
 use Rattle.meaning_reached.specs.rpp_tree.Tree.{Object as AnObject, Ints, Objects, Statement, Statements, Update, Swap, If, From}
 use Rattle.meaning_reached.specs.rpp_tree.Tree.{Construct, Local, New, Delete, Copy, Uncopy, Call, Skip, End, Then, Procedure, Source}
 use Rattle.meaning_reached.specs.rpp_tree.Tree.{nodes, index_nodes}
-use Rattle.meaning_reached.specs.class_table.Members.{field_of}
-use Rattle.meaning_reached.specs.class_table.Classes.{class_number, class_fields, method_named}
-use Rattle.meaning_reached.specs.stmt_inverter.Inverse.{inverse_as, inverse, inverse_procedure, inverse_program}
+use Rattle.meaning_reached.specs.class_rules.Members.{field_of}
+use Rattle.meaning_reached.specs.class_rules.Classes.{class_number, class_fields, method_named}
+use Rattle.meaning_reached.specs.inverse_rules.Inverse.{inverse_as, inverse, inverse_procedure, inverse_program}
 use Rattle.meaning_reached.specs.roopl_semantics.Run.{Run, after_cost, ◌>>=◌, given, spend, fault_if}
 use Rattle.meaning_reached.specs.roopl_semantics.Store.{object_at, is_nil, Value, Head, OfClass, OfInts, OfObjects, State, Word, Nil}
 use Rattle.meaning_reached.specs.roopl_semantics.Store.{zero_values, number_of, same_value}

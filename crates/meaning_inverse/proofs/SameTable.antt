@@ -10,29 +10,29 @@ use Rattle.std.specs.List.{list_any}
 use Rattle.std.specs.Str.{bytes_eq}
 use Rattle.indexmap.specs.IndexMap.{insert_entry}
 use Rattle.meaning_reached.specs.rpp_tree.Tree.{Procedure, ClassText, Source}
-use Rattle.meaning_reached.specs.class_table.declared.method.MethodId.{MethodId}
-use Rattle.meaning_reached.specs.class_table.declared.error.ClassError.TheVariants.{DuplicateClass, InheritanceCycle, DuplicateMethod}
-use Rattle.meaning_reached.specs.class_table.declared.error.ClassError.TheVariants.{OverrideDiffers, Limit}
+use Rattle.meaning_reached.specs.class_rules.declared.method.MethodId.{MethodId}
+use Rattle.meaning_reached.specs.class_rules.declared.error.ClassError.TheVariants.{DuplicateClass, InheritanceCycle, DuplicateMethod}
+use Rattle.meaning_reached.specs.class_rules.declared.error.ClassError.TheVariants.{OverrideDiffers, Limit}
 use Rattle.meaning_reached.specs.rpp_tree.declared.limits.LimitKind.TheVariants as limit
 use Rattle.meaning_reached.specs.rpp_tree.declared.limits.TheConstants.{MOST_FIELDS, MOST_METHODS}
-use Rattle.meaning_reached.specs.class_table.First.{refused_if, first_of, first_in, first_after, first_at, each_below}
-use Rattle.meaning_reached.specs.class_table.Names.{has_name}
-use Rattle.meaning_reached.specs.class_table.Rules.{name_of, class_names, name_taken, duplicate_class, unknown_parent, unknown_var}
-use Rattle.meaning_reached.specs.class_table.Rules.{unknown_params, unknown_in_class, unknown_class}
-use Rattle.meaning_reached.specs.class_table.Chains.{parent_named, parents, chain, chain_of, endless_chain, inheritance_cycle, line_of}
-use Rattle.meaning_reached.specs.class_table.Chains.{lines}
-use Rattle.meaning_reached.specs.class_table.Members.{no_class, no_procedure, class_at, fields_along, inherited, fields_of, fields}
-use Rattle.meaning_reached.specs.class_table.Members.{field_name, taken_field, duplicate_field_at, duplicate_field, too_many_fields_at}
-use Rattle.meaning_reached.specs.class_table.Members.{too_many_fields, Slots, with_methods, slots_along, slots_of, slots}
-use Rattle.meaning_reached.specs.class_table.Members.{too_many_slots_at, too_many_slots}
-use Rattle.meaning_reached.specs.class_table.Overrides.{method_name, method_taken, duplicate_method_in, duplicate_method, same_types}
-use Rattle.meaning_reached.specs.class_table.Overrides.{run_at, parameters_of, override_differs, override_in_slot, override_differs_at}
-use Rattle.meaning_reached.specs.class_table.Overrides.{inherited_slots, differing_override}
-use Rattle.meaning_reached.specs.class_table.Mains.{is_main, mains_in, mains_from, mains, main_refusal, first_main}
-use Rattle.meaning_reached.specs.class_table.Classes.{class_number, class_fields, class_slots, method_slot, dispatch, procedure_at}
-use Rattle.meaning_reached.specs.class_table.Classes.{method_named, main_of}
-use Rattle.meaning_reached.specs.class_table.Table.{table_of, first_class_refusal, HasClassTable}
-use Rattle.meaning_reached.specs.stmt_inverter.Inverse.{inverse_procedure, inverse_class, inverse_program}
+use Rattle.meaning_reached.specs.class_rules.First.{refused_if, first_of, first_in, first_after, first_at, each_below}
+use Rattle.meaning_reached.specs.class_rules.Names.{has_name}
+use Rattle.meaning_reached.specs.class_rules.Rules.{name_of, class_names, name_taken, duplicate_class, unknown_parent, unknown_var}
+use Rattle.meaning_reached.specs.class_rules.Rules.{unknown_params, unknown_in_class, unknown_class}
+use Rattle.meaning_reached.specs.class_rules.Chains.{parent_named, parents, chain, chain_of, endless_chain, inheritance_cycle, line_of}
+use Rattle.meaning_reached.specs.class_rules.Chains.{lines}
+use Rattle.meaning_reached.specs.class_rules.Members.{no_class, no_procedure, class_at, fields_along, inherited, fields_of, fields}
+use Rattle.meaning_reached.specs.class_rules.Members.{field_name, taken_field, duplicate_field_at, duplicate_field, too_many_fields_at}
+use Rattle.meaning_reached.specs.class_rules.Members.{too_many_fields, Slots, with_methods, slots_along, slots_of, slots}
+use Rattle.meaning_reached.specs.class_rules.Members.{too_many_slots_at, too_many_slots}
+use Rattle.meaning_reached.specs.class_rules.Overrides.{method_name, method_taken, duplicate_method_in, duplicate_method, same_types}
+use Rattle.meaning_reached.specs.class_rules.Overrides.{run_at, parameters_of, override_differs, override_in_slot, override_differs_at}
+use Rattle.meaning_reached.specs.class_rules.Overrides.{inherited_slots, differing_override}
+use Rattle.meaning_reached.specs.class_rules.Mains.{is_main, mains_in, mains_from, mains, main_refusal, first_main}
+use Rattle.meaning_reached.specs.class_rules.Classes.{class_number, class_fields, class_slots, method_slot, dispatch, procedure_at}
+use Rattle.meaning_reached.specs.class_rules.Classes.{method_named, main_of}
+use Rattle.meaning_reached.specs.class_rules.Table.{table_of, first_class_refusal, HasClassTable}
+use Rattle.meaning_reached.specs.inverse_rules.Inverse.{inverse_procedure, inverse_class, inverse_program}
 
 -- ---- lists of which each element changes
 

@@ -6,18 +6,18 @@ use Rattle.std.specs.Option.{is_none}
 use Rattle.meaning_reached.specs.rpp_tree.declared.tree.Ident.{Ident}
 use Rattle.meaning_reached.specs.rpp_tree.Tree.{Lvalue, Statement, Statements, Update, If, From, Construct, Local, Call, End, Then}
 use Rattle.meaning_reached.specs.rpp_tree.Tree.{Procedure, ClassText, Source}
-use Rattle.meaning_reached.specs.class_table.Scope.{Typing, Locals}
-use Rattle.meaning_reached.specs.class_table.Refusal.{wrong_arity}
-use Rattle.meaning_reached.specs.class_table.Table.{Table, table_of, slot_in, dispatch_in}
-use Rattle.meaning_reached.specs.class_table.Expressions.{and_then}
-use Rattle.meaning_reached.specs.class_table.Statements.{passed, required, in_turn, each_passes, each_passes_after, test_rules}
-use Rattle.meaning_reached.specs.class_table.Statements.{local_rules, construct_rules, with_local, with_object, argument_known}
-use Rattle.meaning_reached.specs.class_table.Statements.{argument_new, arguments_fit, plain_receiver, receiver_class, slot_rules}
-use Rattle.meaning_reached.specs.class_table.Statements.{call_rules, check_statement, check_statements}
-use Rattle.meaning_reached.specs.class_table.Program.{parameter_new, with_parameters, check_method, check_class, check_classes}
-use Rattle.meaning_reached.specs.class_table.Program.{IsAccepted}
-use Rattle.meaning_reached.proofs.class_table_laws.PassedRules.{both_passed, in_turn_passes}
-use Rattle.meaning_reached.specs.stmt_inverter.Inverse.{inverse_as, inverse_procedure, inverse_class, inverse_program}
+use Rattle.meaning_reached.specs.class_rules.Scope.{Typing, Locals}
+use Rattle.meaning_reached.specs.class_rules.Refusal.{wrong_arity}
+use Rattle.meaning_reached.specs.class_rules.Table.{Table, table_of, slot_in, dispatch_in}
+use Rattle.meaning_reached.specs.class_rules.Expressions.{and_then}
+use Rattle.meaning_reached.specs.class_rules.Statements.{passed, required, in_turn, each_passes, each_passes_after, test_rules}
+use Rattle.meaning_reached.specs.class_rules.Statements.{local_rules, construct_rules, with_local, with_object, argument_known}
+use Rattle.meaning_reached.specs.class_rules.Statements.{argument_new, arguments_fit, plain_receiver, receiver_class, slot_rules}
+use Rattle.meaning_reached.specs.class_rules.Statements.{call_rules, check_statement, check_statements}
+use Rattle.meaning_reached.specs.class_rules.Program.{parameter_new, with_parameters, check_method, check_class, check_classes}
+use Rattle.meaning_reached.specs.class_rules.Program.{IsAccepted}
+use Rattle.meaning_reached.proofs.class_rules_laws.PassedRules.{both_passed, in_turn_passes}
+use Rattle.meaning_reached.specs.inverse_rules.Inverse.{inverse_as, inverse_procedure, inverse_class, inverse_program}
 use Rattle.meaning_reached.proofs.meaning_sound_laws.Undone.{inverse_checks}
 use Rattle.meaning_inverse.proofs.SameTable.{table_kept, has_table, parameters_kept}
 use Rattle.meaning_inverse.proofs.SameLimits.{within_limits}

@@ -8,9 +8,9 @@ use Rattle.meaning_reached.specs.rpp_tree.declared.tree.Ident.{Ident}
 use Rattle.meaning_reached.specs.rpp_tree.declared.tree.Var.{Var}
 use Rattle.meaning_reached.specs.rpp_tree.Tree.{Expression, Number, Null, Variable, Element, Binary, Whole, Item, Object as AnObject}
 use Rattle.meaning_reached.specs.rpp_tree.Tree.{Statements, Construct, Local, Delete, Call, End, Then, joined, nodes, Source}
-use Rattle.meaning_reached.specs.class_table.Expressions.{occurs}
-use Rattle.meaning_reached.specs.stmt_inverter.Inverse.{inverse}
-use Rattle.meaning_reached.proofs.stmt_inverter_laws.Inverses.{inverse-joined}
+use Rattle.meaning_reached.specs.class_rules.Expressions.{occurs}
+use Rattle.meaning_reached.specs.inverse_rules.Inverse.{inverse}
+use Rattle.meaning_reached.proofs.inverse_rules_laws.Inverses.{inverse-joined}
 use Rattle.meaning_reached.specs.roopl_semantics.Run.{Done, ◌>>=◌, give, fault_if}
 use Rattle.meaning_reached.specs.roopl_semantics.Store.{Value, Word, Nil, Name, Binding, State, object_at, number_of, same_value}
 use Rattle.meaning_reached.specs.roopl_semantics.Value.{Slot, Part, slot_of, slot_or_field, variable_value, element_of, read_cell}

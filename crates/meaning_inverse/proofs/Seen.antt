@@ -9,15 +9,15 @@ use Rattle.meaning_reached.specs.rpp_tree.declared.tree.BinOp.{BinOp}
 use Rattle.meaning_reached.specs.rpp_tree.declared.tree.BinOp.TheVariants as op
 use Rattle.meaning_reached.specs.rpp_tree.Tree.{Expression, Number, Null, Variable, Element, Binary, Lvalue, Whole, Item, Source, nodes}
 use Rattle.meaning_reached.specs.rpp_tree.Tree.{index_nodes}
-use Rattle.meaning_reached.specs.class_table.Classes.{class_fields}
-use Rattle.meaning_reached.specs.class_table.Expressions.{is_comparison}
+use Rattle.meaning_reached.specs.class_rules.Classes.{class_fields}
+use Rattle.meaning_reached.specs.class_rules.Expressions.{is_comparison}
 use Rattle.meaning_reached.specs.buddy_book.Place.{place}
 use Rattle.meaning_reached.specs.roopl_semantics.Operators.{truth_word, operated}
 use Rattle.meaning_reached.specs.roopl_semantics.Run.{Done}
 use Rattle.meaning_reached.specs.roopl_semantics.Store.{Value, Word, Nil, Name, Object, Binding, State, main_name, number_of}
 use Rattle.meaning_reached.specs.roopl_semantics.Store.{is_zero, same_value, cleared, object_named, no_object, object_at, changed_at}
 use Rattle.meaning_reached.specs.roopl_semantics.Store.{class_of_head}
-use Rattle.meaning_reached.specs.class_table.Members.{field_of}
+use Rattle.meaning_reached.specs.class_rules.Members.{field_of}
 use Rattle.meaning_reached.specs.roopl_semantics.Value.{Cell, Slot, Part, slot_of, own_class, slot_or_field, cell_named, value_at}
 use Rattle.meaning_reached.specs.roopl_semantics.Value.{with_value, read, written, variable_value, element_cell, element_of, read_cell}
 use Rattle.meaning_reached.specs.roopl_semantics.Value.{combined, value as value_in, cell_of, index_fault, evaluated, found}

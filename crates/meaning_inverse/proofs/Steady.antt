@@ -3,16 +3,16 @@ use Rattle.std.proofs.Common.{◌≡◌, ℕ, refl, ap, ◌∙◌, true, false, 
 use Rattle.std.proofs.Common.{unwrap_or, Ok, Err, Result, nat_lt, slice_get, if◌then◌else◌}
 use Rattle.std.specs.Str.{bytes_eq}
 use Rattle.meaning_reached.specs.rpp_tree.Tree.{Expression, Number, Null, Variable, Element, Binary, Lvalue, Whole, Item, Source}
-use Rattle.meaning_reached.specs.class_table.declared.kind.Kind.{Kind}
-use Rattle.meaning_reached.specs.class_table.Scope.{Typing, Locals, kind_in}
-use Rattle.meaning_reached.specs.class_table.Refusal.{unknown_name, not_an_array}
-use Rattle.meaning_reached.specs.class_table.Expressions.{element_kind, element_of as element_type, variable_type, type_of, occurs}
+use Rattle.meaning_reached.specs.class_rules.declared.kind.Kind.{Kind}
+use Rattle.meaning_reached.specs.class_rules.Scope.{Typing, Locals, kind_in}
+use Rattle.meaning_reached.specs.class_rules.Refusal.{unknown_name, not_an_array}
+use Rattle.meaning_reached.specs.class_rules.Expressions.{element_kind, element_of as element_type, variable_type, type_of, occurs}
 use Rattle.meaning_reached.specs.rpp_tree.declared.tree.Ident.{Ident}
 use Rattle.meaning_reached.specs.roopl_semantics.Store.{Value, Word, Nil, Name, State, number_of, same_value, object_at}
 use Rattle.meaning_reached.specs.roopl_semantics.Elements.{elements, index_elements, own_element, same_array, is_among, share_array}
 use Rattle.meaning_reached.specs.roopl_semantics.Value.{Part, cell_named, variable_value, element_cell, element_of, read_cell, combined}
 use Rattle.meaning_reached.specs.roopl_semantics.Value.{value as value_in, cell_of, index_fault}
-use Rattle.meaning_reached.proofs.class_table_laws.PassedRules.{handed_on, some_of}
+use Rattle.meaning_reached.proofs.class_rules_laws.PassedRules.{handed_on, some_of}
 use Rattle.meaning_inverse.proofs.Scopes.{either_false}
 
 -- what holds for the names of all elements

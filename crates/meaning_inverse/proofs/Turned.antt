@@ -3,11 +3,11 @@
 use Rattle.std.proofs.Common.{◌≡◌, refl, sym, ap, ◌∙◌, true, false, Bool, not}
 use Rattle.meaning_reached.specs.rpp_tree.Tree.{Statement, Statements, Update, Swap, If, From, Construct, Local, New, Delete, Copy}
 use Rattle.meaning_reached.specs.rpp_tree.Tree.{Uncopy, Call, Skip, End, Then, joined}
-use Rattle.meaning_reached.specs.class_table.Scope.{Typing, Locals}
-use Rattle.meaning_reached.specs.class_table.Statements.{in_turn, test_rules, local_rules, construct_rules, with_local, with_object}
-use Rattle.meaning_reached.specs.class_table.Statements.{check_statement, check_statements}
-use Rattle.meaning_reached.specs.stmt_inverter.Inverse.{inverse_statement_as, inverse_as, inverse}
-use Rattle.meaning_reached.proofs.stmt_inverter_laws.Inverses.{inverse-twice}
+use Rattle.meaning_reached.specs.class_rules.Scope.{Typing, Locals}
+use Rattle.meaning_reached.specs.class_rules.Statements.{in_turn, test_rules, local_rules, construct_rules, with_local, with_object}
+use Rattle.meaning_reached.specs.class_rules.Statements.{check_statement, check_statements}
+use Rattle.meaning_reached.specs.inverse_rules.Inverse.{inverse_statement_as, inverse_as, inverse}
+use Rattle.meaning_reached.proofs.inverse_rules_laws.Inverses.{inverse-twice}
 
 abbrev mutual
   -- a statement whose calls go the other way

@@ -8,7 +8,7 @@ use Rattle.meaning_reached.specs.rpp_tree.declared.tree.UpdateOp.{UpdateOp}
 use Rattle.meaning_reached.specs.rpp_tree.declared.tree.UpdateOp.TheVariants as update
 use Rattle.meaning_reached.specs.rpp_tree.Tree.{Expression, Lvalue, Statement, Statements, Update, Swap, Skip, End, Then, nodes}
 use Rattle.meaning_reached.specs.rpp_tree.Tree.{index_nodes}
-use Rattle.meaning_reached.specs.stmt_inverter.Inverse.{inverse_operator, inverse_statement, inverse}
+use Rattle.meaning_reached.specs.inverse_rules.Inverse.{inverse_operator, inverse_statement, inverse}
 use Rattle.meaning_reached.specs.roopl_semantics.Operators.{updated}
 use Rattle.meaning_reached.specs.roopl_semantics.Run.{Run, Done, ◌>>=◌, give}
 use Rattle.meaning_reached.specs.roopl_semantics.Store.{Value, Word, Nil, Name, Object, State, object_named, number_of}

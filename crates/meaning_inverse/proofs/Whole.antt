@@ -3,7 +3,7 @@ use Rattle.std.proofs.Common.{◌≡◌, ℕ, zero, suc, ◌+◌, ◌≤◌, ref
 use Rattle.std.proofs.Common.{None, Option, option_map}
 use Rattle.meaning_reached.specs.rpp_tree.Tree.{Whole, Item, Object as AnObject, Ints, Objects, Statement, Statements, Update, Swap, If}
 use Rattle.meaning_reached.specs.rpp_tree.Tree.{From, Construct, Local, New, Delete, Copy, Uncopy, Call, Skip, End, Then}
-use Rattle.meaning_reached.specs.stmt_inverter.Inverse.{inverse_statement, inverse}
+use Rattle.meaning_reached.specs.inverse_rules.Inverse.{inverse_statement, inverse}
 use Rattle.meaning_reached.specs.roopl_semantics.Run.{Run, Done, after_cost, ◌>>=◌}
 use Rattle.meaning_reached.specs.roopl_semantics.Store.{Value, Word, Nil, Name, Object, Binding, State, object_named}
 use Rattle.meaning_reached.specs.roopl_semantics.Execution.{Setting, statement, exec}

@@ -4,11 +4,11 @@ use Rattle.meaning_reached.specs.rpp_words.Limits.{IsLimits}
 use Rattle.meaning_reached.specs.rpp_words.declared.input.FieldWord.{FieldWord}
 use Rattle.meaning_reached.specs.rpp_words.declared.input.Limits.{Limits}
 use Rattle.meaning_reached.specs.rpp_tree.Tree.{Statements, Source}
-use Rattle.meaning_reached.specs.class_table.Scope.{Locals}
-use Rattle.meaning_reached.specs.class_table.Table.{table_of}
-use Rattle.meaning_reached.specs.class_table.Statements.{passed, check_statements}
-use Rattle.meaning_reached.specs.class_table.Program.{IsAccepted, setting_in}
-use Rattle.meaning_reached.specs.stmt_inverter.Inverse.{inverse}
+use Rattle.meaning_reached.specs.class_rules.Scope.{Locals}
+use Rattle.meaning_reached.specs.class_rules.Table.{table_of}
+use Rattle.meaning_reached.specs.class_rules.Statements.{passed, check_statements}
+use Rattle.meaning_reached.specs.class_rules.Program.{IsAccepted, setting_in}
+use Rattle.meaning_reached.specs.inverse_rules.Inverse.{inverse}
 use Rattle.meaning_reached.specs.roopl_semantics.Run.{Done}
 use Rattle.meaning_reached.specs.roopl_semantics.Store.{State}
 use Rattle.meaning_reached.specs.roopl_semantics.Execution.{Setting, exec}

@@ -4,8 +4,8 @@ use Rattle.meaning_reached.specs.rpp_words.Limits.{IsLimits}
 use Rattle.meaning_reached.specs.rpp_words.declared.input.FieldWord.{FieldWord}
 use Rattle.meaning_reached.specs.rpp_words.declared.input.Limits.{Limits}
 use Rattle.meaning_reached.specs.rpp_tree.Tree.{Source}
-use Rattle.meaning_reached.specs.class_table.Program.{IsAccepted}
-use Rattle.meaning_reached.specs.stmt_inverter.Inverse.{inverse_program}
+use Rattle.meaning_reached.specs.class_rules.Program.{IsAccepted}
+use Rattle.meaning_reached.specs.inverse_rules.Inverse.{inverse_program}
 use Rattle.meaning_reached.specs.buddy_book.Book.{start}
 use Rattle.meaning_reached.specs.buddy_book.Place.{place}
 use Rattle.meaning_reached.specs.roopl_semantics.Run.{Done}

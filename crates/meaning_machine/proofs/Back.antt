@@ -2,7 +2,7 @@
 use Rattle.std.proofs.Common.{◌≡◌, ℕ, ◌+◌, refl, sym, ap, ◌∙◌, Bool, true, false, not, List, ◌∷◌, ◌++◌, map}
 use Rattle.std.proofs.Common.{if◌then◌else◌}
 use Rattle.meaning_points.specs.rpp_tree.Tree.{Expression, Statement, Statements, If, From, End, Then, joined, Procedure}
-use Rattle.meaning_points.specs.stmt_inverter.Inverse.{inverse_statement, inverse}
+use Rattle.meaning_points.specs.inverse_rules.Inverse.{inverse_statement, inverse}
 use Rattle.meaning_points.specs.roopl_semantics.Run.{Done, More, after_cost, ◌>>=◌, give, fault_if}
 use Rattle.meaning_points.specs.roopl_semantics.Store.{Value, State}
 use Rattle.meaning_points.specs.roopl_semantics.Value.{Cell, read, evaluated}

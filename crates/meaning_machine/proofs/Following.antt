@@ -10,7 +10,7 @@ use Rattle.meaning_points.specs.rpp_tree.declared.tree.UpdateOp.{UpdateOp}
 use Rattle.meaning_points.specs.rpp_tree.Tree.{Expression, Number, Null, Variable, Element, Binary, nodes, index_nodes, Lvalue, Whole}
 use Rattle.meaning_points.specs.rpp_tree.Tree.{Item, Object as AnObject, Ints, Objects, Statement, Statements, Update, Swap, If, From}
 use Rattle.meaning_points.specs.rpp_tree.Tree.{Construct, Local, New, Delete, Copy, Uncopy, Call, Skip, End, Then, Procedure}
-use Rattle.meaning_points.specs.class_table.Classes.{class_number, class_fields, method_named}
+use Rattle.meaning_points.specs.class_rules.Classes.{class_number, class_fields, method_named}
 use Rattle.meaning_points.specs.roopl_semantics.Run.{Run, Done, Fault, More, after_cost, ◌>>=◌, give, spend, fault_if}
 use Rattle.meaning_points.specs.roopl_semantics.Store.{Value, Word, Nil, Head, OfClass, OfInts, OfObjects, Object, object_at}
 use Rattle.meaning_points.specs.roopl_semantics.Store.{zero_values, State, is_nil, is_zero, number_of, same_value}

@@ -1,6 +1,6 @@
 pub use Rattle.meaning_points.proofs.rpp_tree_laws
-pub use Rattle.meaning_points.proofs.class_table_laws
-pub use Rattle.meaning_points.proofs.stmt_inverter_laws
+pub use Rattle.meaning_points.proofs.class_rules_laws
+pub use Rattle.meaning_points.proofs.inverse_rules_laws
 pub use Rattle.meaning_points.proofs.buddy_book_laws
 pub use Rattle.meaning_points.proofs.roopl_semantics_laws
 pub use Rattle.meaning_points.proofs as meaning_points_laws

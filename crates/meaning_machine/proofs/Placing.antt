@@ -4,9 +4,9 @@ use Rattle.std.proofs.Common.{map, Option, Some, None, if◌then◌else◌}
 use Rattle.meaning_points.specs.rpp_tree.declared.tree.Ident.{Ident}
 use Rattle.meaning_points.specs.rpp_tree.Tree.{Expression, Null, Lvalue, Whole, Item, Object as AnObject, Statement, Statements, If}
 use Rattle.meaning_points.specs.rpp_tree.Tree.{From, Construct, Local, Delete, Call, End, Then, joined, Procedure}
-use Rattle.meaning_points.specs.class_table.Classes.{method_named}
-use Rattle.meaning_points.specs.stmt_inverter.Inverse.{inverse_statement, inverse}
-use Rattle.meaning_points.proofs.stmt_inverter_laws.Inverses.{inverse-joined}
+use Rattle.meaning_points.specs.class_rules.Classes.{method_named}
+use Rattle.meaning_points.specs.inverse_rules.Inverse.{inverse_statement, inverse}
+use Rattle.meaning_points.proofs.inverse_rules_laws.Inverses.{inverse-joined}
 use Rattle.meaning_points.specs.roopl_semantics.Run.{Run, Done, Fault, More, after_cost, ◌>>=◌, give, spend, fault_if}
 use Rattle.meaning_points.specs.roopl_semantics.Store.{State, is_nil, number_of, same_value}
 use Rattle.meaning_points.specs.roopl_semantics.Value.{Cell, Slot, nil_fault, cell_named, own_class, read, evaluated}

@@ -1,8 +1,8 @@
 -- What is reversed twice is as it was.
 use Rattle.std.proofs.Common.{◌≡◌, refl, ap, ◌∙◌, true, List, [], ◌∷◌, map}
 use Rattle.meaning_points.specs.rpp_tree.Tree.{Statements, End, Then}
-use Rattle.meaning_points.specs.stmt_inverter.Inverse.{inverse}
-use Rattle.meaning_points.proofs.stmt_inverter_laws.Inverses.{inverse_statement-twice, inverse-twice}
+use Rattle.meaning_points.specs.inverse_rules.Inverse.{inverse}
+use Rattle.meaning_points.proofs.inverse_rules_laws.Inverses.{inverse_statement-twice, inverse-twice}
 use Rattle.meaning_machine.specs.Machine.{Open, Part, Chosen, First, Again, Holding, Calling}
 use Rattle.meaning_machine.specs.Turned.{each_undone, turned_part, turned_open, turn}
 use Rattle.meaning_machine.specs.Placed.{TurnsTwice}

@@ -1,7 +1,7 @@
 pub use Rattle.meaning_points.specs.rpp_words
 pub use Rattle.meaning_points.specs.rpp_tree
-pub use Rattle.meaning_points.specs.class_table
-pub use Rattle.meaning_points.specs.stmt_inverter
+pub use Rattle.meaning_points.specs.class_rules
+pub use Rattle.meaning_points.specs.inverse_rules
 pub use Rattle.meaning_points.specs.buddy_book
 pub use Rattle.meaning_points.specs.roopl_semantics
 pub use Rattle.meaning_points.specs as meaning_points

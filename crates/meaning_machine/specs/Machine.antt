@@ -5,7 +5,7 @@ use Rattle.meaning_points.specs.rpp_tree.declared.tree.Ident.{Ident}
 use Rattle.meaning_points.specs.rpp_tree.Tree.{Expression, Null, Lvalue, Whole, Item, Statement, Statements}
 use Rattle.meaning_points.specs.rpp_tree.Tree.{Update, Swap, If, From, Construct, Local, New, Delete, Copy, Uncopy}
 use Rattle.meaning_points.specs.rpp_tree.Tree.{Call, Skip, End, Then, Procedure}
-use Rattle.meaning_points.specs.class_table.Classes.{method_named}
+use Rattle.meaning_points.specs.class_rules.Classes.{method_named}
 use Rattle.meaning_points.specs.roopl_semantics.Run.{Run, More, ◌>>=◌, give, spend, fault_if}
 use Rattle.meaning_points.specs.roopl_semantics.Store.{Value, Binding, State, is_nil, number_of, same_value}
 use Rattle.meaning_points.specs.roopl_semantics.Value.{Cell, Slot, nil_fault, cell_named, own_class, read}

@@ -3,7 +3,7 @@ use Rattle.std.specs.Prelude.{ℕ, List, [], ◌∷◌, nat_lt, replicate, if◌
 use Rattle.std.specs.Option.{unwrap_or}
 use Rattle.meaning_points.specs.rpp_tree.Tree.{Statement, Statements, New, Delete, End, Then, Ints, Objects}
 use Rattle.meaning_points.specs.rpp_tree.Tree.{Object as AnObject, Creation, Lvalue}
-use Rattle.meaning_points.specs.class_table.Classes.{class_number, class_fields}
+use Rattle.meaning_points.specs.class_rules.Classes.{class_number, class_fields}
 use Rattle.meaning_points.specs.buddy_book.Place.{Log, Taken, Given}
 use Rattle.meaning_points.specs.roopl_semantics.Run.{Run, More, ◌>>=◌, give, spend}
 use Rattle.meaning_points.specs.roopl_semantics.Store.{Value, Word, Nil, Name, Head, OfClass, OfInts, OfObjects}

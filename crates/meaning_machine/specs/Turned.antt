@@ -1,7 +1,7 @@
 -- The reversed machine: what was past is still to come, inverted.
 use Rattle.std.specs.Prelude.{◌≡◌, ℕ, map}
 use Rattle.meaning_points.specs.rpp_tree.Tree.{Statements, End, Then}
-use Rattle.meaning_points.specs.stmt_inverter.Inverse.{inverse_statement, inverse}
+use Rattle.meaning_points.specs.inverse_rules.Inverse.{inverse_statement, inverse}
 use Rattle.meaning_points.specs.roopl_semantics.Run.{Done}
 use Rattle.meaning_points.specs.roopl_semantics.Execution.{Setting}
 use Rattle.meaning_machine.specs.Machine.{Config, Open, Part, Chosen, First, Again, Holding}

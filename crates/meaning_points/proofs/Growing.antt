@@ -4,7 +4,7 @@ use Rattle.std.proofs.Common.{true, false, not, List, [], ◌∷◌, ◌++◌, l
 use Rattle.roopl_semantics.specs.rpp_tree.declared.tree.Ident.{Ident}
 use Rattle.roopl_semantics.specs.rpp_tree.Tree.{Expression, Lvalue, Whole, Item, Object as AnObject, Statement, Statements, If, From}
 use Rattle.roopl_semantics.specs.rpp_tree.Tree.{Construct, Local, New, Delete, Call, End, Then, Procedure, Null}
-use Rattle.roopl_semantics.specs.class_table.Classes.{method_named}
+use Rattle.roopl_semantics.specs.class_rules.Classes.{method_named}
 use Rattle.roopl_semantics.specs.Run.{Run, Done, Fault, More, after_cost, ◌>>=◌, fault_if}
 use Rattle.roopl_semantics.specs.Store.{State, is_nil, number_of}
 use Rattle.roopl_semantics.specs.Value.{Cell, nil_fault, cell_named, own_class, read, evaluated}

@@ -9,8 +9,8 @@ use Rattle.roopl_semantics.specs.rpp_tree.declared.tree.VarType.TheVariants as k
 use Rattle.roopl_semantics.specs.rpp_tree.Tree.{Expression, Null, Whole, Item, Object as AnObject, Statement, Statements, Swap}
 use Rattle.roopl_semantics.specs.rpp_tree.Tree.{Construct}
 use Rattle.roopl_semantics.specs.rpp_tree.Tree.{Local, New, Delete, Call, End, Then, joined}
-use Rattle.roopl_semantics.specs.stmt_inverter.Inverse.{inverse_statement, inverse}
-use Rattle.roopl_semantics.proofs.stmt_inverter_laws.Inverses.{inverse-joined}
+use Rattle.roopl_semantics.specs.inverse_rules.Inverse.{inverse_statement, inverse}
+use Rattle.roopl_semantics.proofs.inverse_rules_laws.Inverses.{inverse-joined}
 use Rattle.roopl_semantics.specs.Run.{Run, Done, Fault, More, ◌>>=◌, after_cost, give, fault_if}
 use Rattle.roopl_semantics.specs.Store.{State, same_value}
 use Rattle.roopl_semantics.specs.Value.{Slot, read, evaluated}

@@ -6,7 +6,7 @@ use Rattle.roopl_semantics.specs.rpp_tree.Tree.{Expression, Null, Lvalue, Whole,
 use Rattle.roopl_semantics.specs.rpp_tree.Tree.{Update, Swap, If, From, Construct, Local, New, Delete, Copy, Uncopy}
 use Rattle.roopl_semantics.specs.rpp_tree.Tree.{Call, Skip, End, Then, Procedure}
 use Rattle.roopl_semantics.specs.rpp_tree.Places.{statement_place}
-use Rattle.roopl_semantics.specs.class_table.Classes.{method_named}
+use Rattle.roopl_semantics.specs.class_rules.Classes.{method_named}
 use Rattle.roopl_semantics.specs.Run.{Run, Done, Fault, More, fault_if}
 use Rattle.roopl_semantics.specs.Store.{State, is_nil, number_of}
 use Rattle.roopl_semantics.specs.Value.{Cell, nil_fault, cell_named, own_class, read, evaluated}

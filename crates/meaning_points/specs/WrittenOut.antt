@@ -7,7 +7,7 @@ use Rattle.roopl_semantics.specs.rpp_tree.declared.tree.VarType.TheVariants as k
 use Rattle.roopl_semantics.specs.rpp_tree.Tree.{Expression, Null, Whole, Item, Object as AnObject, Statement}
 use Rattle.roopl_semantics.specs.rpp_tree.Tree.{Statements, Swap, Construct, Local, New, Delete, Call, End, Then}
 use Rattle.roopl_semantics.specs.rpp_tree.Tree.{joined}
-use Rattle.roopl_semantics.specs.stmt_inverter.Inverse.{inverse_statement, inverse}
+use Rattle.roopl_semantics.specs.inverse_rules.Inverse.{inverse_statement, inverse}
 use Rattle.roopl_semantics.specs.Store.{State}
 use Rattle.roopl_semantics.specs.Execution.{Setting, exec}
 use Rattle.meaning_points.specs.Points.{Point, points}

@@ -6,11 +6,11 @@ use Rattle.std.proofs.lemmas.List.{map-append}
 use Rattle.std.specs.Prelude.{nat_eq, nat_lt, is_some, not, if◌then◌else◌}
 use Rattle.meaning_sound.specs.rpp_tree.declared.tree.Var.{Var}
 use Rattle.meaning_sound.specs.rpp_tree.Tree.{Statements, Procedure, Source}
-use Rattle.meaning_sound.specs.class_table.declared.kind.Kind.{Kind}
-use Rattle.meaning_sound.specs.class_table.Table.{table_of}
-use Rattle.meaning_sound.specs.class_table.Scope.{Locals}
-use Rattle.meaning_sound.specs.class_table.Statements.{passed, check_statements}
-use Rattle.meaning_sound.specs.class_table.Program.{setting_in, with_parameters}
+use Rattle.meaning_sound.specs.class_rules.declared.kind.Kind.{Kind}
+use Rattle.meaning_sound.specs.class_rules.Table.{table_of}
+use Rattle.meaning_sound.specs.class_rules.Scope.{Locals}
+use Rattle.meaning_sound.specs.class_rules.Statements.{passed, check_statements}
+use Rattle.meaning_sound.specs.class_rules.Program.{setting_in, with_parameters}
 use Rattle.meaning_sound.specs.roopl_semantics.Store.{Value, Word, Nil, Name, Binding, State, is_zero, cleared}
 use Rattle.meaning_sound.specs.roopl_semantics.Value.{Cell, Slot, Part, value_at, read, written}
 use Rattle.meaning_sound.specs.roopl_semantics.Execution.{Setting, Runner, moved_out, moved_back, touched_fault}
@@ -293,7 +293,7 @@ module _ (setting : Setting) (classes : KnowsClasses setting.program) (run : Run
           ends_more (Back setting extra shape class caller_after values_back) (Reaches extra)
           (moved_back (receiver ++ args) values_back caller_after) (λ last b. ended_reaches last r b)
           (moves_within setting extra shape class st.self (receiver_kinds
-          ++ map (Rattle.meaning_sound.specs.class_table.Inheritance.kind_of_var program) params) (receiver ++ args)
+          ++ map (Rattle.meaning_sound.specs.class_rules.Inheritance.kind_of_var program) params) (receiver ++ args)
           values_back caller_after
           (after_typed setting classes run keeps extra shape class back method self own params receiver args
           receiver_kinds st call end kept)

@@ -5,8 +5,8 @@ use Rattle.std.proofs.lemmas.Bool.{eqb-true}
 use Rattle.std.specs.Prelude.{nat_eq, is_some, ◌&&◌, ◌||◌}
 use Rattle.std.specs.Option.{unwrap_or, option_map}
 use Rattle.meaning_sound.specs.rpp_tree.Tree.{Source}
-use Rattle.meaning_sound.specs.class_table.declared.kind.Kind.{Kind}
-use Rattle.meaning_sound.specs.class_table.Scope.{Locals}
+use Rattle.meaning_sound.specs.class_rules.declared.kind.Kind.{Kind}
+use Rattle.meaning_sound.specs.class_rules.Scope.{Locals}
 use Rattle.meaning_sound.specs.roopl_semantics.Store.{Value, Nil, Object, Binding, State, object_named, object_at}
 use Rattle.meaning_sound.specs.roopl_semantics.Store.{no_object}
 use Rattle.meaning_sound.specs.roopl_semantics.Store.{changed_at}

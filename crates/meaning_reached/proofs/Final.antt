@@ -13,7 +13,7 @@ use Rattle.meaning_sound.specs.roopl_semantics.Store.{object_at}
 use Rattle.meaning_sound.specs.roopl_semantics.Value.{Cell, Slot, Part, value_at, read}
 use Rattle.meaning_sound.specs.roopl_semantics.Execution.{Setting, exec}
 use Rattle.meaning_sound.specs.roopl_semantics.Source.{IsValid, main_body, starting, source}
-use Rattle.meaning_sound.specs.class_table.Classes.{main_of}
+use Rattle.meaning_sound.specs.class_rules.Classes.{main_of}
 use Rattle.meaning_sound.specs.rpp_words.Limits.{IsLimits}
 use Rattle.meaning_sound.specs.roopl_semantics.Laws.{holders}
 use Rattle.meaning_sound.specs.roopl_semantics.Report.{numbered, live_count, live_line, objects_shown}
@@ -65,7 +65,7 @@ get_within names (v ∷ vs) (suc i) h = get_within names vs i h.1
 -- a sound state without variables, in which every live object is reached from the main object
 pub reached_store : (program : Source) (limits : Limits) (class : ℕ) (end : State)
     → Sound (record { program = program; limits = limits }) main_alone [] class end
-    → named_fits program (Rattle.meaning_sound.specs.class_table.declared.kind.Kind.TheVariants.Class class)
+    → named_fits program (Rattle.meaning_sound.specs.class_rules.declared.kind.Kind.TheVariants.Class class)
     (head_named end.store main_name) ≡ true → Reaches main_alone end → IsReached program end.store
 reached_store program limits class end s main_fits r = record {
   met = λ n l apart. met n l apart;
@@ -136,9 +136,9 @@ reached_store program limits class end s main_fits r = record {
     main_head : (h : Head) → head_named store main_name ≡ Some h → has_plain_head program h ≡ true
     main_head (OfClass c) e = refl
     main_head (OfInts n) e = absurd (let q = sym (ap (named_fits program
-        (Rattle.meaning_sound.specs.class_table.declared.kind.Kind.TheVariants.Class class)) e) ∙ main_fits in cc)
+        (Rattle.meaning_sound.specs.class_rules.declared.kind.Kind.TheVariants.Class class)) e) ∙ main_fits in cc)
     main_head (OfObjects c n) e = absurd (let q = sym (ap
-        (named_fits program (Rattle.meaning_sound.specs.class_table.declared.kind.Kind.TheVariants.Class class)) e)
+        (named_fits program (Rattle.meaning_sound.specs.class_rules.declared.kind.Kind.TheVariants.Class class)) e)
         ∙ main_fits in cc)
 
     -- the entries from one on: each is met, or the main object's
@@ -211,5 +211,5 @@ ends_reached program limits input fuel end cost accepted inside valid done =
     over.is in
     let self_is : end.self ≡ main_name = kept.stays.self_same in
     reached_store program limits (main_of program).class end kept.sound
-    (subst (λ k. named_fits program (Rattle.meaning_sound.specs.class_table.declared.kind.Kind.TheVariants.Class
+    (subst (λ k. named_fits program (Rattle.meaning_sound.specs.class_rules.declared.kind.Kind.TheVariants.Class
     (main_of program).class) (head_named end.store k) ≡ true) self_is kept.sound.self_is) reaches

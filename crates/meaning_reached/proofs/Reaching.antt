@@ -5,17 +5,17 @@ use Rattle.meaning_sound.specs.rpp_tree.declared.tree.Ident.{Ident}
 use Rattle.meaning_sound.specs.rpp_tree.Tree.{Expression, Null, Element, Object as AnObject, Ints, Objects, Whole, Item, Statement}
 use Rattle.meaning_sound.specs.rpp_tree.Tree.{Statements, Update, Swap, If, From, Construct, Local, New, Delete, Copy, Uncopy, Call}
 use Rattle.meaning_sound.specs.rpp_tree.Tree.{Skip, End, Then, joined, Source}
-use Rattle.meaning_sound.specs.class_table.declared.kind.Kind.{Kind}
-use Rattle.meaning_sound.specs.class_table.declared.kind.Kind.TheVariants as kind
-use Rattle.meaning_sound.specs.class_table.Table.{table_of, class_of, slot_in}
-use Rattle.meaning_sound.specs.class_table.Refusal.{type_differs, self_update}
-use Rattle.meaning_sound.specs.class_table.Scope.{Typing, Local as ALocal, Locals, kind_of, class_kind}
-use Rattle.meaning_sound.specs.class_table.Expressions.{and_then, occurs, place_type}
-use Rattle.meaning_sound.specs.class_table.Statements.{Verdict, passed, required, in_turn, receiver_kind, place_class, same_kind}
-use Rattle.meaning_sound.specs.class_table.Statements.{in_either_index, swap_rules, class_known, construct_rules, call_rules}
-use Rattle.meaning_sound.specs.class_table.Statements.{receiver_class, slot_rules, test_rules, local_rules, with_local, with_object}
-use Rattle.meaning_sound.specs.class_table.Statements.{check_statement, check_statements}
-use Rattle.meaning_sound.specs.class_table.Program.{setting_in}
+use Rattle.meaning_sound.specs.class_rules.declared.kind.Kind.{Kind}
+use Rattle.meaning_sound.specs.class_rules.declared.kind.Kind.TheVariants as kind
+use Rattle.meaning_sound.specs.class_rules.Table.{table_of, class_of, slot_in}
+use Rattle.meaning_sound.specs.class_rules.Refusal.{type_differs, self_update}
+use Rattle.meaning_sound.specs.class_rules.Scope.{Typing, Local as ALocal, Locals, kind_of, class_kind}
+use Rattle.meaning_sound.specs.class_rules.Expressions.{and_then, occurs, place_type}
+use Rattle.meaning_sound.specs.class_rules.Statements.{Verdict, passed, required, in_turn, receiver_kind, place_class, same_kind}
+use Rattle.meaning_sound.specs.class_rules.Statements.{in_either_index, swap_rules, class_known, construct_rules, call_rules}
+use Rattle.meaning_sound.specs.class_rules.Statements.{receiver_class, slot_rules, test_rules, local_rules, with_local, with_object}
+use Rattle.meaning_sound.specs.class_rules.Statements.{check_statement, check_statements}
+use Rattle.meaning_sound.specs.class_rules.Program.{setting_in}
 use Rattle.meaning_sound.specs.roopl_semantics.Store.{State}
 use Rattle.meaning_sound.specs.roopl_semantics.Execution.{Setting, Runner, element_name, constructed, element_call, statement, exec}
 use Rattle.meaning_sound.specs.Sound.{Sound, Keeps}
@@ -23,7 +23,7 @@ use Rattle.meaning_sound.specs.Plain.{HasWords, IsNamed, HasNames, AreNamed, Sta
 use Rattle.meaning_sound.specs.Kept.{MeansSame}
 use Rattle.meaning_sound.proofs.Classes.{KnowsClasses}
 use Rattle.meaning_sound.proofs.Runs.{Ends, ends_after, ends_then}
-use Rattle.meaning_sound.proofs.class_table_laws.PassedRules.{both_passed, in_turn_passes, required_passes, hands_on, same_as_itself}
+use Rattle.meaning_sound.proofs.class_rules_laws.PassedRules.{both_passed, in_turn_passes, required_passes, hands_on, same_as_itself}
 use Rattle.meaning_sound.proofs.Blocks.{KeepsAll}
 use Rattle.meaning_sound.proofs.Locals.{local_parts, nil_end, no_int_class, type_of_under}
 use Rattle.meaning_sound.proofs.Undone.{check_joined, plain_joined}

@@ -3,13 +3,13 @@ use Rattle.std.proofs.Common.{◌≡◌, ◌∙◌, sym, ap, subst, refl, ℕ, �
 use Rattle.std.specs.Prelude.{Result, Ok, Err, nat_lt, if◌then◌else◌}
 use Rattle.meaning_sound.specs.rpp_tree.declared.tree.Ident.{Ident}
 use Rattle.meaning_sound.specs.rpp_tree.Tree.{Lvalue, Whole, Item, Source}
-use Rattle.meaning_sound.specs.class_table.declared.kind.Kind.{Kind}
-use Rattle.meaning_sound.specs.class_table.declared.kind.Kind.TheVariants as kind
-use Rattle.meaning_sound.specs.class_table.Table.{table_of}
-use Rattle.meaning_sound.specs.class_table.Scope.{Typing, Locals, kind_in}
-use Rattle.meaning_sound.specs.class_table.Expressions.{element_kind, element_of as element_type, index_is_int, variable_type}
-use Rattle.meaning_sound.specs.class_table.Expressions.{type_of, place_type, first_token}
-use Rattle.meaning_sound.specs.class_table.Program.{setting_in}
+use Rattle.meaning_sound.specs.class_rules.declared.kind.Kind.{Kind}
+use Rattle.meaning_sound.specs.class_rules.declared.kind.Kind.TheVariants as kind
+use Rattle.meaning_sound.specs.class_rules.Table.{table_of}
+use Rattle.meaning_sound.specs.class_rules.Scope.{Typing, Locals, kind_in}
+use Rattle.meaning_sound.specs.class_rules.Expressions.{element_kind, element_of as element_type, index_is_int, variable_type}
+use Rattle.meaning_sound.specs.class_rules.Expressions.{type_of, place_type, first_token}
+use Rattle.meaning_sound.specs.class_rules.Program.{setting_in}
 use Rattle.meaning_sound.specs.roopl_semantics.Store.{Value, Word, Nil, Name, Store, State, number_of, object_at}
 use Rattle.meaning_sound.specs.roopl_semantics.Value.{Cell, Slot, Part, read, written, cell_named, variable_value, element_cell}
 use Rattle.meaning_sound.specs.roopl_semantics.Value.{element_of, value, cell_of, index_fault}
@@ -18,7 +18,7 @@ use Rattle.meaning_sound.specs.Sound.{cell_kind, Typed}
 use Rattle.meaning_sound.specs.Kept.{MeansSame}
 use Rattle.meaning_sound.proofs.Classes.{KnowsClasses}
 use Rattle.meaning_sound.proofs.Names.{IsMeant, variable, field, meant}
-use Rattle.meaning_sound.proofs.class_table_laws.PassedRules.{handed_on, some_of}
+use Rattle.meaning_sound.proofs.class_rules_laws.PassedRules.{handed_on, some_of}
 use Rattle.meaning_sound.proofs.Makes.{is_array}
 use Rattle.meaning_sound.proofs.Values.{variable_fits}
 use Rattle.meaning_sound.proofs.AfterWrites.{same_cell_is, read_other}

@@ -8,7 +8,7 @@ use Rattle.std.specs.List.{list_any, position_or_len}
 use Rattle.std.specs.Fmt.{decimal}
 use Rattle.meaning_sound.specs.rpp_tree.declared.tree.Var.{Var}
 use Rattle.meaning_sound.specs.rpp_tree.Tree.{Source}
-use Rattle.meaning_sound.specs.class_table.Classes.{class_fields}
+use Rattle.meaning_sound.specs.class_rules.Classes.{class_fields}
 use Rattle.meaning_sound.specs.roopl_semantics.Store.{Value, Word, Nil, Name, Head, OfClass, OfInts, OfObjects, Object, Store}
 use Rattle.meaning_sound.specs.roopl_semantics.Store.{main_name, object_named, object_at, no_object, without}
 use Rattle.meaning_sound.specs.roopl_semantics.Source.{main_fields}

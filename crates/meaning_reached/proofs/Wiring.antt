@@ -12,17 +12,17 @@ use Rattle.meaning_sound.specs.rpp_tree.declared.tree.VarType.{VarType}
 use Rattle.meaning_sound.specs.rpp_tree.declared.tree.UpdateOp.{UpdateOp}
 use Rattle.meaning_sound.specs.rpp_tree.Tree.{Expression, Lvalue, Whole, Object as AnObject, Ints, Objects, Statements, Update, Swap}
 use Rattle.meaning_sound.specs.rpp_tree.Tree.{If, From, New, Delete, Copy, Uncopy, Call, Source, nodes, index_nodes}
-use Rattle.meaning_sound.specs.class_table.declared.kind.Kind.{Kind}
-use Rattle.meaning_sound.specs.class_table.declared.kind.Kind.TheVariants as kind
-use Rattle.meaning_sound.specs.class_table.Classes.{class_fields, class_number, method_named}
-use Rattle.meaning_sound.specs.class_table.Overrides.{parameters_of}
-use Rattle.meaning_sound.specs.class_table.Table.{table_of, dispatch_in}
-use Rattle.meaning_sound.specs.class_table.Refusal.{type_differs, unknown_name}
-use Rattle.meaning_sound.specs.class_table.Scope.{Typing, Local, Locals, kind_in}
-use Rattle.meaning_sound.specs.class_table.Expressions.{is_int, type_of, place_type}
-use Rattle.meaning_sound.specs.class_table.Statements.{passed, required, same_kind, update_rules, swap_rules, make_rules, copy_rules}
-use Rattle.meaning_sound.specs.class_table.Statements.{call_rules, check_statements}
-use Rattle.meaning_sound.specs.class_table.Program.{setting_in}
+use Rattle.meaning_sound.specs.class_rules.declared.kind.Kind.{Kind}
+use Rattle.meaning_sound.specs.class_rules.declared.kind.Kind.TheVariants as kind
+use Rattle.meaning_sound.specs.class_rules.Classes.{class_fields, class_number, method_named}
+use Rattle.meaning_sound.specs.class_rules.Overrides.{parameters_of}
+use Rattle.meaning_sound.specs.class_rules.Table.{table_of, dispatch_in}
+use Rattle.meaning_sound.specs.class_rules.Refusal.{type_differs, unknown_name}
+use Rattle.meaning_sound.specs.class_rules.Scope.{Typing, Local, Locals, kind_in}
+use Rattle.meaning_sound.specs.class_rules.Expressions.{is_int, type_of, place_type}
+use Rattle.meaning_sound.specs.class_rules.Statements.{passed, required, same_kind, update_rules, swap_rules, make_rules, copy_rules}
+use Rattle.meaning_sound.specs.class_rules.Statements.{call_rules, check_statements}
+use Rattle.meaning_sound.specs.class_rules.Program.{setting_in}
 use Rattle.meaning_sound.specs.buddy_book.Place.{count_taken, place}
 use Rattle.meaning_sound.specs.roopl_semantics.Operators.{updated}
 use Rattle.meaning_sound.specs.roopl_semantics.Run.{Run, ◌>>=◌, give, spend, fault_if}
@@ -39,7 +39,7 @@ use Rattle.meaning_sound.specs.roopl_semantics.Execution.{turn_end, turns, cells
 use Rattle.meaning_sound.specs.roopl_semantics.Elements.{shared_array_fault, elements, index_elements, own_element, share_array}
 use Rattle.meaning_sound.specs.roopl_semantics.Elements.{read_cost}
 use Rattle.meaning_sound.specs.roopl_semantics.Laws.{one_if_name}
-use Rattle.meaning_sound.specs.class_table.Inheritance.{kind_of_var}
+use Rattle.meaning_sound.specs.class_rules.Inheritance.{kind_of_var}
 use Rattle.meaning_sound.specs.Sound.{fits, cell_kinds, AllFit, cell_kind, Sound, Keeps, Typed}
 use Rattle.meaning_sound.specs.Plain.{IsPlain}
 use Rattle.meaning_sound.specs.Kept.{MeansSame}
@@ -48,8 +48,8 @@ use Rattle.meaning_sound.proofs.Cells.{typed_of, read_fits, typed_written, kind_
 use Rattle.meaning_sound.proofs.Classes.{KnowsClasses}
 use Rattle.meaning_sound.proofs.Names.{is_object, cell_named_kind, meant}
 use Rattle.meaning_sound.proofs.Runs.{Ends, ends_after, ends_then, ends_check, ends_checked, ends_given}
-use Rattle.meaning_sound.proofs.class_table_laws.PassedRules.{handed_on, both_passed, held as was_held, both_true, int_kind, kinds_same}
-use Rattle.meaning_sound.proofs.class_table_laws.PassedRules.{some_of}
+use Rattle.meaning_sound.proofs.class_rules_laws.PassedRules.{handed_on, both_passed, held as was_held, both_true, int_kind, kinds_same}
+use Rattle.meaning_sound.proofs.class_rules_laws.PassedRules.{some_of}
 use Rattle.meaning_sound.proofs.Values.{int_value, cell_found, place_fits}
 use Rattle.meaning_sound.proofs.Writes.{nil_is}
 use Rattle.meaning_sound.proofs.Blocks.{KeepsAll}
@@ -518,7 +518,7 @@ module _ (setting : Setting) (classes : KnowsClasses setting.program) (run : Run
           apart_cells setting classes run keeps extra locals shape class inside means st name cell args
               cell_meant mean (apart_after (name ∷ []) args name p.new
               (or_left (Rattle.std.specs.Str.bytes_eq name.text name.text) false
-              (Rattle.meaning_sound.proofs.class_table_laws.FirstPlaces.equal_name name.text name.text refl))),
+              (Rattle.meaning_sound.proofs.class_rules_laws.FirstPlaces.equal_name name.text name.text refl))),
           all_apart_cells setting classes run keeps extra locals shape class inside means st args mean
               (all_apart_after (name ∷ []) args p.new),
         );

@@ -4,10 +4,10 @@ use Rattle.std.specs.List.{list_any}
 use Rattle.meaning_sound.specs.rpp_words.declared.input.FieldWord.{FieldWord}
 use Rattle.meaning_sound.specs.rpp_words.declared.input.Limits.{Limits}
 use Rattle.meaning_sound.specs.rpp_tree.Tree.{Statements, Source}
-use Rattle.meaning_sound.specs.class_table.Scope.{Locals}
-use Rattle.meaning_sound.specs.class_table.Table.{table_of}
-use Rattle.meaning_sound.specs.class_table.Statements.{passed, check_statements}
-use Rattle.meaning_sound.specs.class_table.Program.{IsAccepted, setting_in}
+use Rattle.meaning_sound.specs.class_rules.Scope.{Locals}
+use Rattle.meaning_sound.specs.class_rules.Table.{table_of}
+use Rattle.meaning_sound.specs.class_rules.Statements.{passed, check_statements}
+use Rattle.meaning_sound.specs.class_rules.Program.{IsAccepted, setting_in}
 use Rattle.meaning_sound.specs.roopl_semantics.Run.{Done}
 use Rattle.meaning_sound.specs.roopl_semantics.Store.{Store, State, main_name}
 use Rattle.meaning_sound.specs.roopl_semantics.Execution.{exec}

@@ -6,8 +6,8 @@ use Rattle.std.proofs.Common.{◌∷◌, ◌++◌, length, map, take, length-app
 use Rattle.std.proofs.lemmas.List.{length-map, map-append, append_cancel_left}
 use Rattle.std.proofs.Math.Seq.{take-append_seam}
 use Rattle.meaning_machine.specs.rpp_tree.Tree.{Statement, Statements, End, Then, Procedure}
-use Rattle.meaning_inverse.specs.stmt_inverter.Inverse.{inverse_statement, inverse}
-use Rattle.meaning_machine.proofs.stmt_inverter_laws.Inverses.{inverse-twice}
+use Rattle.meaning_inverse.specs.inverse_rules.Inverse.{inverse_statement, inverse}
+use Rattle.meaning_machine.proofs.inverse_rules_laws.Inverses.{inverse-twice}
 use Rattle.meaning_machine.specs.roopl_semantics.Run.{Done, after_cost, give}
 use Rattle.meaning_machine.specs.roopl_semantics.Store.{Value, Binding, State}
 use Rattle.meaning_machine.specs.roopl_semantics.Value.{Cell, read}

@@ -5,8 +5,8 @@ use Rattle.std.proofs.Common.{[], ◌∷◌}
 use Rattle.std.proofs.Common.{length, Some, None, nat_lt, get_or}
 use Rattle.meaning_machine.specs.rpp_tree.declared.tree.Ident.{Ident}
 use Rattle.meaning_machine.specs.rpp_tree.Tree.{Whole, Statement, Statements, Call, End, Then, Procedure}
-use Rattle.meaning_machine.specs.class_table.Classes.{method_named}
-use Rattle.meaning_inverse.specs.stmt_inverter.Inverse.{inverse_statement}
+use Rattle.meaning_machine.specs.class_rules.Classes.{method_named}
+use Rattle.meaning_inverse.specs.inverse_rules.Inverse.{inverse_statement}
 use Rattle.meaning_machine.specs.roopl_semantics.Run.{Run, Done, ◌>>=◌, give, spend, fault_if}
 use Rattle.meaning_machine.specs.roopl_semantics.Store.{Value, Nil, Name, State, is_nil, number_of, object_at}
 use Rattle.meaning_machine.specs.roopl_semantics.Store.{class_of_head}

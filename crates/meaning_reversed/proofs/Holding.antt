@@ -4,8 +4,8 @@ use Rattle.std.proofs.Common.{◌∷◌, Some, Ok, Result, Err}
 use Rattle.meaning_machine.specs.rpp_tree.declared.tree.Ident.{Ident}
 use Rattle.meaning_machine.specs.rpp_tree.declared.tree.Var.{Var}
 use Rattle.meaning_machine.specs.rpp_tree.Tree.{Expression, Null, Item, Statement, Statements, Construct, Local, Call, End, Then, nodes}
-use Rattle.meaning_machine.specs.class_table.Expressions.{occurs}
-use Rattle.meaning_inverse.specs.stmt_inverter.Inverse.{inverse_statement, inverse}
+use Rattle.meaning_machine.specs.class_rules.Expressions.{occurs}
+use Rattle.meaning_inverse.specs.inverse_rules.Inverse.{inverse_statement, inverse}
 use Rattle.meaning_machine.specs.roopl_semantics.Run.{Done, after_cost, ◌>>=◌, give, fault_if}
 use Rattle.meaning_machine.specs.roopl_semantics.Store.{Value, Nil, State, same_value}
 use Rattle.meaning_machine.specs.roopl_semantics.Value.{Slot, read, value as value_in, evaluated}

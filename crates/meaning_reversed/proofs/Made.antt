@@ -2,7 +2,7 @@
 use Rattle.std.proofs.Common.{◌≡◌, ℕ, ◌+◌, ◌≤◌, ◌∙◌, arith, refl, ap, List}
 use Rattle.meaning_machine.specs.rpp_tree.Tree.{Creation, Object as AnObject, Ints, Objects, Lvalue, Statement, Statements, New, Delete}
 use Rattle.meaning_machine.specs.rpp_tree.Tree.{End, Then}
-use Rattle.meaning_inverse.specs.stmt_inverter.Inverse.{inverse_statement}
+use Rattle.meaning_inverse.specs.inverse_rules.Inverse.{inverse_statement}
 use Rattle.meaning_machine.specs.buddy_book.Place.{count_taken}
 use Rattle.meaning_machine.specs.roopl_semantics.Run.{More, after_cost, ◌>>=◌, give}
 use Rattle.meaning_machine.specs.roopl_semantics.Store.{State}

@@ -8,7 +8,7 @@ use Rattle.meaning_machine.specs.rpp_words.Words.{is_less}
 use Rattle.meaning_machine.specs.rpp_tree.declared.tree.Ident.{Ident}
 use Rattle.meaning_machine.specs.rpp_tree.Tree.{Expression, Lvalue, Creation, Object as AnObject, Ints, Objects, New, Delete, End, Then}
 use Rattle.meaning_machine.specs.rpp_tree.Tree.{Source, nodes, index_nodes}
-use Rattle.meaning_machine.specs.class_table.Classes.{class_number}
+use Rattle.meaning_machine.specs.class_rules.Classes.{class_number}
 use Rattle.meaning_machine.specs.buddy_book.Place.{Log, count_taken}
 use Rattle.meaning_machine.specs.roopl_semantics.Run.{Run, Done, ◌>>=◌, spend, fault_if}
 use Rattle.meaning_machine.specs.roopl_semantics.Store.{Value, Word, Nil, Name, Head, OfClass, OfInts, OfObjects, Object, Store, State}

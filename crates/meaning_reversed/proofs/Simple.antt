@@ -1,7 +1,7 @@
 -- Statements that hold no block, make nothing and delete nothing, undone.
 use Rattle.std.proofs.Common.{◌≡◌, ℕ, ◌≤◌, ◌∙◌, arith, refl, sym, ap, subst, List}
 use Rattle.meaning_machine.specs.rpp_tree.Tree.{Statement, Statements, Update, Swap, Copy, Uncopy, Skip, End, Then}
-use Rattle.meaning_inverse.specs.stmt_inverter.Inverse.{inverse_statement}
+use Rattle.meaning_inverse.specs.inverse_rules.Inverse.{inverse_statement}
 use Rattle.meaning_machine.specs.roopl_semantics.Run.{Run, Done, More, after_cost, give}
 use Rattle.meaning_machine.specs.roopl_semantics.Store.{State}
 use Rattle.meaning_machine.specs.roopl_semantics.Execution.{Setting, statement, exec}

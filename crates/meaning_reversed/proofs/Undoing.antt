@@ -1,7 +1,7 @@
 -- That each of so many steps from a place is undone, and how it is shown: step by step.
 use Rattle.std.proofs.Common.{◌≡◌, ℕ, zero, suc, ◌+◌, ◌≤◌, ◌∙◌, arith, refl, sym, ap, Bool, true, false, not, List}
 use Rattle.meaning_machine.specs.rpp_tree.Tree.{Expression, Statement, Statements, End, Then, nodes}
-use Rattle.meaning_inverse.specs.stmt_inverter.Inverse.{inverse}
+use Rattle.meaning_inverse.specs.inverse_rules.Inverse.{inverse}
 use Rattle.meaning_machine.specs.roopl_semantics.Run.{Run, Done, after_cost, spend, fault_if}
 use Rattle.meaning_machine.specs.roopl_semantics.Store.{State}
 use Rattle.meaning_machine.specs.roopl_semantics.Value.{value as value_in, evaluated}

@@ -5,7 +5,7 @@ use Rattle.meaning_machine.specs.rpp_words.declared.input.FieldWord.{FieldWord}
 use Rattle.meaning_machine.specs.rpp_words.declared.input.Limits.{Limits}
 use Rattle.meaning_machine.specs.rpp_words.Limits.{IsLimits}
 use Rattle.meaning_machine.specs.rpp_tree.Tree.{Statements, Source, End, Then}
-use Rattle.meaning_machine.specs.class_table.Program.{IsAccepted}
+use Rattle.meaning_machine.specs.class_rules.Program.{IsAccepted}
 use Rattle.meaning_machine.specs.roopl_semantics.Run.{Done, after_cost, ◌>>=◌}
 use Rattle.meaning_machine.specs.roopl_semantics.Store.{State}
 use Rattle.meaning_machine.specs.roopl_semantics.Execution.{Setting}

@@ -4,7 +4,7 @@ use Rattle.meaning_machine.specs.rpp_words.declared.input.FieldWord.{FieldWord}
 use Rattle.meaning_machine.specs.rpp_words.declared.input.Limits.{Limits}
 use Rattle.meaning_machine.specs.rpp_words.Limits.{IsLimits}
 use Rattle.meaning_machine.specs.rpp_tree.Tree.{Source, Statements, End, Then}
-use Rattle.meaning_machine.specs.class_table.Program.{IsAccepted}
+use Rattle.meaning_machine.specs.class_rules.Program.{IsAccepted}
 use Rattle.meaning_machine.specs.roopl_semantics.Run.{Done}
 use Rattle.meaning_machine.specs.roopl_semantics.Execution.{Setting}
 use Rattle.meaning_machine.specs.roopl_semantics.Source.{IsValid}

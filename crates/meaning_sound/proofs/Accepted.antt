@@ -3,14 +3,14 @@
 use Rattle.std.proofs.Common.{◌≡◌, subst, ℕ, ◌<◌, List, length, Some, slice_get}
 use Rattle.std.specs.Prelude.{All}
 use Rattle.roopl_semantics.specs.rpp_tree.Tree.{Procedure, ClassText, Source}
-use Rattle.roopl_semantics.specs.class_table.Members.{class_at}
-use Rattle.roopl_semantics.specs.class_table.Overrides.{parameters_of}
-use Rattle.roopl_semantics.specs.class_table.Classes.{method_named}
-use Rattle.roopl_semantics.specs.class_table.Table.{table_of, dispatch_in}
-use Rattle.roopl_semantics.specs.class_table.Program.{IsAccepted}
-use Rattle.roopl_semantics.proofs.class_table_laws.ClassLines.{front_fields, is_through}
-use Rattle.roopl_semantics.proofs.class_table_laws.InheritedSlots.{class_there}
-use Rattle.roopl_semantics.proofs.class_table_laws.FoundMethods.{all_at, slot_inside, own_range, Dispatched, dispatched_method}
+use Rattle.roopl_semantics.specs.class_rules.Members.{class_at}
+use Rattle.roopl_semantics.specs.class_rules.Overrides.{parameters_of}
+use Rattle.roopl_semantics.specs.class_rules.Classes.{method_named}
+use Rattle.roopl_semantics.specs.class_rules.Table.{table_of, dispatch_in}
+use Rattle.roopl_semantics.specs.class_rules.Program.{IsAccepted}
+use Rattle.roopl_semantics.proofs.class_rules_laws.ClassLines.{front_fields, is_through}
+use Rattle.roopl_semantics.proofs.class_rules_laws.InheritedSlots.{class_there}
+use Rattle.roopl_semantics.proofs.class_rules_laws.FoundMethods.{all_at, slot_inside, own_range, Dispatched, dispatched_method}
 use Rattle.meaning_sound.specs.Plain.{IsPlain, ProgramIsPlain}
 use Rattle.meaning_sound.proofs.Classes.{IsFound, KnowsClasses}
 

@@ -4,8 +4,8 @@ use Rattle.std.proofs.Common.{map, length, Option, Some, None, arith, slice_get,
 use Rattle.std.proofs.lemmas.Bool.{eqb-true}
 use Rattle.std.specs.Prelude.{nat_eq, ◌&&◌}
 use Rattle.std.specs.Option.{unwrap_or, option_map}
-use Rattle.roopl_semantics.specs.class_table.declared.kind.Kind.{Kind}
-use Rattle.roopl_semantics.specs.class_table.Scope.{Locals}
+use Rattle.roopl_semantics.specs.class_rules.declared.kind.Kind.{Kind}
+use Rattle.roopl_semantics.specs.class_rules.Scope.{Locals}
 use Rattle.roopl_semantics.specs.Store.{Value, Nil, Object, State, object_named, object_at, no_object, changed_at}
 use Rattle.roopl_semantics.specs.Value.{Cell, Slot, Part, with_value, read, written}
 use Rattle.roopl_semantics.specs.Execution.{Setting, same_cell}

@@ -3,13 +3,13 @@ use Rattle.std.proofs.Common.{◌≡◌, ◌∙◌, sym, ap, subst, ℕ, zero, s
 use Rattle.std.specs.Prelude.{not, ◌&&◌, ◌++◌, if◌then◌else◌}
 use Rattle.roopl_semantics.specs.rpp_tree.declared.tree.UpdateOp.{UpdateOp}
 use Rattle.roopl_semantics.specs.rpp_tree.Tree.{Expression, Lvalue, Statements, Update, Swap, If, From, Source, nodes, index_nodes}
-use Rattle.roopl_semantics.specs.class_table.declared.kind.Kind.TheVariants as kind
-use Rattle.roopl_semantics.specs.class_table.Table.{table_of}
-use Rattle.roopl_semantics.specs.class_table.Refusal.{type_differs}
-use Rattle.roopl_semantics.specs.class_table.Scope.{Typing, Locals}
-use Rattle.roopl_semantics.specs.class_table.Expressions.{is_int, type_of, place_type}
-use Rattle.roopl_semantics.specs.class_table.Statements.{passed, required, same_kind, update_rules, swap_rules, check_statements}
-use Rattle.roopl_semantics.specs.class_table.Program.{setting_in}
+use Rattle.roopl_semantics.specs.class_rules.declared.kind.Kind.TheVariants as kind
+use Rattle.roopl_semantics.specs.class_rules.Table.{table_of}
+use Rattle.roopl_semantics.specs.class_rules.Refusal.{type_differs}
+use Rattle.roopl_semantics.specs.class_rules.Scope.{Typing, Locals}
+use Rattle.roopl_semantics.specs.class_rules.Expressions.{is_int, type_of, place_type}
+use Rattle.roopl_semantics.specs.class_rules.Statements.{passed, required, same_kind, update_rules, swap_rules, check_statements}
+use Rattle.roopl_semantics.specs.class_rules.Program.{setting_in}
 use Rattle.roopl_semantics.specs.Operators.{updated}
 use Rattle.roopl_semantics.specs.Run.{Run, give}
 use Rattle.roopl_semantics.specs.Store.{Word, State, number_of}
@@ -24,7 +24,7 @@ use Rattle.meaning_sound.proofs.Cells.{typed_of, read_fits}
 use Rattle.meaning_sound.proofs.Classes.{KnowsClasses}
 use Rattle.meaning_sound.specs.Kept.{MeansSame}
 use Rattle.meaning_sound.proofs.Runs.{Ends, ends_then, ends_check, ends_checked, ends_given}
-use Rattle.roopl_semantics.proofs.class_table_laws.PassedRules.{handed_on, both_passed, held, both_true, int_kind, kinds_same}
+use Rattle.roopl_semantics.proofs.class_rules_laws.PassedRules.{handed_on, both_passed, held, both_true, int_kind, kinds_same}
 use Rattle.meaning_sound.proofs.Values.{int_value, int_number, updated_word, word_fits, value_found, cell_found}
 use Rattle.meaning_sound.proofs.Values.{value_fits, place_fits}
 use Rattle.meaning_sound.proofs.Writes.{stays_itself, stays_through, write_keeps, swap_keeps}

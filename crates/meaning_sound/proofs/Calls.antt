@@ -12,36 +12,36 @@ use Rattle.std.specs.List.{list_any}
 use Rattle.roopl_semantics.specs.rpp_tree.declared.tree.Ident.{Ident}
 use Rattle.roopl_semantics.specs.rpp_tree.declared.tree.Var.{Var}
 use Rattle.roopl_semantics.specs.rpp_tree.Tree.{Lvalue, Whole, Call, Source}
-use Rattle.roopl_semantics.specs.class_table.declared.kind.Kind.{Kind}
-use Rattle.roopl_semantics.specs.class_table.declared.kind.Kind.TheVariants as kind
-use Rattle.roopl_semantics.specs.class_table.Members.{field_name}
-use Rattle.roopl_semantics.specs.class_table.Overrides.{parameters_of}
-use Rattle.roopl_semantics.specs.class_table.Classes.{class_fields, method_named}
-use Rattle.roopl_semantics.specs.class_table.Table.{table_of, slot_in, dispatch_in}
-use Rattle.roopl_semantics.specs.class_table.Refusal.{unknown_name, type_differs, same_argument, wrong_arity, self_update}
-use Rattle.roopl_semantics.specs.class_table.Scope.{Typing, Locals, kind_of, kind_in}
-use Rattle.roopl_semantics.specs.class_table.Expressions.{place_type}
-use Rattle.roopl_semantics.specs.class_table.Statements.{passed, required, each_passes, each_passes_after, occurs_in_own_index}
-use Rattle.roopl_semantics.specs.class_table.Statements.{argument_known, argument_new, argument_fits, arguments_fit, receiver_kind}
-use Rattle.roopl_semantics.specs.class_table.Statements.{place_class, receiver_class, plain_receiver, slot_rules, call_rules}
+use Rattle.roopl_semantics.specs.class_rules.declared.kind.Kind.{Kind}
+use Rattle.roopl_semantics.specs.class_rules.declared.kind.Kind.TheVariants as kind
+use Rattle.roopl_semantics.specs.class_rules.Members.{field_name}
+use Rattle.roopl_semantics.specs.class_rules.Overrides.{parameters_of}
+use Rattle.roopl_semantics.specs.class_rules.Classes.{class_fields, method_named}
+use Rattle.roopl_semantics.specs.class_rules.Table.{table_of, slot_in, dispatch_in}
+use Rattle.roopl_semantics.specs.class_rules.Refusal.{unknown_name, type_differs, same_argument, wrong_arity, self_update}
+use Rattle.roopl_semantics.specs.class_rules.Scope.{Typing, Locals, kind_of, kind_in}
+use Rattle.roopl_semantics.specs.class_rules.Expressions.{place_type}
+use Rattle.roopl_semantics.specs.class_rules.Statements.{passed, required, each_passes, each_passes_after, occurs_in_own_index}
+use Rattle.roopl_semantics.specs.class_rules.Statements.{argument_known, argument_new, argument_fits, arguments_fit, receiver_kind}
+use Rattle.roopl_semantics.specs.class_rules.Statements.{place_class, receiver_class, plain_receiver, slot_rules, call_rules}
 use Rattle.roopl_semantics.specs.rpp_tree.Places.{place_name}
-use Rattle.roopl_semantics.specs.class_table.Program.{setting_in}
+use Rattle.roopl_semantics.specs.class_rules.Program.{setting_in}
 use Rattle.roopl_semantics.specs.Run.{Run, ◌>>=◌, give}
 use Rattle.roopl_semantics.specs.Store.{State, number_of, is_nil}
 use Rattle.roopl_semantics.specs.Value.{Cell, cell_named, own_class, read, nil_fault}
 use Rattle.roopl_semantics.specs.Execution.{Setting, Runner, same_cell, cells_named, class_of, is_too_deep}
 use Rattle.roopl_semantics.specs.Execution.{too_deep_fault, invoked, statement}
 use Rattle.roopl_semantics.specs.Laws.{one_if_name}
-use Rattle.roopl_semantics.specs.class_table.Inheritance.{kind_of_var}
+use Rattle.roopl_semantics.specs.class_rules.Inheritance.{kind_of_var}
 use Rattle.meaning_sound.specs.Sound.{fits, name_of, Sound, Keeps, Typed}
 use Rattle.meaning_sound.proofs.Stores.{other_number}
 use Rattle.meaning_sound.proofs.Cells.{typed_of, read_fits}
 use Rattle.meaning_sound.proofs.Classes.{KnowsClasses}
 use Rattle.meaning_sound.specs.Kept.{MeansSame}
 use Rattle.meaning_sound.proofs.Names.{is_object, cell_named_kind, IsMeant, variable, field, meant}
-use Rattle.roopl_semantics.proofs.class_table_laws.FirstPlaces.{same_name, equal_name}
+use Rattle.roopl_semantics.proofs.class_rules_laws.FirstPlaces.{same_name, equal_name}
 use Rattle.meaning_sound.proofs.Runs.{Ends, ends_after, ends_check}
-use Rattle.roopl_semantics.proofs.class_table_laws.PassedRules.{both_passed, held as was_held, handed_on, kinds_same, some_of}
+use Rattle.roopl_semantics.proofs.class_rules_laws.PassedRules.{both_passed, held as was_held, handed_on, kinds_same, some_of}
 use Rattle.meaning_sound.proofs.Blocks.{KeepsAll}
 use Rattle.meaning_sound.proofs.Objects.{clash}
 use Rattle.meaning_sound.proofs.Removal.{reference, one_name}

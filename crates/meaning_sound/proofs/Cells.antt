@@ -5,9 +5,9 @@ use Rattle.std.proofs.lemmas.Bool.{eqb-true}
 use Rattle.std.specs.Prelude.{nat_eq, is_some}
 use Rattle.std.specs.Option.{unwrap_or, option_map}
 use Rattle.roopl_semantics.specs.rpp_tree.Tree.{Source}
-use Rattle.roopl_semantics.specs.class_table.declared.kind.Kind.{Kind}
-use Rattle.roopl_semantics.specs.class_table.declared.kind.Kind.TheVariants as kind
-use Rattle.roopl_semantics.specs.class_table.Scope.{Locals}
+use Rattle.roopl_semantics.specs.class_rules.declared.kind.Kind.{Kind}
+use Rattle.roopl_semantics.specs.class_rules.declared.kind.Kind.TheVariants as kind
+use Rattle.roopl_semantics.specs.class_rules.Scope.{Locals}
 use Rattle.roopl_semantics.specs.buddy_book.Place.{Log, count_taken}
 use Rattle.roopl_semantics.specs.Store.{Value, Nil, Object, Store, Binding, State, main_name, object_named, object_at}
 use Rattle.roopl_semantics.specs.Store.{no_object, changed_at}

@@ -4,12 +4,12 @@ use Rattle.std.specs.Prelude.{true}
 use Rattle.roopl_semantics.specs.rpp_tree.declared.tree.Var.{Var}
 use Rattle.roopl_semantics.specs.rpp_tree.Tree.{Procedure, Source}
 use Rattle.roopl_semantics.specs.rpp_tree.Limits.{IsSmallMethod}
-use Rattle.roopl_semantics.specs.class_table.Classes.{class_fields, method_named}
-use Rattle.roopl_semantics.specs.class_table.Table.{table_of, slot_in, dispatch_in}
-use Rattle.roopl_semantics.specs.class_table.Overrides.{parameters_of}
-use Rattle.roopl_semantics.specs.class_table.Statements.{passed}
-use Rattle.roopl_semantics.specs.class_table.Program.{check_method, setting_in}
-use Rattle.roopl_semantics.specs.class_table.Inheritance.{is_or_inherits, kind_of_var, HasFront}
+use Rattle.roopl_semantics.specs.class_rules.Classes.{class_fields, method_named}
+use Rattle.roopl_semantics.specs.class_rules.Table.{table_of, slot_in, dispatch_in}
+use Rattle.roopl_semantics.specs.class_rules.Overrides.{parameters_of}
+use Rattle.roopl_semantics.specs.class_rules.Statements.{passed}
+use Rattle.roopl_semantics.specs.class_rules.Program.{check_method, setting_in}
+use Rattle.roopl_semantics.specs.class_rules.Inheritance.{is_or_inherits, kind_of_var, HasFront}
 use Rattle.meaning_sound.specs.Plain.{IsPlain}
 
 -- the method that a call finds: it is checked in a class that the object's class is or inherits

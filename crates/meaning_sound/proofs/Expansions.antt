@@ -9,29 +9,29 @@ use Rattle.roopl_semantics.specs.rpp_tree.declared.tree.Ident.{Ident}
 use Rattle.roopl_semantics.specs.rpp_tree.declared.tree.Var.{Var}
 use Rattle.roopl_semantics.specs.rpp_tree.Tree.{Expression, Number, Null, Variable, Element, Binary, Whole, Item, Object as AnObject}
 use Rattle.roopl_semantics.specs.rpp_tree.Tree.{Statements, Swap, Construct, New, Delete, Call, End, Then, joined, Source}
-use Rattle.roopl_semantics.specs.class_table.declared.kind.Kind.{Kind}
-use Rattle.roopl_semantics.specs.class_table.declared.kind.Kind.TheVariants as kind
-use Rattle.roopl_semantics.specs.class_table.Overrides.{parameters_of}
-use Rattle.roopl_semantics.specs.class_table.Table.{Table, table_of, class_of, slot_in, dispatch_in, inherits_in}
-use Rattle.roopl_semantics.specs.class_table.Refusal.{unknown_name, type_differs, self_update, same_argument, wrong_arity}
-use Rattle.roopl_semantics.specs.class_table.Scope.{Typing, Local, Locals, local_kind, kind_of, field_kind, class_kind}
-use Rattle.roopl_semantics.specs.class_table.Expressions.{and_then, occurs, type_of, place_type}
-use Rattle.roopl_semantics.specs.class_table.Statements.{Verdict, receiver_kind, place_class, passed, required, in_turn, each_passes}
-use Rattle.roopl_semantics.specs.class_table.Statements.{each_passes_after, same_kind, in_either_index, swap_rules, class_known}
-use Rattle.roopl_semantics.specs.class_table.Statements.{takes_object_of, make_rules, construct_rules, argument_known, argument_new}
-use Rattle.roopl_semantics.specs.class_table.Statements.{argument_fits, arguments_fit, slot_rules, call_rules, receiver_class}
-use Rattle.roopl_semantics.specs.class_table.Statements.{with_object, check_statement, check_statements}
-use Rattle.roopl_semantics.specs.class_table.Program.{setting_in}
+use Rattle.roopl_semantics.specs.class_rules.declared.kind.Kind.{Kind}
+use Rattle.roopl_semantics.specs.class_rules.declared.kind.Kind.TheVariants as kind
+use Rattle.roopl_semantics.specs.class_rules.Overrides.{parameters_of}
+use Rattle.roopl_semantics.specs.class_rules.Table.{Table, table_of, class_of, slot_in, dispatch_in, inherits_in}
+use Rattle.roopl_semantics.specs.class_rules.Refusal.{unknown_name, type_differs, self_update, same_argument, wrong_arity}
+use Rattle.roopl_semantics.specs.class_rules.Scope.{Typing, Local, Locals, local_kind, kind_of, field_kind, class_kind}
+use Rattle.roopl_semantics.specs.class_rules.Expressions.{and_then, occurs, type_of, place_type}
+use Rattle.roopl_semantics.specs.class_rules.Statements.{Verdict, receiver_kind, place_class, passed, required, in_turn, each_passes}
+use Rattle.roopl_semantics.specs.class_rules.Statements.{each_passes_after, same_kind, in_either_index, swap_rules, class_known}
+use Rattle.roopl_semantics.specs.class_rules.Statements.{takes_object_of, make_rules, construct_rules, argument_known, argument_new}
+use Rattle.roopl_semantics.specs.class_rules.Statements.{argument_fits, arguments_fit, slot_rules, call_rules, receiver_class}
+use Rattle.roopl_semantics.specs.class_rules.Statements.{with_object, check_statement, check_statements}
+use Rattle.roopl_semantics.specs.class_rules.Program.{setting_in}
 use Rattle.roopl_semantics.specs.Store.{State}
 use Rattle.roopl_semantics.specs.Execution.{Setting, Runner, element_name, constructed, element_call, statement}
 use Rattle.meaning_sound.specs.Sound.{Sound, Keeps}
 use Rattle.meaning_sound.specs.Plain.{HasWords, IsNamed, HasNames, AreNamed, IsPlain}
 use Rattle.meaning_sound.proofs.Classes.{KnowsClasses}
 use Rattle.meaning_sound.specs.Kept.{MeansSame}
-use Rattle.roopl_semantics.proofs.class_table_laws.FirstPlaces.{bytes_turned, equal_name}
+use Rattle.roopl_semantics.proofs.class_rules_laws.FirstPlaces.{bytes_turned, equal_name}
 use Rattle.meaning_sound.proofs.Runs.{Ends}
-use Rattle.roopl_semantics.proofs.class_table_laws.PassedRules.{both_passed, in_turn_passes, held as was_held, required_passes, hands_on}
-use Rattle.roopl_semantics.proofs.class_table_laws.PassedRules.{same_as_itself}
+use Rattle.roopl_semantics.proofs.class_rules_laws.PassedRules.{both_passed, in_turn_passes, held as was_held, required_passes, hands_on}
+use Rattle.roopl_semantics.proofs.class_rules_laws.PassedRules.{same_as_itself}
 use Rattle.meaning_sound.proofs.Blocks.{KeepsAll}
 use Rattle.meaning_sound.proofs.Locals.{kind_in_under, type_of_under, nil_end, no_int_class, with_local_keeps}
 use Rattle.meaning_sound.proofs.Undone.{check_joined, plain_joined}

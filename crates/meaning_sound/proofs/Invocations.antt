@@ -8,20 +8,20 @@ use Rattle.std.specs.Prelude.{nat_lt, not, ◌||◌, if◌then◌else◌}
 use Rattle.std.specs.Str.{bytes_eq}
 use Rattle.roopl_semantics.specs.rpp_tree.declared.tree.Var.{Var}
 use Rattle.roopl_semantics.specs.rpp_tree.Tree.{Procedure, Source}
-use Rattle.roopl_semantics.specs.class_table.declared.kind.Kind.{Kind}
-use Rattle.roopl_semantics.specs.class_table.declared.kind.Kind.TheVariants as kind
-use Rattle.roopl_semantics.specs.class_table.Members.{has_field, field_name}
-use Rattle.roopl_semantics.specs.class_table.Names.{has_name}
-use Rattle.roopl_semantics.specs.class_table.Refusal.{redeclared}
-use Rattle.roopl_semantics.specs.class_table.Table.{table_of}
-use Rattle.roopl_semantics.specs.class_table.Scope.{Typing, Local, Locals, local_kind, kind_of}
-use Rattle.roopl_semantics.specs.class_table.Statements.{passed, each_passes_after, with_local as with_local_type, check_statements}
-use Rattle.roopl_semantics.specs.class_table.Program.{setting_in, parameter_new, with_parameters}
+use Rattle.roopl_semantics.specs.class_rules.declared.kind.Kind.{Kind}
+use Rattle.roopl_semantics.specs.class_rules.declared.kind.Kind.TheVariants as kind
+use Rattle.roopl_semantics.specs.class_rules.Members.{has_field, field_name}
+use Rattle.roopl_semantics.specs.class_rules.Names.{has_name}
+use Rattle.roopl_semantics.specs.class_rules.Refusal.{redeclared}
+use Rattle.roopl_semantics.specs.class_rules.Table.{table_of}
+use Rattle.roopl_semantics.specs.class_rules.Scope.{Typing, Local, Locals, local_kind, kind_of}
+use Rattle.roopl_semantics.specs.class_rules.Statements.{passed, each_passes_after, with_local as with_local_type, check_statements}
+use Rattle.roopl_semantics.specs.class_rules.Program.{setting_in, parameter_new, with_parameters}
 use Rattle.roopl_semantics.specs.Store.{Value, OfClass, Store, State, main_name}
 use Rattle.roopl_semantics.specs.Value.{Cell, read}
 use Rattle.roopl_semantics.specs.Execution.{Setting, Runner, bound, moved_out, in_direction, invoked}
 use Rattle.roopl_semantics.specs.Laws.{holders_among}
-use Rattle.roopl_semantics.specs.class_table.Inheritance.{kind_of_var}
+use Rattle.roopl_semantics.specs.class_rules.Inheritance.{kind_of_var}
 use Rattle.meaning_sound.specs.Sound.{head_named, is_live, named_fits, AllFit, value_of, name_of, local_name}
 use Rattle.meaning_sound.specs.Sound.{local_type, held, Sound, Stays, Keeps, Typed}
 use Rattle.meaning_sound.specs.Plain.{IsPlain}
@@ -29,9 +29,9 @@ use Rattle.meaning_sound.proofs.Lists.{all_kept}
 use Rattle.meaning_sound.proofs.Cells.{typed_of, sound_of, read_fits}
 use Rattle.meaning_sound.proofs.Classes.{KnowsClasses, IsFound}
 use Rattle.meaning_sound.specs.Kept.{MeansSame}
-use Rattle.roopl_semantics.proofs.class_table_laws.FirstPlaces.{same_name, equal_name}
+use Rattle.roopl_semantics.proofs.class_rules_laws.FirstPlaces.{same_name, equal_name}
 use Rattle.meaning_sound.proofs.Runs.{Ends, ends_then, ends_more}
-use Rattle.roopl_semantics.proofs.class_table_laws.PassedRules.{both_passed, held as was_held}
+use Rattle.roopl_semantics.proofs.class_rules_laws.PassedRules.{both_passed, held as was_held}
 use Rattle.meaning_sound.proofs.Writes.{stays_through}
 use Rattle.meaning_sound.proofs.Blocks.{KeepsAll}
 use Rattle.meaning_sound.proofs.Objects.{all_live, clash}

@@ -2,11 +2,11 @@
 use Rattle.std.proofs.Common.{◌≡◌, ℕ, zero, suc, ◌<◌, length, Some, None}
 use Rattle.roopl_semantics.specs.rpp_tree.Tree.{Object as AnObject, Ints, Objects, Whole, Item, Statement, Statements, Update, Swap, If}
 use Rattle.roopl_semantics.specs.rpp_tree.Tree.{From, Construct, Local, New, Delete, Copy, Uncopy, Call, Skip, End, Then}
-use Rattle.roopl_semantics.specs.class_table.Table.{table_of}
-use Rattle.roopl_semantics.specs.class_table.Scope.{Typing, Locals, kind_of}
-use Rattle.roopl_semantics.specs.class_table.Statements.{passed, in_turn, test_rules, local_rules, construct_rules, with_local}
-use Rattle.roopl_semantics.specs.class_table.Statements.{with_object, check_statement, check_statements}
-use Rattle.roopl_semantics.specs.class_table.Program.{setting_in}
+use Rattle.roopl_semantics.specs.class_rules.Table.{table_of}
+use Rattle.roopl_semantics.specs.class_rules.Scope.{Typing, Locals, kind_of}
+use Rattle.roopl_semantics.specs.class_rules.Statements.{passed, in_turn, test_rules, local_rules, construct_rules, with_local}
+use Rattle.roopl_semantics.specs.class_rules.Statements.{with_object, check_statement, check_statements}
+use Rattle.roopl_semantics.specs.class_rules.Program.{setting_in}
 use Rattle.roopl_semantics.specs.Store.{State}
 use Rattle.roopl_semantics.specs.Execution.{Setting, Runner, statement, exec}
 use Rattle.meaning_sound.specs.Sound.{Sound, Keeps}
@@ -14,7 +14,7 @@ use Rattle.meaning_sound.specs.Plain.{StatementIsPlain, IsPlain}
 use Rattle.meaning_sound.proofs.Classes.{KnowsClasses}
 use Rattle.meaning_sound.specs.Kept.{MeansSame}
 use Rattle.meaning_sound.proofs.Runs.{Ends, ends_after, ends_then, ends_more}
-use Rattle.roopl_semantics.proofs.class_table_laws.PassedRules.{both_passed}
+use Rattle.roopl_semantics.proofs.class_rules_laws.PassedRules.{both_passed}
 use Rattle.meaning_sound.proofs.Blocks.{KeepsAll, keeps_itself, keeps_through, update_keeps, swap_keeps_all, if_keeps}
 use Rattle.meaning_sound.proofs.Blocks.{from_keeps}
 use Rattle.meaning_sound.proofs.Locals.{local_parts, with_local_keeps}

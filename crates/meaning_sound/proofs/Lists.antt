@@ -4,7 +4,7 @@ use Rattle.std.proofs.Common.{◌∷◌, ◌++◌, map, length, Option, Some, No
 use Rattle.std.specs.Prelude.{nat_eq, is_some, if◌then◌else◌}
 use Rattle.std.specs.Option.{unwrap_or}
 use Rattle.roopl_semantics.specs.rpp_tree.Tree.{Source}
-use Rattle.roopl_semantics.specs.class_table.declared.kind.Kind.{Kind}
+use Rattle.roopl_semantics.specs.class_rules.declared.kind.Kind.{Kind}
 use Rattle.roopl_semantics.specs.Store.{Value, Word, Nil, Name, Head, Store}
 use Rattle.roopl_semantics.specs.Laws.{one_if_name, holders_among}
 use Rattle.meaning_sound.specs.Sound.{head_named, is_live, fits, AllFit, named_fits}

@@ -9,17 +9,17 @@ use Rattle.roopl_semantics.specs.rpp_tree.declared.tree.Var.{Var}
 use Rattle.roopl_semantics.specs.rpp_tree.declared.tree.VarType.{VarType}
 use Rattle.roopl_semantics.specs.rpp_tree.declared.tree.VarType.TheVariants as type
 use Rattle.roopl_semantics.specs.rpp_tree.Tree.{Expression, Number, Null, Variable, Element, Binary, Statements, Source, nodes}
-use Rattle.roopl_semantics.specs.class_table.declared.kind.Kind.{Kind}
-use Rattle.roopl_semantics.specs.class_table.declared.kind.Kind.TheVariants as kind
-use Rattle.roopl_semantics.specs.class_table.Overrides.{is_type_int}
-use Rattle.roopl_semantics.specs.class_table.Table.{Table, table_of, class_of}
-use Rattle.roopl_semantics.specs.class_table.Refusal.{unknown_name, type_differs, redeclared, local_in_own_expression}
-use Rattle.roopl_semantics.specs.class_table.Scope.{Typing, Local, Locals, local_kind, kind_in, field_kind, kind_of}
-use Rattle.roopl_semantics.specs.class_table.Scope.{class_kind, array_kind}
-use Rattle.roopl_semantics.specs.class_table.Expressions.{and_then, is_int, occurs, type_of, variable_type, element_of, index_is_int}
-use Rattle.roopl_semantics.specs.class_table.Expressions.{operator_type, first_token}
-use Rattle.roopl_semantics.specs.class_table.Statements.{passed, required, type_known, is_nil_word, local_rules, check_statements}
-use Rattle.roopl_semantics.specs.class_table.Program.{setting_in}
+use Rattle.roopl_semantics.specs.class_rules.declared.kind.Kind.{Kind}
+use Rattle.roopl_semantics.specs.class_rules.declared.kind.Kind.TheVariants as kind
+use Rattle.roopl_semantics.specs.class_rules.Overrides.{is_type_int}
+use Rattle.roopl_semantics.specs.class_rules.Table.{Table, table_of, class_of}
+use Rattle.roopl_semantics.specs.class_rules.Refusal.{unknown_name, type_differs, redeclared, local_in_own_expression}
+use Rattle.roopl_semantics.specs.class_rules.Scope.{Typing, Local, Locals, local_kind, kind_in, field_kind, kind_of}
+use Rattle.roopl_semantics.specs.class_rules.Scope.{class_kind, array_kind}
+use Rattle.roopl_semantics.specs.class_rules.Expressions.{and_then, is_int, occurs, type_of, variable_type, element_of, index_is_int}
+use Rattle.roopl_semantics.specs.class_rules.Expressions.{operator_type, first_token}
+use Rattle.roopl_semantics.specs.class_rules.Statements.{passed, required, type_known, is_nil_word, local_rules, check_statements}
+use Rattle.roopl_semantics.specs.class_rules.Program.{setting_in}
 use Rattle.roopl_semantics.specs.Run.{give}
 use Rattle.roopl_semantics.specs.Store.{Value, Word, Nil, Name, Store, Binding, State, main_name, same_value}
 use Rattle.roopl_semantics.specs.Value.{Slot, value_at, read, value as value_in}
@@ -30,9 +30,9 @@ use Rattle.meaning_sound.specs.Plain.{HasWords, IsPlain}
 use Rattle.meaning_sound.proofs.Cells.{typed_of}
 use Rattle.meaning_sound.proofs.Classes.{KnowsClasses}
 use Rattle.meaning_sound.specs.Kept.{MeansSame}
-use Rattle.roopl_semantics.proofs.class_table_laws.FirstPlaces.{bytes_turned}
+use Rattle.roopl_semantics.proofs.class_rules_laws.FirstPlaces.{bytes_turned}
 use Rattle.meaning_sound.proofs.Runs.{Ends, ends_then, ends_check, ends_given}
-use Rattle.roopl_semantics.proofs.class_table_laws.PassedRules.{handed_on, both_passed, held as was_held, both_true, neither_true, int_kind}
+use Rattle.roopl_semantics.proofs.class_rules_laws.PassedRules.{handed_on, both_passed, held as was_held, both_true, neither_true, int_kind}
 use Rattle.meaning_sound.proofs.Values.{int_value, value_found, value_fits}
 use Rattle.meaning_sound.proofs.Blocks.{KeepsAll}
 

@@ -14,19 +14,19 @@ use Rattle.roopl_semantics.specs.rpp_tree.declared.tree.VarType.{VarType}
 use Rattle.roopl_semantics.specs.rpp_tree.declared.tree.VarType.TheVariants as type
 use Rattle.roopl_semantics.specs.rpp_tree.Tree.{Expression, Lvalue, Creation, Object as AnObject, Ints, Objects, New, Delete, Copy}
 use Rattle.roopl_semantics.specs.rpp_tree.Tree.{Uncopy, Source, nodes, index_nodes}
-use Rattle.roopl_semantics.specs.class_table.declared.kind.Kind.{Kind}
-use Rattle.roopl_semantics.specs.class_table.declared.kind.Kind.TheVariants as kind
-use Rattle.roopl_semantics.specs.class_table.Rules.{class_names, name_of as class_name}
-use Rattle.roopl_semantics.specs.class_table.Classes.{class_fields, class_number, inherits}
-use Rattle.roopl_semantics.specs.class_table.Table.{Table, table_of, class_of, inherits_in}
-use Rattle.roopl_semantics.specs.class_table.Refusal.{type_differs}
-use Rattle.roopl_semantics.specs.class_table.Scope.{Typing, Locals, kind_of, class_kind, array_kind}
-use Rattle.roopl_semantics.specs.class_table.Expressions.{is_int, element_kind, place_type}
-use Rattle.roopl_semantics.specs.class_table.Statements.{passed, required, is_class, is_int_array, takes_object, takes_object_of}
-use Rattle.roopl_semantics.specs.class_table.Statements.{takes_objects_of, takes, made_known, length_is_int, make_rules, type_known}
-use Rattle.roopl_semantics.specs.class_table.Statements.{is_class_array, takes_copy, written_kind, copy_rules}
-use Rattle.roopl_semantics.specs.class_table.Program.{setting_in}
-use Rattle.roopl_semantics.proofs.class_table_laws.Tables.{table_reads}
+use Rattle.roopl_semantics.specs.class_rules.declared.kind.Kind.{Kind}
+use Rattle.roopl_semantics.specs.class_rules.declared.kind.Kind.TheVariants as kind
+use Rattle.roopl_semantics.specs.class_rules.Rules.{class_names, name_of as class_name}
+use Rattle.roopl_semantics.specs.class_rules.Classes.{class_fields, class_number, inherits}
+use Rattle.roopl_semantics.specs.class_rules.Table.{Table, table_of, class_of, inherits_in}
+use Rattle.roopl_semantics.specs.class_rules.Refusal.{type_differs}
+use Rattle.roopl_semantics.specs.class_rules.Scope.{Typing, Locals, kind_of, class_kind, array_kind}
+use Rattle.roopl_semantics.specs.class_rules.Expressions.{is_int, element_kind, place_type}
+use Rattle.roopl_semantics.specs.class_rules.Statements.{passed, required, is_class, is_int_array, takes_object, takes_object_of}
+use Rattle.roopl_semantics.specs.class_rules.Statements.{takes_objects_of, takes, made_known, length_is_int, make_rules, type_known}
+use Rattle.roopl_semantics.specs.class_rules.Statements.{is_class_array, takes_copy, written_kind, copy_rules}
+use Rattle.roopl_semantics.specs.class_rules.Program.{setting_in}
+use Rattle.roopl_semantics.proofs.class_rules_laws.Tables.{table_reads}
 use Rattle.roopl_semantics.specs.Run.{Run, ◌>>=◌, give, spend}
 use Rattle.roopl_semantics.specs.Store.{Value, Word, Nil, Name, Head, OfClass, OfInts, OfObjects, Store, State}
 use Rattle.roopl_semantics.specs.Store.{number_of, is_nil, zero_value, zero_values, same_value, object_at}
@@ -37,14 +37,14 @@ use Rattle.roopl_semantics.specs.Execution.{class_differs_fault, length_differs_
 use Rattle.roopl_semantics.specs.Execution.{same_cell, is_of_class, all_zero, allocated, freed, counted, one_less}
 use Rattle.roopl_semantics.specs.Execution.{new_array, delete_array, statement}
 use Rattle.roopl_semantics.specs.Laws.{one_if_name, holders_among}
-use Rattle.roopl_semantics.specs.class_table.Inheritance.{is_or_inherits, kind_of_var}
+use Rattle.roopl_semantics.specs.class_rules.Inheritance.{is_or_inherits, kind_of_var}
 use Rattle.meaning_sound.specs.Sound.{head_named, head_fits, named_fits, fits, cell_kinds, AllFit, cell_kind, Sound}
 use Rattle.meaning_sound.specs.Sound.{Keeps}
 use Rattle.meaning_sound.proofs.Cells.{typed_of, read_fits}
 use Rattle.meaning_sound.proofs.Classes.{KnowsClasses}
 use Rattle.meaning_sound.specs.Kept.{MeansSame}
 use Rattle.meaning_sound.proofs.Runs.{Ends, ends_after, ends_then, ends_check, ends_checked, ends_given}
-use Rattle.roopl_semantics.proofs.class_table_laws.PassedRules.{handed_on, both_passed, held as was_held, both_true}
+use Rattle.roopl_semantics.proofs.class_rules_laws.PassedRules.{handed_on, both_passed, held as was_held, both_true}
 use Rattle.meaning_sound.proofs.Values.{cell_found, place_fits}
 use Rattle.meaning_sound.proofs.Writes.{nil_is}
 use Rattle.meaning_sound.proofs.Locals.{same_value_is}

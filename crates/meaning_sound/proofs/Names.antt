@@ -8,24 +8,24 @@ use Rattle.std.specs.Option.{unwrap_or, option_map, option_or}
 use Rattle.std.specs.Str.{bytes_eq}
 use Rattle.roopl_semantics.specs.rpp_tree.declared.tree.Var.{Var}
 use Rattle.roopl_semantics.specs.rpp_tree.Tree.{Source}
-use Rattle.roopl_semantics.specs.class_table.declared.kind.Kind.{Kind}
-use Rattle.roopl_semantics.specs.class_table.declared.kind.Kind.TheVariants as kind
-use Rattle.roopl_semantics.specs.class_table.Members.{field_name}
-use Rattle.roopl_semantics.specs.class_table.Classes.{class_fields}
-use Rattle.roopl_semantics.specs.class_table.Table.{table_of, fields_in, field_in}
-use Rattle.roopl_semantics.specs.class_table.Scope.{Local, Locals, local_kind, kind_at, field_kind, kind_in, no_var}
-use Rattle.roopl_semantics.specs.class_table.Program.{setting_in}
-use Rattle.roopl_semantics.proofs.class_table_laws.Tables.{table_reads}
+use Rattle.roopl_semantics.specs.class_rules.declared.kind.Kind.{Kind}
+use Rattle.roopl_semantics.specs.class_rules.declared.kind.Kind.TheVariants as kind
+use Rattle.roopl_semantics.specs.class_rules.Members.{field_name}
+use Rattle.roopl_semantics.specs.class_rules.Classes.{class_fields}
+use Rattle.roopl_semantics.specs.class_rules.Table.{table_of, fields_in, field_in}
+use Rattle.roopl_semantics.specs.class_rules.Scope.{Local, Locals, local_kind, kind_at, field_kind, kind_in, no_var}
+use Rattle.roopl_semantics.specs.class_rules.Program.{setting_in}
+use Rattle.roopl_semantics.proofs.class_rules_laws.Tables.{table_reads}
 use Rattle.roopl_semantics.specs.Store.{Head, OfClass, OfInts, OfObjects, Store, State, object_at, class_of_head}
 use Rattle.roopl_semantics.specs.Value.{Cell, Slot, Part, slot_of, own_class, slot_or_field, cell_named}
-use Rattle.roopl_semantics.specs.class_table.Members.{field_of}
+use Rattle.roopl_semantics.specs.class_rules.Members.{field_of}
 use Rattle.roopl_semantics.specs.Execution.{Setting}
-use Rattle.roopl_semantics.specs.class_table.Inheritance.{is_or_inherits, kind_of_var}
+use Rattle.roopl_semantics.specs.class_rules.Inheritance.{is_or_inherits, kind_of_var}
 use Rattle.meaning_sound.specs.Sound.{named_fits, head_of, head_named, name_of, local_name, local_type, part_kind}
 use Rattle.meaning_sound.specs.Sound.{cell_kind, Typed}
 use Rattle.meaning_sound.specs.Kept.{MeansSame}
 use Rattle.meaning_sound.proofs.Stores.{live_object}
-use Rattle.roopl_semantics.proofs.class_table_laws.FirstPlaces.{position_cons, position_before, bytes_turned}
+use Rattle.roopl_semantics.proofs.class_rules_laws.FirstPlaces.{position_cons, position_before, bytes_turned}
 use Rattle.meaning_sound.proofs.Classes.{KnowsClasses}
 
 abbrev pub type_at : Locals → Option ℕ → Option Kind

@@ -12,7 +12,7 @@ use Rattle.roopl_semantics.specs.rpp_tree.Tree.{Statements, Update, If, From, Co
 use Rattle.roopl_semantics.specs.rpp_tree.Names.{IsName}
 use Rattle.roopl_semantics.specs.rpp_tree.Parts.{expression_names, receiver_names, var_names, statement_names, block_names}
 use Rattle.roopl_semantics.specs.rpp_tree.Parts.{procedure_names, parent_names, class_names}
-use Rattle.roopl_semantics.specs.class_table.Program.{IsAccepted}
+use Rattle.roopl_semantics.specs.class_rules.Program.{IsAccepted}
 use Rattle.meaning_sound.proofs.Numbered.{program_words}
 use Rattle.meaning_sound.specs.Plain.{IsNamed, HasNames, AreNamed, ReceiverIsPlain, StatementIsPlain, IsPlain}
 use Rattle.meaning_sound.specs.Plain.{ProgramIsPlain, ReceiverHasWords, StatementHasWords, BlockHasWords}

@@ -5,10 +5,10 @@ use Rattle.std.proofs.lemmas.Bool.{eqb-true}
 use Rattle.std.specs.Prelude.{nat_eq, is_some, not, ◌&&◌, if◌then◌else◌}
 use Rattle.std.specs.Option.{unwrap_or, option_map}
 use Rattle.roopl_semantics.specs.rpp_tree.Tree.{Source}
-use Rattle.roopl_semantics.specs.class_table.declared.kind.Kind.{Kind}
-use Rattle.roopl_semantics.specs.class_table.declared.kind.Kind.TheVariants as kind
-use Rattle.roopl_semantics.specs.class_table.Expressions.{is_int}
-use Rattle.roopl_semantics.specs.class_table.Scope.{Locals}
+use Rattle.roopl_semantics.specs.class_rules.declared.kind.Kind.{Kind}
+use Rattle.roopl_semantics.specs.class_rules.declared.kind.Kind.TheVariants as kind
+use Rattle.roopl_semantics.specs.class_rules.Expressions.{is_int}
+use Rattle.roopl_semantics.specs.class_rules.Scope.{Locals}
 use Rattle.roopl_semantics.specs.buddy_book.Place.{Given, count_taken}
 use Rattle.roopl_semantics.specs.Store.{Value, Word, Nil, Name, Head, Object, Store, State, main_name, is_nil, is_zero}
 use Rattle.roopl_semantics.specs.Store.{object_named, object_at, changed_at, without}

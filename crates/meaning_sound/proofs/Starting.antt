@@ -11,14 +11,14 @@ use Rattle.roopl_semantics.specs.rpp_tree.declared.tree.Var.{Var}
 use Rattle.roopl_semantics.specs.rpp_tree.declared.tree.VarType.{VarType}
 use Rattle.roopl_semantics.specs.rpp_tree.declared.tree.VarType.TheVariants as type
 use Rattle.roopl_semantics.specs.rpp_tree.Tree.{Procedure, ClassText, Source}
-use Rattle.roopl_semantics.specs.class_table.declared.kind.Kind.TheVariants as kind
-use Rattle.roopl_semantics.specs.class_table.Members.{class_at, no_class, no_procedure}
-use Rattle.roopl_semantics.specs.class_table.Classes.{procedure_at, inherits}
-use Rattle.roopl_semantics.specs.class_table.Table.{table_of}
-use Rattle.roopl_semantics.specs.class_table.Scope.{Locals}
-use Rattle.roopl_semantics.specs.class_table.Mains.{has_none, mains}
-use Rattle.roopl_semantics.specs.class_table.Statements.{passed, each_passes_after, check_statements}
-use Rattle.roopl_semantics.specs.class_table.Program.{IsAccepted, parameter_new, with_parameters, setting_in}
+use Rattle.roopl_semantics.specs.class_rules.declared.kind.Kind.TheVariants as kind
+use Rattle.roopl_semantics.specs.class_rules.Members.{class_at, no_class, no_procedure}
+use Rattle.roopl_semantics.specs.class_rules.Classes.{procedure_at, inherits}
+use Rattle.roopl_semantics.specs.class_rules.Table.{table_of}
+use Rattle.roopl_semantics.specs.class_rules.Scope.{Locals}
+use Rattle.roopl_semantics.specs.class_rules.Mains.{has_none, mains}
+use Rattle.roopl_semantics.specs.class_rules.Statements.{passed, each_passes_after, check_statements}
+use Rattle.roopl_semantics.specs.class_rules.Program.{IsAccepted, parameter_new, with_parameters, setting_in}
 use Rattle.roopl_semantics.specs.buddy_book.Book.{start}
 use Rattle.roopl_semantics.proofs.buddy_book_laws.Beginning.{start-kept}
 use Rattle.roopl_semantics.specs.Run.{Done}
@@ -27,12 +27,12 @@ use Rattle.roopl_semantics.specs.Store.{object_named}
 use Rattle.roopl_semantics.specs.Execution.{Setting, exec}
 use Rattle.roopl_semantics.specs.Source.{main_fields, main_body, with_input, is_int_type, is_int_field, IsValid}
 use Rattle.roopl_semantics.specs.Source.{main_object, starting, source}
-use Rattle.roopl_semantics.specs.class_table.Classes.{main_of}
+use Rattle.roopl_semantics.specs.class_rules.Classes.{main_of}
 use Rattle.roopl_semantics.specs.rpp_words.Limits.{IsLimits}
 use Rattle.roopl_semantics.specs.Laws.{holders_among, CountsReferences}
 use Rattle.roopl_semantics.proofs.MoreFuel.{within_done}
 use Rattle.roopl_semantics.proofs.MainPlace.{first_of_mains, table_rules, class_inside}
-use Rattle.roopl_semantics.specs.class_table.Inheritance.{kind_of_var}
+use Rattle.roopl_semantics.specs.class_rules.Inheritance.{kind_of_var}
 use Rattle.meaning_sound.specs.Sound.{head_of, count_of, cell_kinds, AllFit, value_of, name_of, held, Sound, Keeps}
 use Rattle.meaning_sound.specs.Sound.{main_alone}
 use Rattle.meaning_sound.specs.Plain.{IsPlain, ProgramIsPlain}
@@ -40,17 +40,17 @@ use Rattle.meaning_sound.proofs.Lists.{all_inside, all_set, holders_set}
 use Rattle.meaning_sound.proofs.Stores.{same_number, other_number}
 use Rattle.meaning_sound.specs.Kept.{MeansSame}
 use Rattle.meaning_sound.proofs.Runs.{ends_done}
-use Rattle.roopl_semantics.proofs.class_table_laws.PassedRules.{both_passed, both_true}
+use Rattle.roopl_semantics.proofs.class_rules_laws.PassedRules.{both_passed, both_true}
 use Rattle.meaning_sound.proofs.Makes.{zeros_fit, zeros_hold_none}
 use Rattle.meaning_sound.proofs.Values.{word_fits}
-use Rattle.roopl_semantics.proofs.class_table_laws.FoundMethods.{method_checked}
+use Rattle.roopl_semantics.proofs.class_rules_laws.FoundMethods.{method_checked}
 use Rattle.meaning_sound.proofs.Accepted.{method_plain, knows_classes}
 use Rattle.meaning_sound.proofs.Keeping.{exec_keeps}
 
 -- ---- the main object
 
 int_kind_of : (program : Source) (t : VarType) → is_int_type t ≡ true
-    → Rattle.roopl_semantics.specs.class_table.Scope.kind_of (table_of program) t ≡ kind.Int
+    → Rattle.roopl_semantics.specs.class_rules.Scope.kind_of (table_of program) t ≡ kind.Int
 int_kind_of program type.Int h = refl
 int_kind_of program (type.Class name) h = absurd (cc)
 int_kind_of program type.IntArray h = absurd (cc)

@@ -7,20 +7,20 @@ use Rattle.std.specs.Str.{bytes_eq}
 use Rattle.roopl_semantics.specs.rpp_tree.declared.tree.Var.{Var}
 use Rattle.roopl_semantics.specs.rpp_tree.Tree.{Expression, Statement, Statements, Update, If, From, Construct, Local, End, Then}
 use Rattle.roopl_semantics.specs.rpp_tree.Tree.{joined}
-use Rattle.roopl_semantics.specs.class_table.declared.kind.Kind.{Kind}
-use Rattle.roopl_semantics.specs.class_table.Overrides.{is_type_int, same_type}
-use Rattle.roopl_semantics.specs.class_table.Refusal.{type_differs, redeclared, local_in_own_expression}
-use Rattle.roopl_semantics.specs.class_table.Scope.{Typing, Locals, local_kind, kind_of}
-use Rattle.roopl_semantics.specs.class_table.Expressions.{is_int, type_of, occurs, first_token}
-use Rattle.roopl_semantics.specs.class_table.Statements.{passed, required, in_turn, test_rules, type_known, is_nil_word, local_rules}
-use Rattle.roopl_semantics.specs.class_table.Statements.{construct_rules, with_local, with_object, check_statement, check_statements}
-use Rattle.roopl_semantics.specs.stmt_inverter.Inverse.{inverse_statement_as, inverse_as, inverse}
-use Rattle.roopl_semantics.proofs.stmt_inverter_laws.InverseWalks.{IsTurned, block_turned as walk_block_turned}
-use Rattle.roopl_semantics.proofs.class_table_laws.SameTypes.{types_same}
+use Rattle.roopl_semantics.specs.class_rules.declared.kind.Kind.{Kind}
+use Rattle.roopl_semantics.specs.class_rules.Overrides.{is_type_int, same_type}
+use Rattle.roopl_semantics.specs.class_rules.Refusal.{type_differs, redeclared, local_in_own_expression}
+use Rattle.roopl_semantics.specs.class_rules.Scope.{Typing, Locals, local_kind, kind_of}
+use Rattle.roopl_semantics.specs.class_rules.Expressions.{is_int, type_of, occurs, first_token}
+use Rattle.roopl_semantics.specs.class_rules.Statements.{passed, required, in_turn, test_rules, type_known, is_nil_word, local_rules}
+use Rattle.roopl_semantics.specs.class_rules.Statements.{construct_rules, with_local, with_object, check_statement, check_statements}
+use Rattle.roopl_semantics.specs.inverse_rules.Inverse.{inverse_statement_as, inverse_as, inverse}
+use Rattle.roopl_semantics.proofs.inverse_rules_laws.InverseWalks.{IsTurned, block_turned as walk_block_turned}
+use Rattle.roopl_semantics.proofs.class_rules_laws.SameTypes.{types_same}
 use Rattle.meaning_sound.specs.Plain.{ReceiverIsPlain, words_and, IsPlain}
-use Rattle.roopl_semantics.proofs.class_table_laws.PassedRules.{both_passed, in_turn_passes, held, required_passes, handed_on, hands_on}
-use Rattle.roopl_semantics.proofs.class_table_laws.PassedRules.{both_true}
-use Rattle.roopl_semantics.proofs.class_table_laws.FirstPlaces.{same_name, bytes_turned}
+use Rattle.roopl_semantics.proofs.class_rules_laws.PassedRules.{both_passed, in_turn_passes, held, required_passes, handed_on, hands_on}
+use Rattle.roopl_semantics.proofs.class_rules_laws.PassedRules.{both_true}
+use Rattle.roopl_semantics.proofs.class_rules_laws.FirstPlaces.{same_name, bytes_turned}
 
 or_turned : (a b : Bool) → (a || b) ≡ (b || a)
 or_turned true true = refl

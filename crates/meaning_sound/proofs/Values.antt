@@ -15,17 +15,17 @@ use Rattle.roopl_semantics.specs.rpp_tree.declared.tree.UpdateOp.{UpdateOp}
 use Rattle.roopl_semantics.specs.rpp_tree.declared.tree.UpdateOp.TheVariants as update
 use Rattle.roopl_semantics.specs.rpp_tree.Tree.{Expression, Number, Null, Variable, Element, Binary, Lvalue, Whole}
 use Rattle.roopl_semantics.specs.rpp_tree.Tree.{Item, Source}
-use Rattle.roopl_semantics.specs.class_table.declared.kind.Kind.{Kind}
-use Rattle.roopl_semantics.specs.class_table.declared.kind.Kind.TheVariants as kind
-use Rattle.roopl_semantics.specs.class_table.Table.{table_of}
-use Rattle.roopl_semantics.specs.class_table.Refusal.{type_differs, refused_operator}
-use Rattle.roopl_semantics.specs.class_table.Scope.{Typing, Locals, kind_in}
-use Rattle.roopl_semantics.specs.class_table.Expressions.{and_then, is_int, element_kind, element_of as element_type}
-use Rattle.roopl_semantics.specs.class_table.Expressions.{index_is_int}
-use Rattle.roopl_semantics.specs.class_table.Expressions.{variable_type, type_of, place_type, is_comparison, is_refused}
-use Rattle.roopl_semantics.specs.class_table.Expressions.{operands_fit}
-use Rattle.roopl_semantics.specs.class_table.Expressions.{operator_type, first_token}
-use Rattle.roopl_semantics.specs.class_table.Program.{setting_in}
+use Rattle.roopl_semantics.specs.class_rules.declared.kind.Kind.{Kind}
+use Rattle.roopl_semantics.specs.class_rules.declared.kind.Kind.TheVariants as kind
+use Rattle.roopl_semantics.specs.class_rules.Table.{table_of}
+use Rattle.roopl_semantics.specs.class_rules.Refusal.{type_differs, refused_operator}
+use Rattle.roopl_semantics.specs.class_rules.Scope.{Typing, Locals, kind_in}
+use Rattle.roopl_semantics.specs.class_rules.Expressions.{and_then, is_int, element_kind, element_of as element_type}
+use Rattle.roopl_semantics.specs.class_rules.Expressions.{index_is_int}
+use Rattle.roopl_semantics.specs.class_rules.Expressions.{variable_type, type_of, place_type, is_comparison, is_refused}
+use Rattle.roopl_semantics.specs.class_rules.Expressions.{operands_fit}
+use Rattle.roopl_semantics.specs.class_rules.Expressions.{operator_type, first_token}
+use Rattle.roopl_semantics.specs.class_rules.Program.{setting_in}
 use Rattle.roopl_semantics.specs.Operators.{operated, updated, truth_word}
 use Rattle.roopl_semantics.specs.Store.{Value, Word, Nil, Name, Head, OfClass, OfInts, OfObjects, Object, Store, State}
 use Rattle.roopl_semantics.specs.Store.{number_of, object_named, object_at}
@@ -41,7 +41,7 @@ use Rattle.meaning_sound.proofs.Cells.{read_fits}
 use Rattle.meaning_sound.proofs.Classes.{KnowsClasses}
 use Rattle.meaning_sound.specs.Kept.{MeansSame}
 use Rattle.meaning_sound.proofs.Names.{cell_named_kind}
-use Rattle.roopl_semantics.proofs.class_table_laws.PassedRules.{handed_on, some_of, both_true, int_kind}
+use Rattle.roopl_semantics.proofs.class_rules_laws.PassedRules.{handed_on, some_of, both_true, int_kind}
 
 -- ---- operators give words
 
@@ -248,7 +248,7 @@ module _ (setting : Setting) (classes : KnowsClasses setting.program) (extra : �
       words a b x y never q f g = ints (is_comparison operator) refl q
         where
           ints : (c : Bool) → is_comparison operator ≡ c → (if c then
-              Rattle.roopl_semantics.specs.class_table.Expressions.compares
+              Rattle.roopl_semantics.specs.class_rules.Expressions.compares
               typing.table a b else is_int a && is_int b) ≡ true → (number_of x < 2 ^ 32) × (number_of y < 2 ^ 32)
           ints true e z = absurd (never e)
           ints false e z =

@@ -1,8 +1,8 @@
 -- What stays in a write, and writes that keep a state sound.
 use Rattle.std.proofs.Common.{◌≡◌, ◌∙◌, sym, ap, refl, ℕ, ◌+◌, true, false, Some, arith}
 use Rattle.std.specs.Prelude.{not}
-use Rattle.roopl_semantics.specs.class_table.declared.kind.Kind.{Kind}
-use Rattle.roopl_semantics.specs.class_table.Scope.{Locals}
+use Rattle.roopl_semantics.specs.class_rules.declared.kind.Kind.{Kind}
+use Rattle.roopl_semantics.specs.class_rules.Scope.{Locals}
 use Rattle.roopl_semantics.specs.buddy_book.Place.{place}
 use Rattle.roopl_semantics.specs.Store.{Value, Word, Nil, Name, State, main_name, is_nil}
 use Rattle.roopl_semantics.specs.Value.{Cell, Slot, Part, read, written}

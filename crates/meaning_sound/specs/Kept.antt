@@ -3,15 +3,15 @@ use Rattle.std.specs.Prelude.{◌≡◌, ◌<◌, ℕ, List, [], length}
 use Rattle.roopl_semantics.specs.rpp_words.declared.input.FieldWord.{FieldWord}
 use Rattle.roopl_semantics.specs.rpp_words.declared.input.Limits.{Limits}
 use Rattle.roopl_semantics.specs.rpp_tree.Tree.{Statements, Source}
-use Rattle.roopl_semantics.specs.class_table.Scope.{Locals, local_kind}
-use Rattle.roopl_semantics.specs.class_table.Table.{table_of}
-use Rattle.roopl_semantics.specs.class_table.Statements.{passed, check_statements}
-use Rattle.roopl_semantics.specs.class_table.Program.{IsAccepted, setting_in}
+use Rattle.roopl_semantics.specs.class_rules.Scope.{Locals, local_kind}
+use Rattle.roopl_semantics.specs.class_rules.Table.{table_of}
+use Rattle.roopl_semantics.specs.class_rules.Statements.{passed, check_statements}
+use Rattle.roopl_semantics.specs.class_rules.Program.{IsAccepted, setting_in}
 use Rattle.roopl_semantics.specs.Run.{Done}
 use Rattle.roopl_semantics.specs.Store.{State}
 use Rattle.roopl_semantics.specs.Execution.{exec}
 use Rattle.roopl_semantics.specs.Source.{IsValid, starting, source}
-use Rattle.roopl_semantics.specs.class_table.Classes.{main_of}
+use Rattle.roopl_semantics.specs.class_rules.Classes.{main_of}
 use Rattle.roopl_semantics.specs.rpp_words.Limits.{IsLimits}
 use Rattle.meaning_sound.specs.Sound.{Sound, Keeps, main_alone}
 use Rattle.meaning_sound.specs.Plain.{IsPlain, ProgramIsPlain}

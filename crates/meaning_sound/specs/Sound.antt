@@ -5,12 +5,12 @@ use Rattle.std.specs.Prelude.{nat_lt, is_some, if◌then◌else◌, List, [], �
 use Rattle.std.specs.Prelude.{replicate, slice_get, Option, Some, None}
 use Rattle.std.specs.Option.{option_map}
 use Rattle.roopl_semantics.specs.rpp_tree.Tree.{Source}
-use Rattle.roopl_semantics.specs.class_table.declared.kind.Kind.{Kind}
-use Rattle.roopl_semantics.specs.class_table.declared.kind.Kind.TheVariants as kind
-use Rattle.roopl_semantics.specs.class_table.Classes.{class_fields}
-use Rattle.roopl_semantics.specs.class_table.Inheritance.{is_or_inherits, kind_of_var}
-use Rattle.roopl_semantics.specs.class_table.Scope.{Local, Locals}
-use Rattle.roopl_semantics.specs.class_table.Expressions.{is_int}
+use Rattle.roopl_semantics.specs.class_rules.declared.kind.Kind.{Kind}
+use Rattle.roopl_semantics.specs.class_rules.declared.kind.Kind.TheVariants as kind
+use Rattle.roopl_semantics.specs.class_rules.Classes.{class_fields}
+use Rattle.roopl_semantics.specs.class_rules.Inheritance.{is_or_inherits, kind_of_var}
+use Rattle.roopl_semantics.specs.class_rules.Scope.{Local, Locals}
+use Rattle.roopl_semantics.specs.class_rules.Expressions.{is_int}
 use Rattle.roopl_semantics.specs.buddy_book.Place.{Log, Placing, count_taken, block_of, place}
 use Rattle.roopl_semantics.specs.buddy_book.Shown.{TakenBlocks, order_in, IsKept}
 use Rattle.roopl_semantics.specs.Store.{Value, Word, Nil, Name, Head, OfClass, OfInts, OfObjects}

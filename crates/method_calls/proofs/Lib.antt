@@ -1,5 +1,5 @@
-pub use Rattle.refine_form.proofs.class_table_laws
-pub use Rattle.refine_form.proofs.stmt_inverter_laws
+pub use Rattle.refine_form.proofs.class_rules_laws
+pub use Rattle.refine_form.proofs.inverse_rules_laws
 pub use Rattle.refine_form.proofs.pisa_isa_laws
 pub use Rattle.refine_form.proofs.roopl_semantics_laws
 pub use Rattle.refine_form.proofs.meaning_sound_laws

@@ -6,7 +6,7 @@ use Rattle.refine_form.specs.rpp_tree.declared.tree.Var.{Var}
 use Rattle.refine_form.specs.rpp_tree.declared.tree.Ident.{Ident}
 use Rattle.refine_form.specs.rpp_tree.Tree.{Expression, Null, Statement, Statements, Local, Construct, Call, New, Delete, Whole}
 use Rattle.refine_form.specs.rpp_tree.Tree.{Item, Object as AnObject, End, Then, joined}
-use Rattle.refine_form.specs.stmt_inverter.Inverse.{inverse, inverse_statement}
+use Rattle.refine_form.specs.inverse_rules.Inverse.{inverse, inverse_statement}
 use Rattle.refine_form.specs.pisa_isa.Machine.{Memory}
 use Rattle.refine_form.specs.code_conventions.declared.faults.TheConstants.{DELOCAL}
 use Rattle.refine_form.specs.code_conventions.declared.registers.TheConstants.{FRAME, NOUGHT, VALUE}

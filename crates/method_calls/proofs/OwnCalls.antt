@@ -5,7 +5,7 @@ use Rattle.std.specs.Prelude.{not, nat_lt, slice_index, None}
 use Rattle.refine_form.specs.rpp_words.declared.input.TheConstants.{FRAME_WORDS}
 use Rattle.refine_form.specs.rpp_tree.declared.tree.Ident.{Ident}
 use Rattle.refine_form.specs.rpp_tree.Tree.{Call, Procedure}
-use Rattle.refine_form.specs.class_table.Classes.{method_named}
+use Rattle.refine_form.specs.class_rules.Classes.{method_named}
 use Rattle.refine_form.specs.pisa_isa.Machine.{Memory}
 use Rattle.refine_form.specs.pisa_isa.declared.fixed.TheConstants.{END_CELL}
 use Rattle.refine_form.specs.code_conventions.declared.registers.TheConstants.{FRAME, LINK, VALUE}

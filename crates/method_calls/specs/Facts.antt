@@ -6,7 +6,7 @@ use Rattle.refine_form.specs.rpp_tree.declared.tree.Ident.{Ident}
 use Rattle.refine_form.specs.rpp_tree.declared.tree.Var.{Var}
 use Rattle.refine_form.specs.paired_code.Does.{Fine}
 use Rattle.refine_form.specs.rpp_tree.Tree.{Expression}
-use Rattle.refine_form.specs.class_table.Classes.{method_named}
+use Rattle.refine_form.specs.class_rules.Classes.{method_named}
 use Rattle.refine_form.specs.paired_code.Layout.{Routine, Tidy}
 use Rattle.refine_form.specs.roopl_semantics.Store.{Value, Name, Store, State, is_zero, is_nil, number_of, cleared}
 use Rattle.refine_form.specs.roopl_semantics.Store.{same_value}

@@ -1,5 +1,5 @@
 pub use Rattle.refine_form.specs.rpp_tree
-pub use Rattle.refine_form.specs.class_table
+pub use Rattle.refine_form.specs.class_rules
 pub use Rattle.refine_form.specs.code_conventions
 pub use Rattle.refine_form.specs.roopl_semantics
 pub use Rattle.refine_form.specs.meaning_sound

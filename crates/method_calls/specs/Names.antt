@@ -5,13 +5,13 @@ use Rattle.std.specs.Option.{unwrap_or}
 use Rattle.refine_form.specs.rpp_tree.declared.tree.Ident.{Ident}
 use Rattle.refine_form.specs.rpp_tree.declared.tree.Var.{Var}
 use Rattle.refine_form.specs.rpp_tree.Tree.{Expression, Null, Source}
-use Rattle.refine_form.specs.class_table.declared.kind.Kind.{Kind}
-use Rattle.refine_form.specs.class_table.declared.kind.Kind.TheVariants as kind
-use Rattle.refine_form.specs.class_table.Table.{table_of, slot_in, dispatch_in}
-use Rattle.refine_form.specs.class_table.Overrides.{parameters_of}
-use Rattle.refine_form.specs.class_table.Inheritance.{is_or_inherits, kind_of_var}
-use Rattle.refine_form.specs.class_table.Expressions.{is_int, type_of, variable_type, occurs}
-use Rattle.refine_form.specs.class_table.Program.{setting_in}
+use Rattle.refine_form.specs.class_rules.declared.kind.Kind.{Kind}
+use Rattle.refine_form.specs.class_rules.declared.kind.Kind.TheVariants as kind
+use Rattle.refine_form.specs.class_rules.Table.{table_of, slot_in, dispatch_in}
+use Rattle.refine_form.specs.class_rules.Overrides.{parameters_of}
+use Rattle.refine_form.specs.class_rules.Inheritance.{is_or_inherits, kind_of_var}
+use Rattle.refine_form.specs.class_rules.Expressions.{is_int, type_of, variable_type, occurs}
+use Rattle.refine_form.specs.class_rules.Program.{setting_in}
 use Rattle.refine_form.specs.buddy_book.Place.{place}
 use Rattle.refine_form.specs.roopl_semantics.Store.{State, object_at, class_of_head}
 use Rattle.refine_form.specs.roopl_semantics.Layout.{no_placing}

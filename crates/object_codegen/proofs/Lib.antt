@@ -1,5 +1,5 @@
 pub use Rattle.rpp_tree.proofs as rpp_tree_laws
-pub use Rattle.refine_heap.proofs.class_table_laws
+pub use Rattle.refine_heap.proofs.class_rules_laws
 pub use Rattle.refine_heap.proofs.buddy_book_laws
 pub use Rattle.static_layout.proofs.roopl_semantics_laws
 pub use Rattle.expr_uncompute.proofs.meaning_sound_laws

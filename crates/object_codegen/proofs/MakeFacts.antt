@@ -6,7 +6,7 @@ use Rattle.refine_heap.specs.code_conventions.declared.memory.TheConstants.{HEAD
 use Rattle.refine_heap.specs.rpp_words.Words.{is_less}
 use Rattle.rpp_tree.specs.declared.tree.Ident.{Ident}
 use Rattle.rpp_tree.specs.Tree.{Expression, Null, Lvalue, Whole}
-use Rattle.refine_heap.specs.class_table.Classes.{class_number, class_fields}
+use Rattle.refine_heap.specs.class_rules.Classes.{class_number, class_fields}
 use Rattle.refine_heap.specs.buddy_book.Place.{Log, Taken, count_taken, place as place_log}
 use Rattle.refine_heap.specs.buddy_pisa.Promise.{most_steps}
 use Rattle.refine_heap.specs.pisa_isa.Machine.{Memory}

@@ -3,7 +3,7 @@ use Rattle.std.specs.Prelude.{ℕ, ◌+◌, ◌*◌, List, length}
 use Rattle.std.specs.Option.{unwrap_or}
 use Rattle.rpp_tree.specs.declared.tree.Ident.{Ident}
 use Rattle.rpp_tree.specs.Tree.{Lvalue, Creation, Object, Ints, Objects, Source}
-use Rattle.refine_heap.specs.class_table.Classes.{class_number, class_fields}
+use Rattle.refine_heap.specs.class_rules.Classes.{class_number, class_fields}
 use Rattle.refine_heap.specs.buddy_book.Book.{order_for}
 use Rattle.refine_heap.specs.code_conventions.declared.memory.TheConstants.{HEADER_WORDS}
 use Rattle.refine_heap.specs.paired_code.declared.part.Symbol.{Symbol}

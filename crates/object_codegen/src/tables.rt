@@ -2,7 +2,7 @@
 ghost use Rattle.std.specs.Prelude.{◌≡◌, ◌≤◌, ◌<◌, ◌+◌, length};
 ghost use Rattle.std.specs.Option.{unwrap_or};
 ghost use Rattle.rpp_tree.specs.Views.{source_of};
-ghost use Rattle.refine_heap.specs.class_table.Classes.{class_number as number_of, class_fields};
+ghost use Rattle.refine_heap.specs.class_rules.Classes.{class_number as number_of, class_fields};
 ghost use Rattle.refine_heap.specs.buddy_book.Book.{order_for as least_order};
 
 use class_table::Checked;

@@ -11,16 +11,16 @@ use Rattle.rpp_tree.specs.Parts.{name_places, parent_names, var_places, block_pl
 use Rattle.rpp_tree.specs.Parts.{source_places}
 use Rattle.rpp_tree.specs.Tree.{Procedure, ClassText, Source}
 use Rattle.rpp_tree.specs.Views.{source_of}
-use Rattle.refine_program.specs.class_table.declared.method.MethodId.{MethodId}
-use Rattle.refine_program.specs.class_table.Members.{class_at, no_procedure}
-use Rattle.refine_program.specs.class_table.Classes.{procedure_at}
-use Rattle.refine_program.specs.class_table.Inheritance.{kind_of_var}
-use Rattle.refine_program.specs.class_table.Table.{table_of}
-use Rattle.refine_program.specs.class_table.Statements.{passed, each_passes_after, check_statements}
-use Rattle.refine_program.specs.class_table.Program.{IsAccepted, parameter_new, with_parameters, setting_in}
-use Rattle.refine_program.proofs.class_table_laws.PassedRules.{both_passed}
-use Rattle.refine_program.proofs.class_table_laws.InheritedSlots.{class_there}
-use Rattle.refine_program.proofs.class_table_laws.FoundMethods.{all_at, method_checked, method_small}
+use Rattle.refine_program.specs.class_rules.declared.method.MethodId.{MethodId}
+use Rattle.refine_program.specs.class_rules.Members.{class_at, no_procedure}
+use Rattle.refine_program.specs.class_rules.Classes.{procedure_at}
+use Rattle.refine_program.specs.class_rules.Inheritance.{kind_of_var}
+use Rattle.refine_program.specs.class_rules.Table.{table_of}
+use Rattle.refine_program.specs.class_rules.Statements.{passed, each_passes_after, check_statements}
+use Rattle.refine_program.specs.class_rules.Program.{IsAccepted, parameter_new, with_parameters, setting_in}
+use Rattle.refine_program.proofs.class_rules_laws.PassedRules.{both_passed}
+use Rattle.refine_program.proofs.class_rules_laws.InheritedSlots.{class_there}
+use Rattle.refine_program.proofs.class_rules_laws.FoundMethods.{all_at, method_checked, method_small}
 use Rattle.refine_program.specs.meaning_sound.Plain.{IsPlain, BlockHasWords}
 use Rattle.refine_program.proofs.meaning_sound_laws.Invocations.{params_mean}
 use Rattle.refine_program.proofs.meaning_sound_laws.Numbered.{program_words}

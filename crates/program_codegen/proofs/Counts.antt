@@ -6,8 +6,8 @@ use Rattle.std.specs.List.{AllZip}
 use Rattle.std.proofs.lemmas.List.Sums.{sum_by-cons, sum_by-append}
 use Rattle.rpp_tree.specs.Parts.{procedure_tokens, class_tokens, source_tokens}
 use Rattle.rpp_tree.specs.Tree.{Procedure, ClassText, Source}
-use Rattle.refine_program.specs.class_table.Members.{class_at}
-use Rattle.refine_program.proofs.class_table_laws.InheritedSlots.{class_there}
+use Rattle.refine_program.specs.class_rules.Members.{class_at}
+use Rattle.refine_program.proofs.class_rules_laws.InheritedSlots.{class_there}
 use Rattle.refine_program.specs.paired_code.Code.{Code, bodies, marks_size}
 use Rattle.refine_program.specs.paired_code.Link.{routines_size}
 use Rattle.refine_program.specs.Methods.{Entry, entries_of, entries_from, entries, methods_before}

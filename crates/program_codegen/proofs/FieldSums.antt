@@ -11,11 +11,11 @@ use Rattle.rpp_tree.specs.declared.tree.Ident.{Ident}
 use Rattle.rpp_tree.specs.declared.tree.Var.{Var}
 use Rattle.rpp_tree.specs.Parts.{type_names, var_names, procedure_names, parent_names, class_names, source_names}
 use Rattle.rpp_tree.specs.Tree.{ClassText, Source}
-use Rattle.refine_program.specs.class_table.Chains.{parents, chain, chain_of, line_of}
-use Rattle.refine_program.specs.class_table.Members.{class_at, no_class, fields_along}
-use Rattle.refine_program.specs.class_table.Classes.{class_fields}
-use Rattle.refine_program.proofs.class_table_laws.ChainEnds.{parent, IsPushed, pushed_from, nothing_on, parents_in, chain_ends}
-use Rattle.refine_program.proofs.class_table_laws.ClassLines.{on, above_of}
+use Rattle.refine_program.specs.class_rules.Chains.{parents, chain, chain_of, line_of}
+use Rattle.refine_program.specs.class_rules.Members.{class_at, no_class, fields_along}
+use Rattle.refine_program.specs.class_rules.Classes.{class_fields}
+use Rattle.refine_program.proofs.class_rules_laws.ChainEnds.{parent, IsPushed, pushed_from, nothing_on, parents_in, chain_ends}
+use Rattle.refine_program.proofs.class_rules_laws.ClassLines.{on, above_of}
 
 -- ---- numbers, each taken at most once
 

@@ -17,8 +17,8 @@ use Rattle.rpp_tree.specs.declared.tree.Var.{Var}
 use Rattle.rpp_tree.specs.Names.{IsName}
 use Rattle.rpp_tree.specs.Parts.{source_names}
 use Rattle.rpp_tree.specs.Tree.{Source}
-use Rattle.refine_program.specs.class_table.Classes.{main_of}
-use Rattle.refine_program.specs.class_table.Program.{IsAccepted}
+use Rattle.refine_program.specs.class_rules.Classes.{main_of}
+use Rattle.refine_program.specs.class_rules.Program.{IsAccepted}
 use Rattle.refine_program.specs.pisa_isa.declared.notes.TheConstants.{MOST_NAMES, MOST_NAME_BYTES}
 use Rattle.refine_program.specs.pisa_isa.declared.notes.FieldName.{FieldName}
 use Rattle.refine_program.specs.pisa_isa.declared.notes.Mark.{Mark}

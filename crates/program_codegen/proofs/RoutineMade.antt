@@ -7,9 +7,9 @@ use Rattle.rpp_tree.specs.declared.tree.Var.{Var}
 use Rattle.rpp_tree.specs.Parts.{block_tokens}
 use Rattle.rpp_tree.specs.Tree.{Procedure}
 use Rattle.rpp_tree.specs.Views.{source_of}
-use Rattle.refine_program.specs.class_table.declared.method.MethodId.{MethodId}
-use Rattle.refine_program.specs.class_table.Members.{class_at}
-use Rattle.refine_program.specs.class_table.Program.{IsAccepted}
+use Rattle.refine_program.specs.class_rules.declared.method.MethodId.{MethodId}
+use Rattle.refine_program.specs.class_rules.Members.{class_at}
+use Rattle.refine_program.specs.class_rules.Program.{IsAccepted}
 use Rattle.refine_program.specs.pisa_isa.declared.notes.Mark.{Mark}
 use Rattle.refine_program.specs.paired_code.Code.{Code, shift}
 use Rattle.refine_program.specs.refine_form.Held.{Holds}

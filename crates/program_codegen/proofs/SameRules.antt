@@ -9,18 +9,18 @@ use Rattle.rpp_tree.specs.Places.{place_name}
 use Rattle.rpp_tree.specs.Tree.{Expression, Number, Null, Variable, Element, Binary, Lvalue, Whole, Item, Creation}
 use Rattle.rpp_tree.specs.Tree.{Object, Ints, Objects, Statement, Statements, Update, Swap, If, From, Construct, Local}
 use Rattle.rpp_tree.specs.Tree.{New, Delete, Copy, Uncopy, Call, Skip, End, Then}
-use Rattle.refine_program.specs.class_table.declared.kind.Kind.TheVariants as kind
-use Rattle.refine_program.specs.class_table.Overrides.{parameters_of}
-use Rattle.refine_program.specs.class_table.Refusal.{Refusal, unknown_name, type_differs, wrong_arity}
-use Rattle.refine_program.specs.class_table.Scope.{Typing, Locals, kind_of, local_kind, field_kind, kind_in, class_kind}
-use Rattle.refine_program.specs.class_table.Table.{class_of, slot_in, dispatch_in}
-use Rattle.refine_program.specs.class_table.Expressions.{and_then, is_int, type_of, place_type, variable_type, element_of}
-use Rattle.refine_program.specs.class_table.Expressions.{operator_type, index_is_int, first_token}
-use Rattle.refine_program.specs.class_table.Statements.{Verdict, required, in_turn, each_passes, each_passes_after, same_kind}
-use Rattle.refine_program.specs.class_table.Statements.{update_rules, swap_rules, test_rules, local_rules, length_is_int, make_rules}
-use Rattle.refine_program.specs.class_table.Statements.{construct_rules, copy_rules, argument_known, argument_new, argument_fits}
-use Rattle.refine_program.specs.class_table.Statements.{arguments_fit, receiver_kind, place_class, receiver_class, plain_receiver}
-use Rattle.refine_program.specs.class_table.Statements.{slot_rules, call_rules, check_statement, check_statements}
+use Rattle.refine_program.specs.class_rules.declared.kind.Kind.TheVariants as kind
+use Rattle.refine_program.specs.class_rules.Overrides.{parameters_of}
+use Rattle.refine_program.specs.class_rules.Refusal.{Refusal, unknown_name, type_differs, wrong_arity}
+use Rattle.refine_program.specs.class_rules.Scope.{Typing, Locals, kind_of, local_kind, field_kind, kind_in, class_kind}
+use Rattle.refine_program.specs.class_rules.Table.{class_of, slot_in, dispatch_in}
+use Rattle.refine_program.specs.class_rules.Expressions.{and_then, is_int, type_of, place_type, variable_type, element_of}
+use Rattle.refine_program.specs.class_rules.Expressions.{operator_type, index_is_int, first_token}
+use Rattle.refine_program.specs.class_rules.Statements.{Verdict, required, in_turn, each_passes, each_passes_after, same_kind}
+use Rattle.refine_program.specs.class_rules.Statements.{update_rules, swap_rules, test_rules, local_rules, length_is_int, make_rules}
+use Rattle.refine_program.specs.class_rules.Statements.{construct_rules, copy_rules, argument_known, argument_new, argument_fits}
+use Rattle.refine_program.specs.class_rules.Statements.{arguments_fit, receiver_kind, place_class, receiver_class, plain_receiver}
+use Rattle.refine_program.specs.class_rules.Statements.{slot_rules, call_rules, check_statement, check_statements}
 use Rattle.refine_program.specs.meaning_sound.Kept.{MeansSame}
 use Rattle.refine_program.proofs.meaning_sound_laws.Locals.{means_under}
 
@@ -181,14 +181,14 @@ module _ (setting : Typing) where
         ∙ ap (λ z. in_turn (test_rules setting shape entry exit) (in_turn (check_statements setting shape first) z))
         (block_same locals shape means again)
     statement_same locals shape means (Construct at class name body end) =
-        let l : Rattle.refine_program.specs.class_table.Scope.Local = record
+        let l : Rattle.refine_program.specs.class_rules.Scope.Local = record
         { name = name.text; kind = class_kind (class_of setting.table class.text) } in
         ap (λ z. in_turn z (check_statements setting (l ∷ locals) body))
         (construct_same setting locals shape means class name end)
         ∙ ap (in_turn (construct_rules setting shape class name end))
         (block_same (l ∷ locals) (l ∷ shape) (means_under l locals shape means) body)
     statement_same locals shape means (Local at var value body end_var end_value) =
-        let l : Rattle.refine_program.specs.class_table.Scope.Local = record
+        let l : Rattle.refine_program.specs.class_rules.Scope.Local = record
         { name = var.name.text; kind = kind_of setting.table var.kind } in
         ap (λ z. in_turn z (check_statements setting (l ∷ locals) body))
         (local_rules_same setting locals shape means at var value end_var end_value)

@@ -5,21 +5,21 @@ use Rattle.std.specs.Prelude.{slice_index}
 use Rattle.std.specs.Option.{unwrap_or}
 use Rattle.rpp_tree.specs.Parts.{source_tokens}
 use Rattle.rpp_tree.specs.Tree.{Procedure, Source}
-use Rattle.refine_program.specs.class_table.declared.method.MethodId.{MethodId}
-use Rattle.refine_program.specs.class_table.Chains.{parents, chain_of, line_of}
-use Rattle.refine_program.specs.class_table.Classes.{class_slots, main_of}
-use Rattle.refine_program.specs.class_table.First.{each_below}
-use Rattle.refine_program.specs.class_table.Mains.{mains}
-use Rattle.refine_program.specs.class_table.Members.{Slots, class_at, no_class, slots_of, slots_along}
-use Rattle.refine_program.specs.class_table.Overrides.{run_at}
-use Rattle.refine_program.specs.class_table.Program.{IsAccepted}
-use Rattle.refine_program.specs.class_table.Table.{Table, table_of, slots_in, dispatch_in}
-use Rattle.refine_program.proofs.class_table_laws.ChainEnds.{parents_in}
-use Rattle.refine_program.proofs.class_table_laws.ClassLines.{in_range}
-use Rattle.refine_program.proofs.class_table_laws.FoundMethods.{has_line}
-use Rattle.refine_program.proofs.class_table_laws.InheritedSlots.{there_at, run_is, AreEntries, entries_along}
-use Rattle.refine_program.proofs.class_table_laws.Numbers.{length-each_below}
-use Rattle.refine_program.proofs.class_table_laws.Tables.{table_reads}
+use Rattle.refine_program.specs.class_rules.declared.method.MethodId.{MethodId}
+use Rattle.refine_program.specs.class_rules.Chains.{parents, chain_of, line_of}
+use Rattle.refine_program.specs.class_rules.Classes.{class_slots, main_of}
+use Rattle.refine_program.specs.class_rules.First.{each_below}
+use Rattle.refine_program.specs.class_rules.Mains.{mains}
+use Rattle.refine_program.specs.class_rules.Members.{Slots, class_at, no_class, slots_of, slots_along}
+use Rattle.refine_program.specs.class_rules.Overrides.{run_at}
+use Rattle.refine_program.specs.class_rules.Program.{IsAccepted}
+use Rattle.refine_program.specs.class_rules.Table.{Table, table_of, slots_in, dispatch_in}
+use Rattle.refine_program.proofs.class_rules_laws.ChainEnds.{parents_in}
+use Rattle.refine_program.proofs.class_rules_laws.ClassLines.{in_range}
+use Rattle.refine_program.proofs.class_rules_laws.FoundMethods.{has_line}
+use Rattle.refine_program.proofs.class_rules_laws.InheritedSlots.{there_at, run_is, AreEntries, entries_along}
+use Rattle.refine_program.proofs.class_rules_laws.Numbers.{length-each_below}
+use Rattle.refine_program.proofs.class_rules_laws.Tables.{table_reads}
 use Rattle.refine_program.proofs.roopl_semantics_laws.MainPlace.{first_of_mains, table_rules, class_inside}
 use Rattle.refine_program.specs.Methods.{methods_before, routine_of}
 use Rattle.refine_program.proofs.Stated.{methods_have_routines}

@@ -8,15 +8,15 @@ use Rattle.rpp_tree.specs.declared.tree.Class.{Class}
 use Rattle.rpp_tree.specs.declared.tree.Program.{Program}
 use Rattle.rpp_tree.specs.Tree.{ClassText, Source}
 use Rattle.rpp_tree.specs.Views.{procedure_of, class_text_of, source_of}
-use Rattle.refine_program.specs.class_table.declared.method.MethodId.{MethodId}
-use Rattle.refine_program.specs.class_table.First.{each_below}
-use Rattle.refine_program.specs.class_table.Classes.{class_slots}
-use Rattle.refine_program.specs.class_table.Members.{Slots, class_at}
-use Rattle.refine_program.specs.class_table.Overrides.{run_at}
-use Rattle.refine_program.specs.class_table.Table.{table_of, slots_in}
-use Rattle.refine_program.proofs.class_table_laws.InheritedSlots.{class_there}
-use Rattle.refine_program.proofs.class_table_laws.Numbers.{length-each_below, each_below-get, class-known}
-use Rattle.refine_program.proofs.class_table_laws.Tables.{table_reads}
+use Rattle.refine_program.specs.class_rules.declared.method.MethodId.{MethodId}
+use Rattle.refine_program.specs.class_rules.First.{each_below}
+use Rattle.refine_program.specs.class_rules.Classes.{class_slots}
+use Rattle.refine_program.specs.class_rules.Members.{Slots, class_at}
+use Rattle.refine_program.specs.class_rules.Overrides.{run_at}
+use Rattle.refine_program.specs.class_rules.Table.{table_of, slots_in}
+use Rattle.refine_program.proofs.class_rules_laws.InheritedSlots.{class_there}
+use Rattle.refine_program.proofs.class_rules_laws.Numbers.{length-each_below, each_below-get, class-known}
+use Rattle.refine_program.proofs.class_rules_laws.Tables.{table_reads}
 use Rattle.refine_program.specs.roopl_semantics.Layout.{tables}
 use Rattle.refine_program.specs.paired_code.declared.part.StaticWord.{StaticWord}
 use Rattle.refine_program.specs.paired_code.declared.part.StaticWord.TheVariants.{Word, Routine as RoutinePlace}

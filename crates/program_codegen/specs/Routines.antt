@@ -3,7 +3,7 @@ use Rattle.std.specs.Prelude.{◌≡◌, ℕ, ◌+◌, ◌*◌, ◌≤◌, List,
 use Rattle.std.specs.List.{AllZip}
 use Rattle.rpp_tree.specs.Parts.{block_tokens}
 use Rattle.rpp_tree.specs.Tree.{Source}
-use Rattle.refine_program.specs.class_table.First.{each_below}
+use Rattle.refine_program.specs.class_rules.First.{each_below}
 use Rattle.refine_program.specs.paired_code.Code.{Code}
 use Rattle.refine_program.specs.buddy_pisa.Promise.{AllocatorLaw}
 use Rattle.statement_codegen.specs.Ranges.{MarksOf}

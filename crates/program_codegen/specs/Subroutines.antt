@@ -5,8 +5,8 @@ use Rattle.std.specs.Prelude.{Some}
 use Rattle.std.specs.Option.{unwrap_or}
 use Rattle.rpp_tree.specs.declared.tree.Ident.{Ident}
 use Rattle.rpp_tree.specs.Tree.{Source}
-use Rattle.refine_program.specs.class_table.Table.{table_of, slot_in}
-use Rattle.refine_program.specs.class_table.Inheritance.{is_or_inherits}
+use Rattle.refine_program.specs.class_rules.Table.{table_of, slot_in}
+use Rattle.refine_program.specs.class_rules.Inheritance.{is_or_inherits}
 use Rattle.refine_program.specs.pisa_isa.declared.notes.Mark.{Mark}
 use Rattle.refine_program.specs.pisa_isa.Image.{Segments}
 use Rattle.refine_program.specs.paired_code.declared.part.Symbol.{Symbol}

@@ -2,7 +2,7 @@
 ghost use Rattle.std.specs.Prelude.{◌≡◌, ◌<◌, ◌≤◌, Some, map, length, slice_get, IfOk};
 ghost use Rattle.std.specs.List.{AllZip};
 ghost use Rattle.rpp_tree.specs.Views.{procedure_of, source_of};
-ghost use Rattle.refine_program.specs.class_table.Members.{class_at};
+ghost use Rattle.refine_program.specs.class_rules.Members.{class_at};
 ghost use Rattle.refine_program.specs.Methods.{entries_of, entries};
 ghost use Rattle.program_codegen.specs.Routines.{IsRoutine, AreRoutines};
 

@@ -2,7 +2,7 @@
 use Rattle.std.proofs.Common.{ℕ, ◌+◌, ◌*◌, ◌≤◌, arith}
 use Rattle.roopl_judge.specs.rpp_tree.Parts.{source_tokens}
 use Rattle.roopl_judge.specs.rpp_tree.Tree.{Source}
-use Rattle.roopl_judge.specs.class_table.Program.{IsAccepted}
+use Rattle.roopl_judge.specs.class_rules.Program.{IsAccepted}
 use Rattle.program_commands.specs.declared.going.TheConstants.{MOST_COMPILED}
 
 pub few_cells : (program : Source) (cells : ℕ) → IsAccepted program → cells ≤ 200 * source_tokens program + 8192

@@ -1,7 +1,7 @@
 pub use Rattle.roopl_judge.specs.rpp_words
 pub use Rattle.command_plan.specs.rpp_ports
 pub use Rattle.roopl_judge.specs.rpp_tree
-pub use Rattle.roopl_judge.specs.class_table
+pub use Rattle.roopl_judge.specs.class_rules
 pub use Rattle.image_inverter.specs.pisa_isa
 pub use Rattle.store_report.specs.pisa_machine
 pub use Rattle.command_plan.specs.pisa_image

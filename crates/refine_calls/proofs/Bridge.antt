@@ -5,9 +5,9 @@ use Rattle.std.proofs.lemmas.List.{length-map}
 use Rattle.std.specs.Prelude.{replicate, slice_index, slice_set}
 use Rattle.buddy_pisa.specs.rpp_words.declared.input.TheConstants.{FRAME_WORDS}
 use Rattle.method_calls.specs.code_conventions.declared.memory.TheConstants.{FIRST_VARIABLE, HEADER_WORDS}
-use Rattle.method_calls.specs.class_table.declared.kind.Kind.TheVariants as kind
+use Rattle.method_calls.specs.class_rules.declared.kind.Kind.TheVariants as kind
 use Rattle.method_calls.specs.rpp_tree.declared.tree.Var.{Var}
-use Rattle.method_calls.specs.class_table.declared.kind.Kind.{Kind}
+use Rattle.method_calls.specs.class_rules.declared.kind.Kind.{Kind}
 use Rattle.buddy_pisa.specs.buddy_book.Place.{Placing}
 use Rattle.method_calls.specs.roopl_semantics.Store.{Value, Object, Store, Binding, State, object_at}
 use Rattle.method_calls.specs.roopl_semantics.Value.{Part, read, written}

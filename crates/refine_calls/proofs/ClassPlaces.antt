@@ -5,8 +5,8 @@ use Rattle.std.proofs.Common.{subst, arith}
 use Rattle.std.specs.Prelude.{nat_eq, if◌then◌else◌, slice_index, is_some}
 use Rattle.method_calls.specs.code_conventions.declared.memory.TheConstants.{MAIN_OBJECT, FIRST_FIELD, TABLE_HEADER}
 use Rattle.buddy_pisa.specs.rpp_words.declared.input.TheConstants.{FIXED_CELLS}
-use Rattle.method_calls.specs.class_table.declared.kind.Kind.TheVariants as kind
-use Rattle.method_calls.specs.class_table.Classes.{class_slots}
+use Rattle.method_calls.specs.class_rules.declared.kind.Kind.TheVariants as kind
+use Rattle.method_calls.specs.class_rules.Classes.{class_slots}
 use Rattle.method_calls.specs.rpp_tree.Tree.{Source}
 use Rattle.buddy_pisa.specs.buddy_book.Place.{Placing, block_of}
 use Rattle.method_calls.specs.roopl_semantics.Store.{OfClass, State, main_name, object_at}
@@ -14,11 +14,11 @@ use Rattle.method_calls.specs.roopl_semantics.Layout.{HasStatics, table_at, head
 use Rattle.method_calls.specs.roopl_semantics.Execution.{Setting}
 use Rattle.buddy_pisa.specs.pisa_isa.Image.{Segments}
 use Rattle.buddy_pisa.specs.pisa_isa.declared.image.TheConstants.{MOST_STATICS}
-use Rattle.method_calls.specs.class_table.Inheritance.{is_or_inherits}
+use Rattle.method_calls.specs.class_rules.Inheritance.{is_or_inherits}
 use Rattle.method_calls.specs.meaning_sound.Sound.{named_fits, head_of}
 use Rattle.method_calls.proofs.meaning_sound_laws.Stores.{live_object}
 use Rattle.method_calls.proofs.refine_frame_laws.Memory.{base_above}
-use Rattle.method_calls.proofs.class_table_laws.FoundMethods.{own_range}
+use Rattle.method_calls.proofs.class_rules_laws.FoundMethods.{own_range}
 use Rattle.method_calls.proofs.refine_frame_laws.Tells.{read_head}
 use Rattle.method_calls.proofs.refine_frame_laws.TableWords.{places_of, read_table, table_low}
 use Rattle.method_calls.specs.refine_form.Form.{Scope, Moved}

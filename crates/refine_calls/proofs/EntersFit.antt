@@ -4,10 +4,10 @@ use Rattle.std.proofs.Common.{◌≡◌, ℕ, suc, ◌+◌, ◌<◌, Bool, true,
 use Rattle.std.proofs.Common.{◌∙◌, subst, arith}
 use Rattle.std.proofs.lemmas.Bool.{ltb-true, ltb-false}
 use Rattle.std.specs.Prelude.{nat_lt}
-use Rattle.method_calls.specs.class_table.declared.kind.Kind.TheVariants as kind
+use Rattle.method_calls.specs.class_rules.declared.kind.Kind.TheVariants as kind
 use Rattle.method_calls.specs.rpp_tree.declared.tree.Ident.{Ident}
 use Rattle.method_calls.specs.rpp_tree.declared.tree.Var.{Var}
-use Rattle.method_calls.specs.class_table.declared.kind.Kind.{Kind}
+use Rattle.method_calls.specs.class_rules.declared.kind.Kind.{Kind}
 use Rattle.method_calls.specs.roopl_semantics.Store.{Value, Store, State, main_name}
 use Rattle.method_calls.specs.roopl_semantics.Execution.{Setting, bound}
 use Rattle.method_calls.specs.roopl_semantics.Laws.{holders_among}

@@ -6,18 +6,18 @@ use Rattle.std.proofs.lemmas.List.{length-map}
 use Rattle.std.specs.Prelude.{position, not, nat_lt}
 use Rattle.std.specs.Option.{unwrap_or}
 use Rattle.std.specs.Str.{bytes_eq}
-use Rattle.method_calls.specs.class_table.declared.kind.Kind.TheVariants as kind
+use Rattle.method_calls.specs.class_rules.declared.kind.Kind.TheVariants as kind
 use Rattle.method_calls.specs.rpp_tree.declared.tree.Ident.{Ident}
 use Rattle.method_calls.specs.rpp_tree.declared.tree.Var.{Var}
 use Rattle.method_calls.specs.rpp_tree.Tree.{Source, Procedure}
-use Rattle.method_calls.specs.class_table.declared.kind.Kind.{Kind}
-use Rattle.method_calls.specs.class_table.Classes.{class_fields}
-use Rattle.method_calls.specs.class_table.Table.{table_of, dispatch_in}
-use Rattle.method_calls.specs.class_table.Overrides.{parameters_of}
+use Rattle.method_calls.specs.class_rules.declared.kind.Kind.{Kind}
+use Rattle.method_calls.specs.class_rules.Classes.{class_fields}
+use Rattle.method_calls.specs.class_rules.Table.{table_of, dispatch_in}
+use Rattle.method_calls.specs.class_rules.Overrides.{parameters_of}
 use Rattle.method_calls.specs.roopl_semantics.Store.{Value, OfClass, Store, Binding, State}
-use Rattle.method_calls.specs.class_table.Members.{field_of}
+use Rattle.method_calls.specs.class_rules.Members.{field_of}
 use Rattle.method_calls.specs.roopl_semantics.Execution.{Setting, bound}
-use Rattle.method_calls.specs.class_table.Inheritance.{is_or_inherits, kind_of_var}
+use Rattle.method_calls.specs.class_rules.Inheritance.{is_or_inherits, kind_of_var}
 use Rattle.method_calls.specs.meaning_sound.Sound.{named_fits, head_named, local_type, cell_kind, part_kind}
 use Rattle.method_calls.proofs.meaning_sound_laws.Classes.{KnowsClasses}
 use Rattle.method_calls.proofs.meaning_sound_laws.Invocations.{types_of_params}
@@ -32,8 +32,8 @@ use Rattle.refine_calls.proofs.FactsMoves.{same_means, cell_is, moves_in, moves_
 use Rattle.refine_calls.proofs.EntersFit.{pairs_values, HaveKinds, kept_enters, kept_leaves, counts_enter, counts_leave}
 use Rattle.refine_calls.proofs.FramePlaces.{frame_small, object_small, frame_end, saves, puts, put_words, puts_back}
 use Rattle.refine_calls.proofs.ClassPlaces.{class_above, table_read}
-use Rattle.method_calls.specs.class_table.Program.{IsAccepted}
-use Rattle.method_calls.proofs.class_table_laws.FoundMethods.{dispatched_method, own_range}
+use Rattle.method_calls.specs.class_rules.Program.{IsAccepted}
+use Rattle.method_calls.proofs.class_rules_laws.FoundMethods.{dispatched_method, own_range}
 use Rattle.method_calls.proofs.meaning_sound_laws.Accepted.{knows_classes}
 use Rattle.method_calls.proofs.meaning_sound_laws.Plainness.{program_plain}
 use Rattle.method_calls.specs.refine_form.Worlds.{Place, world_of}

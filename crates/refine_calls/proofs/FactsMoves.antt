@@ -9,22 +9,22 @@ use Rattle.buddy_pisa.specs.rpp_words.declared.input.TheConstants.{FRAME_WORDS, 
 use Rattle.method_calls.specs.code_conventions.declared.memory.TheConstants.{FIRST_VARIABLE, HEADER_WORDS}
 use Rattle.method_calls.specs.rpp_tree.declared.tree.Ident.{Ident}
 use Rattle.method_calls.specs.rpp_tree.declared.tree.Var.{Var}
-use Rattle.method_calls.specs.class_table.Classes.{class_fields}
-use Rattle.method_calls.specs.class_table.Table.{table_of, field_in}
-use Rattle.method_calls.specs.class_table.Program.{setting_in}
+use Rattle.method_calls.specs.class_rules.Classes.{class_fields}
+use Rattle.method_calls.specs.class_rules.Table.{table_of, field_in}
+use Rattle.method_calls.specs.class_rules.Program.{setting_in}
 use Rattle.method_calls.specs.roopl_semantics.Store.{Value, State, is_zero, cleared}
 use Rattle.method_calls.specs.roopl_semantics.Value.{Cell, cell_named, read, written}
-use Rattle.method_calls.specs.class_table.Members.{field_of, field_name}
+use Rattle.method_calls.specs.class_rules.Members.{field_of, field_name}
 use Rattle.method_calls.specs.roopl_semantics.Execution.{Setting}
 use Rattle.method_calls.specs.meaning_sound.Sound.{cell_kind}
 use Rattle.method_calls.specs.meaning_sound.Kept.{MeansSame}
 use Rattle.method_calls.proofs.meaning_sound_laws.Classes.{KnowsClasses}
 use Rattle.method_calls.proofs.meaning_sound_laws.Values.{variable_fits}
-use Rattle.method_calls.proofs.class_table_laws.PassedRules.{some_of}
+use Rattle.method_calls.proofs.class_rules_laws.PassedRules.{some_of}
 use Rattle.method_calls.proofs.meaning_sound_laws.Names.{type_at, local_kind_is, field_number_is}
-use Rattle.method_calls.specs.class_table.Scope.{local_kind, kind_at, field_kind, kind_in}
-use Rattle.method_calls.specs.class_table.Refusal.{unknown_name}
-use Rattle.method_calls.proofs.class_table_laws.Tables.{table_reads}
+use Rattle.method_calls.specs.class_rules.Scope.{local_kind, kind_at, field_kind, kind_in}
+use Rattle.method_calls.specs.class_rules.Refusal.{unknown_name}
+use Rattle.method_calls.proofs.class_rules_laws.Tables.{table_reads}
 use Rattle.method_calls.specs.refine_form.Form.{Scope, Moved}
 use Rattle.method_calls.specs.Facts.{MovesIn, MovesBack, address}
 use Rattle.method_calls.specs.refine_form.Frames.{Under, base, address_of, value_word, cell_at, cell_in, OpenFrame}
@@ -47,7 +47,7 @@ set_apart (c ∷ cells) zero (suc b) x y h = refl
 set_apart (c ∷ cells) (suc a) zero x y h = refl
 set_apart (c ∷ cells) (suc a) (suc b) x y h = ap (λ z. c ∷ z) (set_apart cells a b x y (λ e. h (ap suc e)))
 
-pub same_means : (shape : Rattle.method_calls.specs.class_table.Scope.Locals) → MeansSame shape shape
+pub same_means : (shape : Rattle.method_calls.specs.class_rules.Scope.Locals) → MeansSame shape shape
 same_means shape = record { same = λ name. refl }
 
 module _ (setting : Setting) (statics : List ℕ) (classes : KnowsClasses setting.program) where

@@ -14,8 +14,8 @@ use Rattle.method_calls.specs.rpp_tree.declared.tree.Var.{Var}
 use Rattle.buddy_pisa.specs.buddy_book.Place.{Placing}
 use Rattle.method_calls.specs.roopl_semantics.Store.{Value, Binding, State, object_at, class_of_head}
 use Rattle.method_calls.specs.roopl_semantics.Value.{Part, cell_named, own_class, slot_or_field}
-use Rattle.method_calls.specs.class_table.Members.{field_of}
-use Rattle.method_calls.specs.class_table.Classes.{class_fields}
+use Rattle.method_calls.specs.class_rules.Members.{field_of}
+use Rattle.method_calls.specs.class_rules.Classes.{class_fields}
 use Rattle.method_calls.specs.roopl_semantics.Execution.{Setting, bound}
 use Rattle.method_calls.specs.refine_form.Form.{Scope}
 use Rattle.method_calls.specs.Names.{caller_of, deeper}

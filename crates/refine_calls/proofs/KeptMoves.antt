@@ -2,9 +2,9 @@
 use Rattle.std.proofs.Common.{◌≡◌, ℕ, ◌+◌, ◌<◌, Bool, true, false, List, [], ◌∷◌, map, Some, refl, sym, ap, ◌∙◌, arith}
 use Rattle.std.proofs.lemmas.Bool.{ltb-true, ltb-false}
 use Rattle.std.specs.Prelude.{nat_lt, is_some}
-use Rattle.method_calls.specs.class_table.declared.kind.Kind.TheVariants as kind
+use Rattle.method_calls.specs.class_rules.declared.kind.Kind.TheVariants as kind
 use Rattle.method_calls.specs.rpp_tree.declared.tree.Ident.{Ident}
-use Rattle.method_calls.specs.class_table.declared.kind.Kind.{Kind}
+use Rattle.method_calls.specs.class_rules.declared.kind.Kind.{Kind}
 use Rattle.method_calls.specs.roopl_semantics.Store.{Value, Word, Nil, Name, Store, State, main_name, is_zero, cleared}
 use Rattle.method_calls.specs.roopl_semantics.Value.{Cell, Slot, Part, read, written}
 use Rattle.method_calls.specs.roopl_semantics.Execution.{Setting}

@@ -1,5 +1,5 @@
-pub use Rattle.method_calls.proofs.class_table_laws
-pub use Rattle.method_calls.proofs.stmt_inverter_laws
+pub use Rattle.method_calls.proofs.class_rules_laws
+pub use Rattle.method_calls.proofs.inverse_rules_laws
 pub use Rattle.method_calls.proofs.pisa_isa_laws
 pub use Rattle.method_calls.proofs.meaning_sound_laws
 pub use Rattle.buddy_pisa.proofs.paired_code_laws

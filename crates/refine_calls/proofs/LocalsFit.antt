@@ -9,12 +9,12 @@ use Rattle.std.specs.Option.{unwrap_or, option_map}
 use Rattle.std.specs.Str.{bytes_eq}
 use Rattle.buddy_pisa.specs.rpp_words.declared.input.TheConstants.{FIXED_CELLS}
 use Rattle.method_calls.specs.code_conventions.declared.memory.TheConstants.{FIRST_VARIABLE, MOST_VARIABLES}
-use Rattle.method_calls.specs.class_table.declared.kind.Kind.TheVariants as kind
+use Rattle.method_calls.specs.class_rules.declared.kind.Kind.TheVariants as kind
 use Rattle.buddy_pisa.proofs.rpp_words_laws.Laws.{xor-twice}
 use Rattle.method_calls.specs.rpp_tree.declared.tree.Var.{Var}
 use Rattle.method_calls.specs.rpp_tree.Tree.{Expression, Number, Null, Variable, Element, Binary, Source, nodes}
-use Rattle.method_calls.specs.class_table.declared.kind.Kind.{Kind}
-use Rattle.method_calls.specs.class_table.Expressions.{occurs}
+use Rattle.method_calls.specs.class_rules.declared.kind.Kind.{Kind}
+use Rattle.method_calls.specs.class_rules.Expressions.{occurs}
 use Rattle.buddy_pisa.specs.paired_code.Does.{Fine}
 use Rattle.method_calls.specs.roopl_semantics.Run.{after_cost, given}
 use Rattle.method_calls.specs.roopl_semantics.Store.{Value, Word, Nil, Name, Binding, State, main_name, number_of}
@@ -25,9 +25,9 @@ use Rattle.method_calls.specs.roopl_semantics.Value.{read_cell, slot_or_field, c
 use Rattle.method_calls.specs.roopl_semantics.Execution.{Setting, opened, closed}
 use Rattle.method_calls.specs.roopl_semantics.Laws.{one_if_name}
 use Rattle.method_calls.specs.meaning_sound.Sound.{fits, value_of, local_type, AllFit}
-use Rattle.method_calls.specs.class_table.Inheritance.{kind_of_var}
+use Rattle.method_calls.specs.class_rules.Inheritance.{kind_of_var}
 use Rattle.method_calls.proofs.meaning_sound_laws.Classes.{KnowsClasses}
-use Rattle.method_calls.proofs.class_table_laws.FirstPlaces.{position_cons}
+use Rattle.method_calls.proofs.class_rules_laws.FirstPlaces.{position_cons}
 use Rattle.method_calls.proofs.meaning_sound_laws.Values.{ValueFits, int_value, value_fits, IsInt}
 use Rattle.method_calls.specs.refine_form.Form.{World, Scope, with_var, told}
 use Rattle.method_calls.specs.Facts.{LocalFacts, new_word}
@@ -39,8 +39,8 @@ use Rattle.refine_calls.proofs.Bridge.{set_words, typed, callers_long, before_lo
 use Rattle.refine_calls.proofs.MovesFit.{frame_address, frame_long, frame_read}
 use Rattle.refine_calls.proofs.FactsMoves.{same_means}
 use Rattle.refine_calls.proofs.FramePlaces.{frame_small}
-use Rattle.method_calls.specs.class_table.Program.{IsAccepted}
-use Rattle.method_calls.specs.class_table.Expressions.{is_int}
+use Rattle.method_calls.specs.class_rules.Program.{IsAccepted}
+use Rattle.method_calls.specs.class_rules.Expressions.{is_int}
 use Rattle.buddy_pisa.specs.buddy_book.Place.{Placing}
 use Rattle.method_calls.specs.roopl_semantics.Store.{Store}
 use Rattle.method_calls.specs.roopl_semantics.Layout.{no_placing}

@@ -20,7 +20,7 @@ use Rattle.buddy_pisa.specs.pisa_isa.declared.image.TheConstants.{MOST_STATICS}
 use Rattle.method_calls.specs.roopl_semantics.Store.{Head, OfClass, Binding, main_name}
 use Rattle.buddy_pisa.specs.rpp_words.Limits.{IsLimits}
 use Rattle.method_calls.specs.roopl_semantics.Source.{IsValid, main_body, main_object, starting}
-use Rattle.method_calls.specs.class_table.Classes.{main_of}
+use Rattle.method_calls.specs.class_rules.Classes.{main_of}
 use Rattle.method_calls.specs.roopl_semantics.Layout.{HasStatics}
 use Rattle.method_calls.specs.roopl_semantics.Execution.{Setting}
 use Rattle.method_calls.proofs.meaning_sound_laws.Starting.{starting_sound}
@@ -33,10 +33,10 @@ use Rattle.refine_calls.proofs.FramesFit.{fill_more, base_is, ends}
 use Rattle.method_calls.specs.refine_form.Stands.{Stands}
 use Rattle.refine_calls.proofs.MovesFit.{frame_long}
 use Rattle.refine_calls.proofs.FramePlaces.{all_small}
-use Rattle.method_calls.specs.class_table.Program.{IsAccepted}
+use Rattle.method_calls.specs.class_rules.Program.{IsAccepted}
 use Rattle.method_calls.proofs.roopl_semantics_laws.MainPlace.{class_inside}
 use Rattle.buddy_pisa.specs.buddy_book.Place.{Placing}
-use Rattle.method_calls.specs.class_table.Inheritance.{is_or_inherits}
+use Rattle.method_calls.specs.class_rules.Inheritance.{is_or_inherits}
 use Rattle.method_calls.specs.meaning_sound.Sound.{AllFit, local_type, head_of, head_named}
 use Rattle.method_calls.proofs.refine_frame_laws.Memory.{base_above}
 use Rattle.method_calls.specs.refine_form.Frames.{base}

@@ -8,7 +8,7 @@ use Rattle.std.specs.Option.{option_map}
 use Rattle.buddy_pisa.specs.rpp_words.declared.input.TheConstants.{FRAME_WORDS}
 use Rattle.method_calls.specs.code_conventions.declared.memory.TheConstants.{FIRST_VARIABLE, HEADER_WORDS}
 use Rattle.method_calls.specs.code_conventions.declared.memory.TheConstants.{MOST_VARIABLES}
-use Rattle.method_calls.specs.class_table.declared.kind.Kind.{Kind}
+use Rattle.method_calls.specs.class_rules.declared.kind.Kind.{Kind}
 use Rattle.buddy_pisa.specs.buddy_book.Place.{Placing}
 use Rattle.method_calls.specs.roopl_semantics.Store.{Value, OfClass, Store, Binding, State, object_at, class_of_head}
 use Rattle.method_calls.specs.roopl_semantics.Value.{Cell, Slot, Part, read, written}

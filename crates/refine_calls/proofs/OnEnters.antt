@@ -4,9 +4,9 @@ use Rattle.std.proofs.Common.{◌≡◌, ◌≢◌, ℕ, ◌+◌, ◌<◌, Bool,
 use Rattle.std.proofs.Common.{◌∙◌, subst, arith}
 use Rattle.std.proofs.lemmas.Bool.{ltb-true, ltb-false}
 use Rattle.std.specs.Prelude.{replicate, nat_lt, if◌then◌else◌}
-use Rattle.method_calls.specs.class_table.declared.kind.Kind.TheVariants as kind
+use Rattle.method_calls.specs.class_rules.declared.kind.Kind.TheVariants as kind
 use Rattle.method_calls.specs.rpp_tree.declared.tree.Ident.{Ident}
-use Rattle.method_calls.specs.class_table.declared.kind.Kind.{Kind}
+use Rattle.method_calls.specs.class_rules.declared.kind.Kind.{Kind}
 use Rattle.method_calls.specs.roopl_semantics.Store.{Value, Name, OfClass, State, main_name, object_at, class_of_head}
 use Rattle.method_calls.specs.roopl_semantics.Execution.{Setting, bound}
 use Rattle.method_calls.specs.roopl_semantics.Laws.{one_if_name, holders_among}

@@ -6,13 +6,13 @@ use Rattle.std.specs.Prelude.{replicate, slice_index, slice_set, nat_eq, if◌th
 use Rattle.std.specs.Option.{unwrap_or, option_map}
 use Rattle.method_calls.specs.code_conventions.declared.memory.TheConstants.{OBJECT_WORD}
 use Rattle.buddy_pisa.specs.rpp_words.declared.input.TheConstants.{FRAME_WORDS, FIXED_CELLS}
-use Rattle.method_calls.specs.class_table.declared.kind.Kind.TheVariants as kind
+use Rattle.method_calls.specs.class_rules.declared.kind.Kind.TheVariants as kind
 use Rattle.method_calls.specs.rpp_tree.declared.tree.Ident.{Ident}
 use Rattle.method_calls.specs.rpp_tree.declared.tree.Var.{Var}
 use Rattle.method_calls.specs.rpp_tree.Tree.{Source}
-use Rattle.method_calls.specs.class_table.declared.kind.Kind.{Kind}
-use Rattle.method_calls.specs.class_table.Inheritance.{is_or_inherits}
-use Rattle.method_calls.proofs.class_table_laws.FoundMethods.{dispatched_method, own_range}
+use Rattle.method_calls.specs.class_rules.declared.kind.Kind.{Kind}
+use Rattle.method_calls.specs.class_rules.Inheritance.{is_or_inherits}
+use Rattle.method_calls.proofs.class_rules_laws.FoundMethods.{dispatched_method, own_range}
 use Rattle.buddy_pisa.specs.buddy_book.Place.{Placing, block_of, place as placing_of}
 use Rattle.buddy_pisa.specs.pisa_isa.Loaded.{statics_at}
 use Rattle.method_calls.specs.roopl_semantics.Store.{Value, Word, Nil, Name, Head, OfClass, OfInts, OfObjects, Object}
@@ -91,7 +91,7 @@ set_get (x ∷ vs) zero v h = refl
 set_get (x ∷ vs) (suc i) v h = set_get vs i v (omega arith)
 
 -- the same object has the same class after the moves out
-pub out_heads : (setting : Setting) (shape : Rattle.method_calls.specs.class_table.Scope.Locals) (cs : List Cell)
+pub out_heads : (setting : Setting) (shape : Rattle.method_calls.specs.class_rules.Scope.Locals) (cs : List Cell)
     (st : State)
     (m : ℕ) → head_named (out_from cs st).store m ≡ head_named st.store m
 out_heads setting shape [] st m = refl

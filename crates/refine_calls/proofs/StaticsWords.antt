@@ -9,7 +9,7 @@ use Rattle.method_calls.specs.code_conventions.Header.{header}
 use Rattle.method_calls.specs.rpp_tree.Tree.{Source}
 use Rattle.buddy_pisa.specs.pisa_isa.Image.{Segments}
 use Rattle.buddy_pisa.specs.pisa_isa.declared.image.TheConstants.{MOST_STATICS}
-use Rattle.method_calls.specs.class_table.Classes.{main_of}
+use Rattle.method_calls.specs.class_rules.Classes.{main_of}
 use Rattle.method_calls.specs.roopl_semantics.Source.{main_fields}
 use Rattle.method_calls.specs.roopl_semantics.Layout.{HasStatics, table_at, main_statics, tables}
 use Rattle.method_calls.proofs.refine_frame_laws.TableWords.{table_place, table_offset}

@@ -7,10 +7,10 @@ use Rattle.buddy_pisa.specs.rpp_words.Limits.{IsLimits}
 use Rattle.buddy_pisa.specs.rpp_words.declared.input.FieldWord.{FieldWord}
 use Rattle.method_calls.specs.rpp_tree.declared.tree.Ident.{Ident}
 use Rattle.method_calls.specs.rpp_tree.Tree.{Source}
-use Rattle.method_calls.specs.class_table.Classes.{method_named, main_of}
-use Rattle.method_calls.specs.class_table.Table.{table_of, slot_in}
-use Rattle.method_calls.specs.class_table.Inheritance.{is_or_inherits}
-use Rattle.method_calls.specs.class_table.Program.{IsAccepted}
+use Rattle.method_calls.specs.class_rules.Classes.{method_named, main_of}
+use Rattle.method_calls.specs.class_rules.Table.{table_of, slot_in}
+use Rattle.method_calls.specs.class_rules.Inheritance.{is_or_inherits}
+use Rattle.method_calls.specs.class_rules.Program.{IsAccepted}
 use Rattle.buddy_pisa.specs.paired_code.declared.part.Symbol.{Symbol}
 use Rattle.buddy_pisa.specs.paired_code.Machine.{Image}
 use Rattle.buddy_pisa.specs.paired_code.Layout.{Routine, Tidy}

@@ -1,6 +1,6 @@
 pub use Rattle.buddy_pisa.specs.rpp_words
 pub use Rattle.method_calls.specs.rpp_tree
-pub use Rattle.method_calls.specs.class_table
+pub use Rattle.method_calls.specs.class_rules
 pub use Rattle.buddy_pisa.specs.pisa_isa
 pub use Rattle.method_calls.specs.code_conventions
 pub use Rattle.buddy_pisa.specs.buddy_book

@@ -3,9 +3,9 @@ use Rattle.std.proofs.Common.{◌≡◌, ℕ, ◌≤◌, false, List, [], length
 use Rattle.std.specs.Prelude.{nat_eq, Ok}
 use Rattle.refine_calls.specs.rpp_tree.declared.tree.Ident.{Ident}
 use Rattle.refine_calls.specs.rpp_tree.Tree.{Expression, Number, Null, Variable, Element, Binary, Lvalue, Whole, Item}
-use Rattle.refine_calls.specs.class_table.declared.kind.Kind.{Kind}
-use Rattle.refine_calls.specs.class_table.declared.kind.Kind.TheVariants as kind
-use Rattle.refine_calls.specs.class_table.Expressions.{is_int, element_kind, variable_type, type_of, place_type}
+use Rattle.refine_calls.specs.class_rules.declared.kind.Kind.{Kind}
+use Rattle.refine_calls.specs.class_rules.declared.kind.Kind.TheVariants as kind
+use Rattle.refine_calls.specs.class_rules.Expressions.{is_int, element_kind, variable_type, type_of, place_type}
 use Rattle.refine_calls.specs.roopl_semantics.Store.{Value, Word, Nil, Name, State, same_value}
 use Rattle.refine_calls.specs.roopl_semantics.Value.{cell_named, variable_value}
 use Rattle.refine_calls.specs.roopl_semantics.Execution.{Setting}

@@ -2,7 +2,7 @@
 -- whatever its counts.
 use Rattle.std.proofs.Common.{◌≡◌, ℕ, ◌+◌, ◌^◌, ◌<◌, true, List, [], Some, arith}
 use Rattle.std.specs.Prelude.{slice_set}
-use Rattle.refine_calls.specs.class_table.declared.kind.Kind.{Kind}
+use Rattle.refine_calls.specs.class_rules.declared.kind.Kind.{Kind}
 use Rattle.refine_calls.specs.roopl_semantics.Store.{Value, State, main_name}
 use Rattle.refine_calls.specs.roopl_semantics.Value.{Cell, read, written}
 use Rattle.refine_calls.specs.roopl_semantics.Laws.{one_if_name}

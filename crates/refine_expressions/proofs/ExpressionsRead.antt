@@ -7,13 +7,13 @@ use Rattle.std.specs.Prelude.{nat_eq, ◌&&◌, slice_index, if◌then◌else◌
 use Rattle.refine_calls.specs.rpp_tree.declared.tree.Ident.{Ident}
 use Rattle.refine_calls.specs.rpp_tree.declared.tree.BinOp.{BinOp}
 use Rattle.refine_calls.specs.rpp_tree.Tree.{Expression, Number, Null, Variable, Element, Binary, Lvalue, Whole, Item}
-use Rattle.refine_calls.specs.class_table.declared.kind.Kind.{Kind}
-use Rattle.refine_calls.specs.class_table.declared.kind.Kind.TheVariants as kind
-use Rattle.refine_calls.specs.class_table.Refusal.{type_differs, refused_operator}
-use Rattle.refine_calls.specs.class_table.Expressions.{is_int, element_kind, variable_type, type_of, element_of as element_type}
-use Rattle.refine_calls.specs.class_table.Expressions.{index_is_int, first_token, is_comparison, is_refused, operands_fit, compares}
-use Rattle.refine_calls.specs.class_table.Expressions.{place_type}
-use Rattle.refine_calls.proofs.class_table_laws.PassedRules.{handed_on, both_true, int_kind, some_of}
+use Rattle.refine_calls.specs.class_rules.declared.kind.Kind.{Kind}
+use Rattle.refine_calls.specs.class_rules.declared.kind.Kind.TheVariants as kind
+use Rattle.refine_calls.specs.class_rules.Refusal.{type_differs, refused_operator}
+use Rattle.refine_calls.specs.class_rules.Expressions.{is_int, element_kind, variable_type, type_of, element_of as element_type}
+use Rattle.refine_calls.specs.class_rules.Expressions.{index_is_int, first_token, is_comparison, is_refused, operands_fit, compares}
+use Rattle.refine_calls.specs.class_rules.Expressions.{place_type}
+use Rattle.refine_calls.proofs.class_rules_laws.PassedRules.{handed_on, both_true, int_kind, some_of}
 use Rattle.refine_calls.specs.buddy_book.Place.{block_of}
 use Rattle.refine_calls.specs.pisa_isa.Loaded.{statics_at}
 use Rattle.refine_calls.specs.pisa_isa.declared.image.TheConstants.{MOST_STATICS}
@@ -56,10 +56,10 @@ module _ (setting : Setting) (statics : List ℕ) (few : length statics ≤ MOST
   abbrev pub P : Rattle.refine_calls.specs.rpp_tree.Tree.Source
   P = setting.program
 
-  abbrev pub T : Rattle.refine_calls.specs.class_table.Scope.Typing
+  abbrev pub T : Rattle.refine_calls.specs.class_rules.Scope.Typing
   T = typing setting statics classes s u st cells h
 
-  abbrev pub S : Rattle.refine_calls.specs.class_table.Scope.Locals
+  abbrev pub S : Rattle.refine_calls.specs.class_rules.Scope.Locals
   S = shape_of P s
 
   abbrev pub low : ℕ

@@ -6,7 +6,7 @@ use Rattle.std.proofs.lemmas.List.{get_or-replicate, length-replicate, length-ma
 use Rattle.std.specs.Prelude.{replicate, slice_index, Some}
 use Rattle.refine_calls.specs.code_conventions.declared.memory.TheConstants.{FIRST_VARIABLE}
 use Rattle.refine_calls.specs.rpp_words.declared.input.TheConstants.{FRAME_WORDS}
-use Rattle.refine_calls.specs.class_table.declared.kind.Kind.{Kind}
+use Rattle.refine_calls.specs.class_rules.declared.kind.Kind.{Kind}
 use Rattle.refine_calls.specs.buddy_book.Place.{Placing}
 use Rattle.refine_calls.specs.roopl_semantics.Store.{Binding, State}
 use Rattle.refine_calls.specs.roopl_semantics.Value.{Cell, read}

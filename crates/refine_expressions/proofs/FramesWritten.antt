@@ -6,8 +6,8 @@ use Rattle.std.specs.Option.{unwrap_or}
 use Rattle.refine_calls.specs.code_conventions.declared.memory.TheConstants.{FIRST_VARIABLE, HEADER_WORDS}
 use Rattle.refine_calls.specs.pisa_isa.Machine.{Memory}
 use Rattle.refine_calls.specs.rpp_tree.Tree.{Lvalue, Source}
-use Rattle.refine_calls.specs.class_table.declared.kind.Kind.{Kind}
-use Rattle.refine_calls.specs.class_table.Expressions.{place_type}
+use Rattle.refine_calls.specs.class_rules.declared.kind.Kind.{Kind}
+use Rattle.refine_calls.specs.class_rules.Expressions.{place_type}
 use Rattle.refine_calls.specs.buddy_book.Place.{place}
 use Rattle.refine_calls.specs.roopl_semantics.Store.{Value, State}
 use Rattle.refine_calls.specs.roopl_semantics.Value.{Cell, Slot, Part, read, written, cell_of}

@@ -1,5 +1,5 @@
-pub use Rattle.refine_calls.proofs.class_table_laws
-pub use Rattle.refine_calls.proofs.stmt_inverter_laws
+pub use Rattle.refine_calls.proofs.class_rules_laws
+pub use Rattle.refine_calls.proofs.inverse_rules_laws
 pub use Rattle.refine_calls.proofs.meaning_sound_laws
 pub use Rattle.meaning_inverse.proofs as meaning_inverse_laws
 pub use Rattle.refine_calls.proofs.paired_code_laws

@@ -6,7 +6,7 @@ use Rattle.std.specs.Option.{option_map}
 use Rattle.std.specs.Str.{bytes_eq}
 use Rattle.refine_calls.specs.code_conventions.declared.memory.TheConstants.{FIRST_VARIABLE}
 use Rattle.refine_calls.specs.rpp_tree.declared.tree.Var.{Var}
-use Rattle.refine_calls.proofs.class_table_laws.FirstPlaces.{position_cons, bytes_turned}
+use Rattle.refine_calls.proofs.class_rules_laws.FirstPlaces.{position_cons, bytes_turned}
 use Rattle.expr_uncompute.specs.code_scope.Visible.{word_named}
 
 abbrev pub var_name : Var → List ℕ

@@ -3,8 +3,8 @@ use Rattle.std.proofs.Common.{◌≡◌, ℕ, suc, ◌+◌, ◌^◌, ◌<◌, �
 use Rattle.std.proofs.Common.{subst, arith}
 use Rattle.std.specs.Prelude.{slice_index, slice_set, Ok}
 use Rattle.refine_calls.specs.rpp_tree.Tree.{Lvalue, Swap, Source}
-use Rattle.refine_calls.specs.class_table.declared.kind.Kind.{Kind}
-use Rattle.refine_calls.specs.class_table.Expressions.{place_type}
+use Rattle.refine_calls.specs.class_rules.declared.kind.Kind.{Kind}
+use Rattle.refine_calls.specs.class_rules.Expressions.{place_type}
 use Rattle.refine_calls.specs.buddy_book.Place.{Placing}
 use Rattle.refine_calls.specs.pisa_isa.Machine.{Memory}
 use Rattle.refine_calls.specs.pisa_isa.declared.image.TheConstants.{MOST_STATICS}

@@ -4,7 +4,7 @@ use Rattle.std.proofs.Common.{subst, arith}
 use Rattle.std.specs.Prelude.{slice_index, slice_set, Ok}
 use Rattle.refine_calls.specs.rpp_tree.declared.tree.UpdateOp.{UpdateOp}
 use Rattle.refine_calls.specs.rpp_tree.Tree.{Expression, Lvalue, Update, Source}
-use Rattle.refine_calls.specs.class_table.declared.kind.Kind.TheVariants as kind
+use Rattle.refine_calls.specs.class_rules.declared.kind.Kind.TheVariants as kind
 use Rattle.refine_calls.specs.pisa_isa.Machine.{Memory}
 use Rattle.refine_calls.specs.pisa_isa.declared.image.TheConstants.{MOST_STATICS}
 use Rattle.refine_calls.specs.paired_code.declared.part.Symbol.{Symbol}

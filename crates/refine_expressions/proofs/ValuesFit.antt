@@ -6,10 +6,10 @@ use Rattle.std.specs.Prelude.{replicate, slice_index, bit_xor, if◌then◌else�
 use Rattle.std.specs.Option.{unwrap_or}
 use Rattle.refine_calls.specs.rpp_words.declared.input.TheConstants.{FRAME_WORDS}
 use Rattle.refine_calls.specs.rpp_tree.Tree.{Expression, nodes}
-use Rattle.refine_calls.specs.class_table.declared.kind.Kind.{Kind}
-use Rattle.refine_calls.specs.class_table.declared.kind.Kind.TheVariants as kind
-use Rattle.refine_calls.specs.class_table.Expressions.{is_int}
-use Rattle.refine_calls.proofs.class_table_laws.PassedRules.{int_kind}
+use Rattle.refine_calls.specs.class_rules.declared.kind.Kind.{Kind}
+use Rattle.refine_calls.specs.class_rules.declared.kind.Kind.TheVariants as kind
+use Rattle.refine_calls.specs.class_rules.Expressions.{is_int}
+use Rattle.refine_calls.proofs.class_rules_laws.PassedRules.{int_kind}
 use Rattle.refine_calls.specs.buddy_book.Place.{place, block_of}
 use Rattle.refine_calls.specs.pisa_isa.Loaded.{statics_at}
 use Rattle.refine_calls.specs.pisa_isa.Machine.{Memory}

@@ -8,14 +8,14 @@ use Rattle.std.specs.Str.{bytes_eq}
 use Rattle.refine_calls.specs.rpp_words.declared.input.TheConstants.{FIXED_CELLS}
 use Rattle.refine_calls.specs.code_conventions.declared.memory.TheConstants.{FIRST_VARIABLE, HEADER_WORDS}
 use Rattle.refine_calls.specs.rpp_tree.declared.tree.Ident.{Ident}
-use Rattle.refine_calls.specs.class_table.declared.kind.Kind.{Kind}
-use Rattle.refine_calls.specs.class_table.declared.kind.Kind.TheVariants as kind
-use Rattle.refine_calls.specs.class_table.Table.{table_of, field_in}
-use Rattle.refine_calls.specs.class_table.Scope.{Typing, Locals, local_kind, kind_at, field_kind, kind_in}
-use Rattle.refine_calls.specs.class_table.Refusal.{unknown_name}
-use Rattle.refine_calls.specs.class_table.Expressions.{element_kind, variable_type}
-use Rattle.refine_calls.specs.class_table.Program.{setting_in}
-use Rattle.refine_calls.proofs.class_table_laws.PassedRules.{some_of}
+use Rattle.refine_calls.specs.class_rules.declared.kind.Kind.{Kind}
+use Rattle.refine_calls.specs.class_rules.declared.kind.Kind.TheVariants as kind
+use Rattle.refine_calls.specs.class_rules.Table.{table_of, field_in}
+use Rattle.refine_calls.specs.class_rules.Scope.{Typing, Locals, local_kind, kind_at, field_kind, kind_in}
+use Rattle.refine_calls.specs.class_rules.Refusal.{unknown_name}
+use Rattle.refine_calls.specs.class_rules.Expressions.{element_kind, variable_type}
+use Rattle.refine_calls.specs.class_rules.Program.{setting_in}
+use Rattle.refine_calls.proofs.class_rules_laws.PassedRules.{some_of}
 use Rattle.refine_calls.specs.buddy_book.Place.{Placing, place, block_of}
 use Rattle.refine_calls.specs.pisa_isa.Loaded.{statics_at}
 use Rattle.refine_calls.specs.roopl_semantics.Store.{Value, Word, Nil, Name, Head, OfClass, OfInts, OfObjects, State, main_name}

@@ -3,9 +3,9 @@
 use Rattle.std.specs.Prelude.{ℕ, ◌+◌, ◌≤◌, List, length}
 use Rattle.refine_calls.specs.rpp_tree.declared.tree.UpdateOp.{UpdateOp}
 use Rattle.refine_calls.specs.rpp_tree.Tree.{Expression, Lvalue, Update, Swap}
-use Rattle.refine_calls.specs.class_table.declared.kind.Kind.{Kind}
-use Rattle.refine_calls.specs.class_table.declared.kind.Kind.TheVariants as kind
-use Rattle.refine_calls.specs.class_table.Program.{IsAccepted}
+use Rattle.refine_calls.specs.class_rules.declared.kind.Kind.{Kind}
+use Rattle.refine_calls.specs.class_rules.declared.kind.Kind.TheVariants as kind
+use Rattle.refine_calls.specs.class_rules.Program.{IsAccepted}
 use Rattle.refine_calls.specs.paired_code.declared.part.Symbol.{Symbol}
 use Rattle.expr_uncompute.specs.register_expressions.Code.{words}
 use Rattle.expr_uncompute.specs.Code.{place_words}

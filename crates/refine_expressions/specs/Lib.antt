@@ -1,6 +1,6 @@
 pub use Rattle.refine_calls.specs.rpp_tree
-pub use Rattle.refine_calls.specs.class_table
-pub use Rattle.meaning_inverse.specs.stmt_inverter
+pub use Rattle.refine_calls.specs.class_rules
+pub use Rattle.meaning_inverse.specs.inverse_rules
 pub use Rattle.refine_calls.specs.pisa_isa
 pub use Rattle.refine_calls.specs.code_conventions
 pub use Rattle.refine_calls.specs.roopl_semantics

@@ -1,12 +1,12 @@
 -- The names and the expressions of a statement: what code of expressions is made for.
 use Rattle.std.specs.Prelude.{◌≡◌, ℕ, ◌+◌, ◌≤◌, List, Ok}
 use Rattle.refine_calls.specs.rpp_tree.Tree.{Expression, Statement, Source}
-use Rattle.refine_calls.specs.class_table.declared.kind.Kind.{Kind}
-use Rattle.refine_calls.specs.class_table.Table.{table_of, fields_in}
-use Rattle.refine_calls.specs.class_table.Scope.{Typing}
-use Rattle.refine_calls.specs.class_table.Expressions.{type_of}
-use Rattle.refine_calls.specs.class_table.Statements.{passed, check_statement}
-use Rattle.refine_calls.specs.class_table.Program.{setting_in}
+use Rattle.refine_calls.specs.class_rules.declared.kind.Kind.{Kind}
+use Rattle.refine_calls.specs.class_rules.Table.{table_of, fields_in}
+use Rattle.refine_calls.specs.class_rules.Scope.{Typing}
+use Rattle.refine_calls.specs.class_rules.Expressions.{type_of}
+use Rattle.refine_calls.specs.class_rules.Statements.{passed, check_statement}
+use Rattle.refine_calls.specs.class_rules.Program.{setting_in}
 use Rattle.refine_calls.specs.meaning_sound.Plain.{HasWords, StatementHasWords}
 use Rattle.expr_uncompute.specs.code_scope.Visible.{Known, spot_of, free_of}
 use Rattle.expr_uncompute.specs.register_expressions.Code.{words}

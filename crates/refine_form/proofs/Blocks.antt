@@ -3,7 +3,7 @@ use Rattle.std.proofs.Common.{◌≡◌, ℕ, zero, suc, ◌+◌, ◌-◌, ◌�
 use Rattle.std.proofs.Common.{subst, arith, append-nil}
 use Rattle.std.proofs.lemmas.Bool.{cases_lt}
 use Rattle.refine_frame.specs.rpp_tree.Tree.{Statement, Statements, End, Then}
-use Rattle.refine_frame.specs.stmt_inverter.Inverse.{inverse, inverse_statement}
+use Rattle.refine_frame.specs.inverse_rules.Inverse.{inverse, inverse_statement}
 use Rattle.refine_frame.specs.pisa_isa.Machine.{Memory}
 use Rattle.paired_code.specs.declared.part.Symbol.{Symbol}
 use Rattle.paired_code.specs.Pieces.{Done, Will}

@@ -1,6 +1,6 @@
 pub use Rattle.refine_frame.proofs.rpp_words_laws
-pub use Rattle.refine_frame.proofs.class_table_laws
-pub use Rattle.refine_frame.proofs.stmt_inverter_laws
+pub use Rattle.refine_frame.proofs.class_rules_laws
+pub use Rattle.refine_frame.proofs.inverse_rules_laws
 pub use Rattle.refine_frame.proofs.pisa_isa_laws
 pub use Rattle.refine_frame.proofs.roopl_semantics_laws
 pub use Rattle.refine_frame.proofs.meaning_sound_laws

@@ -5,7 +5,7 @@ use Rattle.std.specs.Prelude.{◌≡◌, ℕ, suc, bit_xor, ◌<◌, ◌^◌, Bo
 use Rattle.refine_frame.specs.rpp_tree.declared.tree.Ident.{Ident}
 use Rattle.refine_frame.specs.rpp_tree.declared.tree.Var.{Var}
 use Rattle.refine_frame.specs.rpp_tree.Tree.{Expression, Statement, Statements, Procedure}
-use Rattle.refine_frame.specs.stmt_inverter.Inverse.{inverse_statement}
+use Rattle.refine_frame.specs.inverse_rules.Inverse.{inverse_statement}
 use Rattle.refine_frame.specs.pisa_isa.Machine.{Memory}
 use Rattle.paired_code.specs.declared.part.Symbol.{Symbol}
 use Rattle.paired_code.specs.Machine.{Image}

@@ -4,8 +4,8 @@ use Rattle.std.specs.Prelude.{◌++◌, length, map, replicate, position, Option
 use Rattle.std.specs.Option.{unwrap_or}
 use Rattle.std.specs.Str.{bytes_eq}
 use Rattle.refine_frame.specs.rpp_tree.declared.tree.Ident.{Ident}
-use Rattle.refine_frame.specs.class_table.Classes.{class_fields}
-use Rattle.refine_frame.specs.class_table.Members.{field_of}
+use Rattle.refine_frame.specs.class_rules.Classes.{class_fields}
+use Rattle.refine_frame.specs.class_rules.Members.{field_of}
 use Rattle.refine_frame.specs.buddy_book.Place.{Placing, block_of, place}
 use Rattle.refine_frame.specs.pisa_isa.Loaded.{statics_at, heap_base, fixed_cells}
 use Rattle.refine_frame.specs.code_conventions.declared.memory.TheConstants.{MOST_VARIABLES, FIRST_VARIABLE}

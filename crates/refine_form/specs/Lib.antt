@@ -1,7 +1,7 @@
 pub use Rattle.refine_frame.specs.rpp_words
 pub use Rattle.refine_frame.specs.rpp_tree
-pub use Rattle.refine_frame.specs.class_table
-pub use Rattle.refine_frame.specs.stmt_inverter
+pub use Rattle.refine_frame.specs.class_rules
+pub use Rattle.refine_frame.specs.inverse_rules
 pub use Rattle.refine_frame.specs.pisa_isa
 pub use Rattle.refine_frame.specs.code_conventions
 pub use Rattle.refine_frame.specs.buddy_book

@@ -7,12 +7,12 @@ use Rattle.std.specs.Str.{bytes_eq}
 use Rattle.refine_frame.specs.rpp_tree.declared.tree.Ident.{Ident}
 use Rattle.refine_frame.specs.rpp_tree.declared.tree.Var.{Var}
 use Rattle.refine_frame.specs.rpp_tree.Tree.{Source}
-use Rattle.refine_frame.specs.class_table.declared.kind.Kind.{Kind}
-use Rattle.refine_frame.specs.class_table.declared.kind.Kind.TheVariants as kind
-use Rattle.refine_frame.specs.class_table.Classes.{class_fields}
-use Rattle.refine_frame.specs.class_table.Members.{field_of}
-use Rattle.refine_frame.specs.class_table.Inheritance.{kind_of_var}
-use Rattle.refine_frame.specs.class_table.Scope.{Local, Locals}
+use Rattle.refine_frame.specs.class_rules.declared.kind.Kind.{Kind}
+use Rattle.refine_frame.specs.class_rules.declared.kind.Kind.TheVariants as kind
+use Rattle.refine_frame.specs.class_rules.Classes.{class_fields}
+use Rattle.refine_frame.specs.class_rules.Members.{field_of}
+use Rattle.refine_frame.specs.class_rules.Inheritance.{kind_of_var}
+use Rattle.refine_frame.specs.class_rules.Scope.{Local, Locals}
 use Rattle.refine_frame.specs.buddy_book.Place.{count_taken}
 use Rattle.refine_frame.specs.roopl_semantics.Store.{Value, Name, Head, OfClass, OfInts, OfObjects, Object}
 use Rattle.refine_frame.specs.roopl_semantics.Store.{Store, State, main_name, object_named}

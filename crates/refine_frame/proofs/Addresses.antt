@@ -6,8 +6,8 @@ use Rattle.std.proofs.lemmas.List.{length-map}
 use Rattle.std.specs.Prelude.{nat_eq, ◌&&◌, slice_get}
 use Rattle.std.specs.Option.{option_map}
 use Rattle.meaning_sound.specs.code_conventions.declared.memory.TheConstants.{HEADER_WORDS}
-use Rattle.meaning_sound.specs.class_table.declared.kind.Kind.{Kind}
-use Rattle.meaning_sound.specs.class_table.Scope.{Locals}
+use Rattle.meaning_sound.specs.class_rules.declared.kind.Kind.{Kind}
+use Rattle.meaning_sound.specs.class_rules.Scope.{Locals}
 use Rattle.meaning_sound.specs.buddy_book.Place.{Placing}
 use Rattle.meaning_sound.specs.roopl_semantics.Store.{Object, Store, State, main_name, object_named, object_at}
 use Rattle.meaning_sound.specs.roopl_semantics.Value.{Cell, Slot, Part}

@@ -2,13 +2,13 @@
 use Rattle.std.proofs.Common.{◌≡◌, sym, ap, subst, refl, ℕ, ◌<◌, Bool, true, false, length}
 use Rattle.std.specs.Prelude.{Result, Ok, Err, if◌then◌else◌}
 use Rattle.meaning_sound.specs.rpp_tree.Tree.{Expression, Number, Null, Variable, Element, Binary, Source}
-use Rattle.meaning_sound.specs.class_table.declared.kind.Kind.{Kind}
-use Rattle.meaning_sound.specs.class_table.declared.kind.Kind.TheVariants as kind
-use Rattle.meaning_sound.specs.class_table.Table.{Table, table_of}
-use Rattle.meaning_sound.specs.class_table.Refusal.{type_differs, refused_operator}
-use Rattle.meaning_sound.specs.class_table.Scope.{Typing, Locals}
-use Rattle.meaning_sound.specs.class_table.Expressions.{is_int, compares, is_refused, operands_fit, type_of}
-use Rattle.meaning_sound.specs.class_table.Program.{setting_in}
+use Rattle.meaning_sound.specs.class_rules.declared.kind.Kind.{Kind}
+use Rattle.meaning_sound.specs.class_rules.declared.kind.Kind.TheVariants as kind
+use Rattle.meaning_sound.specs.class_rules.Table.{Table, table_of}
+use Rattle.meaning_sound.specs.class_rules.Refusal.{type_differs, refused_operator}
+use Rattle.meaning_sound.specs.class_rules.Scope.{Typing, Locals}
+use Rattle.meaning_sound.specs.class_rules.Expressions.{is_int, compares, is_refused, operands_fit, type_of}
+use Rattle.meaning_sound.specs.class_rules.Program.{setting_in}
 use Rattle.meaning_sound.specs.roopl_semantics.Store.{Value, Nil, State, main_name}
 use Rattle.meaning_sound.specs.roopl_semantics.Value.{Cell, cell_named, read, read_cell, element_of, value}
 use Rattle.meaning_sound.specs.roopl_semantics.Layout.{word_of}
@@ -17,7 +17,7 @@ use Rattle.refine_frame.specs.Open.{Setup, base_of}
 use Rattle.meaning_sound.specs.Kept.{MeansSame}
 use Rattle.meaning_sound.proofs.Classes.{KnowsClasses}
 use Rattle.meaning_sound.proofs.Objects.{clash}
-use Rattle.meaning_sound.proofs.class_table_laws.PassedRules.{handed_on}
+use Rattle.meaning_sound.proofs.class_rules_laws.PassedRules.{handed_on}
 use Rattle.meaning_sound.proofs.Values.{CellIs, variable_fits, item_fits}
 use Rattle.refine_frame.proofs.Tells.{IsRef, reference_cell}
 

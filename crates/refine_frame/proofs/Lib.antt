@@ -1,6 +1,6 @@
 pub use Rattle.meaning_sound.proofs.rpp_words_laws
-pub use Rattle.meaning_sound.proofs.class_table_laws
-pub use Rattle.meaning_sound.proofs.stmt_inverter_laws
+pub use Rattle.meaning_sound.proofs.class_rules_laws
+pub use Rattle.meaning_sound.proofs.inverse_rules_laws
 pub use Rattle.meaning_sound.proofs.pisa_isa_laws
 pub use Rattle.meaning_sound.proofs.buddy_book_laws
 pub use Rattle.meaning_sound.proofs.roopl_semantics_laws

@@ -6,7 +6,7 @@ use Rattle.std.proofs.lemmas.List.{get_or-replicate}
 use Rattle.std.specs.Prelude.{slice_index, replicate}
 use Rattle.std.specs.Option.{option_map}
 use Rattle.meaning_sound.specs.rpp_tree.Tree.{Source}
-use Rattle.meaning_sound.specs.class_table.Scope.{Locals}
+use Rattle.meaning_sound.specs.class_rules.Scope.{Locals}
 use Rattle.meaning_sound.specs.buddy_book.Place.{Placing, block_of, without_name, count_taken}
 use Rattle.meaning_sound.specs.roopl_semantics.Store.{State, main_name, object_at, without}
 use Rattle.meaning_sound.specs.roopl_semantics.Layout.{overlaid, object_words, with_book, heap_words}

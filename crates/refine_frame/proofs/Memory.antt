@@ -10,20 +10,20 @@ use Rattle.std.specs.Option.{unwrap_or, option_map}
 use Rattle.meaning_sound.specs.rpp_words.declared.input.TheConstants.{FIXED_CELLS, FRAME_WORDS}
 use Rattle.meaning_sound.specs.code_conventions.declared.memory.TheConstants.{HEADER_WORDS}
 use Rattle.meaning_sound.specs.rpp_tree.Tree.{Source}
-use Rattle.meaning_sound.specs.class_table.Scope.{Locals}
+use Rattle.meaning_sound.specs.class_rules.Scope.{Locals}
 use Rattle.meaning_sound.specs.buddy_book.Place.{Log, Placing, block_of, place}
 use Rattle.meaning_sound.proofs.buddy_book_laws.Orders.{pow_pos}
 use Rattle.meaning_sound.specs.roopl_semantics.Store.{Value, Nil, Name, Head, OfClass, Object, Store, Binding, State}
 use Rattle.meaning_sound.specs.roopl_semantics.Store.{main_name}
 use Rattle.meaning_sound.specs.roopl_semantics.Store.{object_named, object_at, changed_at}
 use Rattle.meaning_sound.specs.roopl_semantics.Source.{main_fields}
-use Rattle.meaning_sound.specs.class_table.Classes.{main_of}
+use Rattle.meaning_sound.specs.class_rules.Classes.{main_of}
 use Rattle.meaning_sound.specs.roopl_semantics.Layout.{overlaid, word_of, object_words, with_book, heap_words}
 use Rattle.meaning_sound.specs.roopl_semantics.Layout.{static_words}
 use Rattle.meaning_sound.specs.roopl_semantics.Layout.{placed_layout, layout, no_placing}
 use Rattle.meaning_sound.specs.buddy_book.Shown.{first_address}
 use Rattle.meaning_sound.specs.pisa_isa.Loaded.{statics_at, fixed_cells}
-use Rattle.meaning_sound.specs.class_table.Inheritance.{kind_of_var}
+use Rattle.meaning_sound.specs.class_rules.Inheritance.{kind_of_var}
 use Rattle.meaning_sound.specs.Sound.{head_of, is_live, cell_kinds, Typed}
 use Rattle.refine_frame.specs.Open.{Setup, base_of, stack_at, address_of, memory, IsGrounded}
 use Rattle.meaning_sound.proofs.Lists.{all_length}

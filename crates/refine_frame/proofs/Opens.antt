@@ -6,8 +6,8 @@ use Rattle.std.proofs.lemmas.List.{get_or_append_left, get_or-append_right, set-
 use Rattle.std.proofs.lemmas.List.{length-replicate, length-map}
 use Rattle.std.specs.Prelude.{slice_get, slice_index, slice_set, replicate}
 use Rattle.meaning_sound.specs.code_conventions.declared.memory.TheConstants.{HEADER_WORDS, FIRST_VARIABLE}
-use Rattle.meaning_sound.specs.class_table.declared.kind.Kind.{Kind}
-use Rattle.meaning_sound.specs.class_table.Scope.{Locals}
+use Rattle.meaning_sound.specs.class_rules.declared.kind.Kind.{Kind}
+use Rattle.meaning_sound.specs.class_rules.Scope.{Locals}
 use Rattle.meaning_sound.specs.buddy_book.Place.{Placing, place}
 use Rattle.meaning_sound.specs.roopl_semantics.Store.{Value, Object, Binding, State}
 use Rattle.meaning_sound.specs.roopl_semantics.Value.{Cell, Slot, Part, value_at, with_value, read, written}

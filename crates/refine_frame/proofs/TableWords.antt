@@ -7,9 +7,9 @@ use Rattle.std.specs.Prelude.{nat_lt, slice_get, slice_index}
 use Rattle.std.specs.Option.{unwrap_or}
 use Rattle.meaning_sound.specs.code_conventions.declared.memory.TheConstants.{HEADER_WORDS}
 use Rattle.meaning_sound.specs.rpp_tree.Tree.{Source}
-use Rattle.meaning_sound.specs.class_table.Classes.{class_slots}
-use Rattle.meaning_sound.specs.class_table.Scope.{Locals}
-use Rattle.meaning_sound.proofs.class_table_laws.Numbers.{each_below-get, length-each_below}
+use Rattle.meaning_sound.specs.class_rules.Classes.{class_slots}
+use Rattle.meaning_sound.specs.class_rules.Scope.{Locals}
+use Rattle.meaning_sound.proofs.class_rules_laws.Numbers.{each_below-get, length-each_below}
 use Rattle.meaning_sound.specs.roopl_semantics.Store.{State, main_name, object_at}
 use Rattle.meaning_sound.specs.roopl_semantics.Source.{main_fields}
 use Rattle.meaning_sound.specs.roopl_semantics.Layout.{HasStatics, table_at, main_statics, tables, object_words}

@@ -8,9 +8,9 @@ use Rattle.std.proofs.lemmas.Bool.{eqb-true}
 use Rattle.std.proofs.lemmas.List.{get_or_append_left, length-replicate}
 use Rattle.std.specs.Prelude.{nat_eq, nat_lt, ◌&&◌, slice_index, replicate, if◌then◌else◌}
 use Rattle.std.specs.Option.{option_map}
-use Rattle.meaning_sound.specs.class_table.declared.kind.Kind.{Kind}
-use Rattle.meaning_sound.specs.class_table.Expressions.{is_int}
-use Rattle.meaning_sound.specs.class_table.Scope.{Locals}
+use Rattle.meaning_sound.specs.class_rules.declared.kind.Kind.{Kind}
+use Rattle.meaning_sound.specs.class_rules.Expressions.{is_int}
+use Rattle.meaning_sound.specs.class_rules.Scope.{Locals}
 use Rattle.meaning_sound.specs.buddy_book.Place.{Placing, block_of, count_taken}
 use Rattle.meaning_sound.proofs.buddy_book_laws.Orders.{pow_pos}
 use Rattle.meaning_sound.proofs.buddy_book_laws.StoredLaws.{two_power}

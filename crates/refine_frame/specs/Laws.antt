@@ -2,8 +2,8 @@
 -- is the layout.
 use Rattle.std.specs.Prelude.{◌≡◌, ◌≤◌, ℕ, List, [], length, replicate, Some, slice_index}
 use Rattle.std.specs.Prelude.{slice_set}
-use Rattle.meaning_sound.specs.class_table.declared.kind.Kind.{Kind}
-use Rattle.meaning_sound.specs.class_table.Scope.{Locals}
+use Rattle.meaning_sound.specs.class_rules.declared.kind.Kind.{Kind}
+use Rattle.meaning_sound.specs.class_rules.Scope.{Locals}
 use Rattle.meaning_sound.specs.buddy_book.Place.{Placing, place}
 use Rattle.meaning_sound.specs.roopl_semantics.Store.{Value, State}
 use Rattle.meaning_sound.specs.roopl_semantics.Value.{Cell, read, written}

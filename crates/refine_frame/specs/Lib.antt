@@ -1,7 +1,7 @@
 pub use Rattle.meaning_sound.specs.rpp_words
 pub use Rattle.meaning_sound.specs.rpp_tree
-pub use Rattle.meaning_sound.specs.class_table
-pub use Rattle.meaning_sound.specs.stmt_inverter
+pub use Rattle.meaning_sound.specs.class_rules
+pub use Rattle.meaning_sound.specs.inverse_rules
 pub use Rattle.meaning_sound.specs.pisa_isa
 pub use Rattle.meaning_sound.specs.code_conventions
 pub use Rattle.meaning_sound.specs.buddy_book

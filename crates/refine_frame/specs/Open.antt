@@ -7,7 +7,7 @@ use Rattle.meaning_sound.specs.roopl_semantics.Store.{OfClass, Binding, Store, S
 use Rattle.meaning_sound.specs.roopl_semantics.Value.{Cell, Slot, Part}
 use Rattle.meaning_sound.specs.roopl_semantics.Execution.{Setting}
 use Rattle.meaning_sound.specs.roopl_semantics.Source.{main_fields}
-use Rattle.meaning_sound.specs.class_table.Classes.{main_of}
+use Rattle.meaning_sound.specs.class_rules.Classes.{main_of}
 use Rattle.meaning_sound.specs.rpp_words.Limits.{IsLimits}
 use Rattle.meaning_sound.specs.roopl_semantics.Layout.{overlaid, word_of, laid}
 use Rattle.meaning_sound.specs.pisa_isa.Loaded.{statics_at, heap_base}

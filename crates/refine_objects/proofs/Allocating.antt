@@ -6,7 +6,7 @@ use Rattle.std.specs.Option.{option_map}
 use Rattle.object_codegen.specs.rpp_words.declared.input.TheConstants.{FRAME_WORDS}
 use Rattle.object_codegen.specs.rpp_tree.declared.tree.Ident.{Ident}
 use Rattle.object_codegen.specs.rpp_tree.Tree.{Source}
-use Rattle.object_codegen.specs.class_table.Scope.{Locals}
+use Rattle.object_codegen.specs.class_rules.Scope.{Locals}
 use Rattle.object_codegen.specs.buddy_book.Book.{Book, take, take_past, below_taken}
 use Rattle.object_codegen.specs.buddy_book.Place.{Placing, Taken, count_taken, place, after_request, with_block}
 use Rattle.object_codegen.specs.buddy_book.Shown.{Shown, TakenBlocks, order_in, with_taken, IsKept}

@@ -6,12 +6,12 @@ use Rattle.std.specs.Prelude.{replicate, ◌&&◌}
 use Rattle.std.specs.Option.{unwrap_or}
 use Rattle.object_codegen.specs.rpp_tree.declared.tree.Ident.{Ident}
 use Rattle.object_codegen.specs.rpp_tree.Tree.{Source}
-use Rattle.object_codegen.specs.class_table.declared.kind.Kind.{Kind}
-use Rattle.object_codegen.specs.class_table.declared.kind.Kind.TheVariants as kind
-use Rattle.object_codegen.specs.class_table.Classes.{class_number}
-use Rattle.object_codegen.specs.class_table.Table.{table_of, class_of}
-use Rattle.object_codegen.specs.class_table.Expressions.{is_int, element_kind}
-use Rattle.object_codegen.specs.class_table.Statements.{is_int_array, takes_objects_of}
+use Rattle.object_codegen.specs.class_rules.declared.kind.Kind.{Kind}
+use Rattle.object_codegen.specs.class_rules.declared.kind.Kind.TheVariants as kind
+use Rattle.object_codegen.specs.class_rules.Classes.{class_number}
+use Rattle.object_codegen.specs.class_rules.Table.{table_of, class_of}
+use Rattle.object_codegen.specs.class_rules.Expressions.{is_int, element_kind}
+use Rattle.object_codegen.specs.class_rules.Statements.{is_int_array, takes_objects_of}
 use Rattle.object_codegen.specs.roopl_semantics.Store.{Value, Word, Nil, Head, OfClass, OfInts, OfObjects, Store, is_zero}
 use Rattle.object_codegen.specs.roopl_semantics.Execution.{all_zero}
 use Rattle.object_codegen.specs.roopl_semantics.Laws.{one_if_name, holders_among}

@@ -11,13 +11,13 @@ use Rattle.object_codegen.specs.code_conventions.declared.memory.TheConstants.{H
 use Rattle.object_codegen.specs.rpp_words.Words.{is_less}
 use Rattle.object_codegen.specs.rpp_tree.declared.tree.Ident.{Ident}
 use Rattle.object_codegen.specs.rpp_tree.Tree.{Expression, Lvalue, Whole, Item, Creation, Ints, Objects, New, Delete, Source}
-use Rattle.object_codegen.specs.class_table.declared.kind.Kind.{Kind}
-use Rattle.object_codegen.specs.class_table.declared.kind.Kind.TheVariants as kind
-use Rattle.object_codegen.specs.class_table.Refusal.{not_an_array}
-use Rattle.object_codegen.specs.class_table.Expressions.{is_int, element_kind, element_of, variable_type, first_token, index_is_int}
-use Rattle.object_codegen.specs.class_table.Expressions.{type_of, place_type, occurs}
-use Rattle.object_codegen.specs.class_table.Statements.{is_int_array, length_is_int}
-use Rattle.object_codegen.proofs.class_table_laws.PassedRules.{handed_on, some_of, int_kind}
+use Rattle.object_codegen.specs.class_rules.declared.kind.Kind.{Kind}
+use Rattle.object_codegen.specs.class_rules.declared.kind.Kind.TheVariants as kind
+use Rattle.object_codegen.specs.class_rules.Refusal.{not_an_array}
+use Rattle.object_codegen.specs.class_rules.Expressions.{is_int, element_kind, element_of, variable_type, first_token, index_is_int}
+use Rattle.object_codegen.specs.class_rules.Expressions.{type_of, place_type, occurs}
+use Rattle.object_codegen.specs.class_rules.Statements.{is_int_array, length_is_int}
+use Rattle.object_codegen.proofs.class_rules_laws.PassedRules.{handed_on, some_of, int_kind}
 use Rattle.object_codegen.specs.pisa_isa.Machine.{Memory}
 use Rattle.object_codegen.specs.pisa_isa.declared.image.TheConstants.{MOST_STATICS}
 use Rattle.object_codegen.specs.paired_code.declared.part.Symbol.{Symbol}

@@ -12,8 +12,8 @@ use Rattle.object_codegen.specs.code_conventions.declared.memory.TheConstants.{F
 use Rattle.object_codegen.specs.pisa_isa.Machine.{Memory}
 use Rattle.object_codegen.specs.rpp_tree.declared.tree.Ident.{Ident}
 use Rattle.object_codegen.specs.rpp_tree.Tree.{Source}
-use Rattle.object_codegen.specs.class_table.declared.kind.Kind.{Kind}
-use Rattle.object_codegen.specs.class_table.Expressions.{is_int}
+use Rattle.object_codegen.specs.class_rules.declared.kind.Kind.{Kind}
+use Rattle.object_codegen.specs.class_rules.Expressions.{is_int}
 use Rattle.object_codegen.specs.buddy_book.Book.{take, order_from, order_for}
 use Rattle.object_codegen.specs.buddy_book.Place.{Placing, block_of, count_taken, place}
 use Rattle.object_codegen.specs.buddy_pisa.Promise.{most_steps}

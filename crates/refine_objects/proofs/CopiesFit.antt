@@ -5,9 +5,9 @@ use Rattle.std.proofs.Common.{refl, sym, ap, ◌∙◌, subst, arith}
 use Rattle.std.specs.Prelude.{slice_index, slice_set, Ok}
 use Rattle.object_codegen.specs.rpp_tree.declared.tree.VarType.{VarType}
 use Rattle.object_codegen.specs.rpp_tree.Tree.{Lvalue, Copy, Uncopy, Source}
-use Rattle.object_codegen.specs.class_table.declared.kind.Kind.{Kind}
-use Rattle.object_codegen.specs.class_table.Expressions.{is_int}
-use Rattle.object_codegen.specs.class_table.Statements.{passed, copy_rules}
+use Rattle.object_codegen.specs.class_rules.declared.kind.Kind.{Kind}
+use Rattle.object_codegen.specs.class_rules.Expressions.{is_int}
+use Rattle.object_codegen.specs.class_rules.Statements.{passed, copy_rules}
 use Rattle.object_codegen.specs.buddy_book.Place.{Placing}
 use Rattle.object_codegen.specs.pisa_isa.Machine.{Memory}
 use Rattle.object_codegen.specs.pisa_isa.declared.image.TheConstants.{MOST_STATICS}

@@ -3,9 +3,9 @@ use Rattle.std.proofs.Common.{◌≡◌, ℕ, suc, ◌+◌, ◌-◌, ◌^◌, �
 use Rattle.std.proofs.Common.{arith}
 use Rattle.std.specs.Prelude.{slice_set, is_some, not}
 use Rattle.std.specs.Option.{option_map}
-use Rattle.object_codegen.specs.class_table.declared.kind.Kind.{Kind}
-use Rattle.object_codegen.specs.class_table.declared.kind.Kind.TheVariants as kind
-use Rattle.object_codegen.specs.class_table.Expressions.{is_int}
+use Rattle.object_codegen.specs.class_rules.declared.kind.Kind.{Kind}
+use Rattle.object_codegen.specs.class_rules.declared.kind.Kind.TheVariants as kind
+use Rattle.object_codegen.specs.class_rules.Expressions.{is_int}
 use Rattle.object_codegen.specs.buddy_book.Place.{Placing, place}
 use Rattle.object_codegen.specs.roopl_semantics.Store.{Value, Nil, Name, State, main_name, object_at}
 use Rattle.object_codegen.specs.roopl_semantics.Value.{Cell, Slot, Part, read, written}

@@ -6,9 +6,9 @@ use Rattle.std.specs.Option.{option_map, unwrap_or}
 use Rattle.std.proofs.lemmas.List.{set-set, set-get_or, get_or-set_other, get_or-set_same}
 use Rattle.object_codegen.specs.rpp_words.declared.input.TheConstants.{FRAME_WORDS, FIXED_CELLS}
 use Rattle.object_codegen.specs.code_conventions.declared.memory.TheConstants.{FIRST_VARIABLE, HEADER_WORDS, COUNT_WORD}
-use Rattle.object_codegen.specs.class_table.declared.kind.Kind.{Kind}
-use Rattle.object_codegen.specs.class_table.declared.kind.Kind.TheVariants as kind
-use Rattle.object_codegen.specs.class_table.Expressions.{is_int}
+use Rattle.object_codegen.specs.class_rules.declared.kind.Kind.{Kind}
+use Rattle.object_codegen.specs.class_rules.declared.kind.Kind.TheVariants as kind
+use Rattle.object_codegen.specs.class_rules.Expressions.{is_int}
 use Rattle.object_codegen.specs.buddy_book.Book.{take, give}
 use Rattle.object_codegen.specs.buddy_book.Place.{Placing, Given, after_request, block_of, without_name, count_taken}
 use Rattle.object_codegen.specs.buddy_book.Place.{place}

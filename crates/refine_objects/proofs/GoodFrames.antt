@@ -6,7 +6,7 @@ use Rattle.std.proofs.lemmas.Bool.{ltb-true}
 use Rattle.std.specs.Prelude.{nat_lt}
 use Rattle.std.specs.Option.{option_map}
 use Rattle.object_codegen.specs.rpp_words.Words.{is_less}
-use Rattle.object_codegen.specs.class_table.declared.kind.Kind.TheVariants as kind
+use Rattle.object_codegen.specs.class_rules.declared.kind.Kind.TheVariants as kind
 use Rattle.object_codegen.specs.roopl_semantics.Store.{Head, OfClass, OfInts, OfObjects, Object, State, main_name, object_named}
 use Rattle.object_codegen.specs.roopl_semantics.Execution.{Setting}
 use Rattle.object_codegen.specs.meaning_sound.Sound.{head_of, head_named, cell_kinds, Sound}

@@ -1,5 +1,5 @@
 pub use Rattle.object_codegen.proofs.rpp_tree_laws
-pub use Rattle.object_codegen.proofs.class_table_laws
+pub use Rattle.object_codegen.proofs.class_rules_laws
 pub use Rattle.object_codegen.proofs.meaning_sound_laws
 pub use Rattle.object_codegen.proofs.paired_code_laws
 pub use Rattle.object_codegen.proofs.refine_form_laws

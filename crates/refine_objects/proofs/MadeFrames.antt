@@ -4,8 +4,8 @@ use Rattle.std.proofs.Common.{true, false, List, [], ◌∷◌, map, length, Opt
 use Rattle.std.specs.Prelude.{nat_eq, nat_lt, is_none, is_some, ◌||◌, slice_index, slice_set, not, if◌then◌else◌}
 use Rattle.std.specs.Option.{option_map}
 use Rattle.object_codegen.specs.rpp_tree.Tree.{Source}
-use Rattle.object_codegen.specs.class_table.declared.kind.Kind.{Kind}
-use Rattle.object_codegen.specs.class_table.declared.kind.Kind.TheVariants as kind
+use Rattle.object_codegen.specs.class_rules.declared.kind.Kind.{Kind}
+use Rattle.object_codegen.specs.class_rules.declared.kind.Kind.TheVariants as kind
 use Rattle.object_codegen.specs.buddy_book.Place.{Placing, Taken, block_of, without_name, count_taken, place}
 use Rattle.object_codegen.specs.roopl_semantics.Store.{Value, Nil, Name, Head, OfClass, Object, Store, State, main_name}
 use Rattle.object_codegen.specs.roopl_semantics.Store.{is_nil}

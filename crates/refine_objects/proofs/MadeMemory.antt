@@ -11,7 +11,7 @@ use Rattle.object_codegen.specs.code_conventions.Header.{header}
 use Rattle.std.specs.Option.{option_map}
 use Rattle.object_codegen.specs.rpp_words.declared.input.TheConstants.{FRAME_WORDS, FIXED_CELLS}
 use Rattle.object_codegen.specs.code_conventions.declared.memory.TheConstants.{HEADER_WORDS, COUNT_WORD}
-use Rattle.object_codegen.specs.class_table.declared.kind.Kind.{Kind}
+use Rattle.object_codegen.specs.class_rules.declared.kind.Kind.{Kind}
 use Rattle.object_codegen.specs.rpp_tree.Tree.{Source}
 use Rattle.object_codegen.specs.buddy_book.Place.{Placing, block_of, without_name}
 use Rattle.object_codegen.proofs.buddy_book_laws.Requests.{block_of_other}

@@ -12,13 +12,13 @@ use Rattle.object_codegen.specs.rpp_tree.declared.tree.Var.{Var}
 use Rattle.object_codegen.specs.rpp_tree.declared.tree.VarType.{VarType}
 use Rattle.object_codegen.specs.rpp_tree.declared.tree.VarType.TheVariants as type
 use Rattle.object_codegen.specs.rpp_tree.Tree.{Null, Lvalue, Object as AnObject, New, Delete, Source}
-use Rattle.object_codegen.specs.class_table.declared.kind.Kind.{Kind}
-use Rattle.object_codegen.specs.class_table.declared.kind.Kind.TheVariants as kind
-use Rattle.object_codegen.specs.class_table.Classes.{class_number, class_fields}
-use Rattle.object_codegen.specs.class_table.Expressions.{is_int}
-use Rattle.object_codegen.specs.class_table.Inheritance.{kind_of_var}
-use Rattle.object_codegen.specs.class_table.Statements.{passed, make_rules}
-use Rattle.object_codegen.specs.class_table.Table.{table_of}
+use Rattle.object_codegen.specs.class_rules.declared.kind.Kind.{Kind}
+use Rattle.object_codegen.specs.class_rules.declared.kind.Kind.TheVariants as kind
+use Rattle.object_codegen.specs.class_rules.Classes.{class_number, class_fields}
+use Rattle.object_codegen.specs.class_rules.Expressions.{is_int}
+use Rattle.object_codegen.specs.class_rules.Inheritance.{kind_of_var}
+use Rattle.object_codegen.specs.class_rules.Statements.{passed, make_rules}
+use Rattle.object_codegen.specs.class_rules.Table.{table_of}
 use Rattle.object_codegen.specs.buddy_book.Book.{order_for}
 use Rattle.object_codegen.specs.buddy_pisa.Promise.{most_steps}
 use Rattle.object_codegen.specs.pisa_isa.Machine.{Memory}
@@ -174,16 +174,16 @@ module _ (p : Place) (routine : ℕ → Ident → ℕ) (linked : IsLinked p rout
         by (OfObjects c l) q = absurd (cc)
 
     -- and one of another class has another table
-    of_other : (kd : Kind) (head : Head) → Rattle.object_codegen.specs.class_table.Statements.takes (table_of P)
+    of_other : (kd : Kind) (head : Head) → Rattle.object_codegen.specs.class_rules.Statements.takes (table_of P)
         (AnObject class) kd
         ≡ true → head_fits P kd head ≡ true → is_of_class head (class_number P class.text) ≡ false
         → head_word P head ≢ table_at P (class_of P class)
-    of_other kd head takes_it fit e = by (Rattle.object_codegen.specs.class_table.Table.class_of (table_of P)
+    of_other kd head takes_it fit e = by (Rattle.object_codegen.specs.class_rules.Table.class_of (table_of P)
         class.text) kd head
         takes_it fit (sym (ap (is_of_class head) named_number) ∙ e)
       where
         by : (o : Option ℕ) (kd : Kind) (head : Head) →
-            Rattle.object_codegen.specs.class_table.Statements.takes_object_of (table_of P)
+            Rattle.object_codegen.specs.class_rules.Statements.takes_object_of (table_of P)
             o
             kd ≡ true → head_fits P kd head ≡ true → is_of_class head (Some (class_of P class)) ≡ false
             → head_word P head ≢ table_at P (class_of P class)

@@ -1,5 +1,5 @@
 pub use Rattle.object_codegen.specs.rpp_tree
-pub use Rattle.object_codegen.specs.class_table
+pub use Rattle.object_codegen.specs.class_rules
 pub use Rattle.object_codegen.specs.pisa_isa
 pub use Rattle.object_codegen.specs.code_conventions
 pub use Rattle.object_codegen.specs.meaning_sound

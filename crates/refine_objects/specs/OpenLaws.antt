@@ -2,8 +2,8 @@
 -- relation.
 use Rattle.std.specs.Prelude.{◌≡◌, ℕ, ◌+◌, ◌*◌, ◌^◌, ◌<◌, ◌≤◌, true, false, ◌||◌, nat_lt, is_none}
 use Rattle.std.specs.Prelude.{List, [], ◌∷◌, length, Some}
-use Rattle.object_codegen.specs.class_table.declared.kind.Kind.{Kind}
-use Rattle.object_codegen.specs.class_table.Expressions.{is_int}
+use Rattle.object_codegen.specs.class_rules.declared.kind.Kind.{Kind}
+use Rattle.object_codegen.specs.class_rules.Expressions.{is_int}
 use Rattle.object_codegen.specs.buddy_book.Place.{Taken, Log, count_taken, place}
 use Rattle.object_codegen.specs.roopl_semantics.Store.{Value, Nil, Name, Head, Store, State, object_at}
 use Rattle.object_codegen.specs.roopl_semantics.Value.{Cell, read, written}

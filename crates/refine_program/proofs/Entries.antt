@@ -6,10 +6,10 @@ use Rattle.std.specs.Prelude.{slice_get}
 use Rattle.std.specs.Option.{unwrap_or}
 use Rattle.refine_calls.specs.rpp_tree.declared.tree.Ident.{Ident}
 use Rattle.refine_calls.specs.rpp_tree.Tree.{Procedure, ClassText, Source}
-use Rattle.refine_calls.specs.class_table.Members.{no_class}
-use Rattle.refine_calls.specs.class_table.Classes.{method_named}
-use Rattle.refine_calls.specs.class_table.Inheritance.{is_or_inherits}
-use Rattle.refine_calls.proofs.class_table_laws.FoundMethods.{Dispatched, dispatched_method, own_range}
+use Rattle.refine_calls.specs.class_rules.Members.{no_class}
+use Rattle.refine_calls.specs.class_rules.Classes.{method_named}
+use Rattle.refine_calls.specs.class_rules.Inheritance.{is_or_inherits}
+use Rattle.refine_calls.proofs.class_rules_laws.FoundMethods.{Dispatched, dispatched_method, own_range}
 use Rattle.refine_calls.specs.paired_code.declared.part.Symbol.{Symbol}
 use Rattle.refine_program.specs.Methods.{Entry, entries_of, entries_from, entries, entry_at, methods_before, routine_of}
 use Rattle.refine_program.specs.Methods.{routine_in}

@@ -5,9 +5,9 @@ use Rattle.std.proofs.lemmas.List.{length-map, length-replicate}
 use Rattle.refine_calls.specs.code_conventions.declared.memory.TheConstants.{HEADER_WORDS, TABLE_HEADER}
 use Rattle.refine_calls.specs.rpp_tree.Tree.{Source}
 use Rattle.refine_calls.specs.rpp_tree.declared.limits.TheConstants.{MOST_FIELDS, MOST_METHODS}
-use Rattle.refine_calls.specs.class_table.First.{each_below}
-use Rattle.refine_calls.specs.class_table.Classes.{class_slots, main_of}
-use Rattle.refine_calls.specs.class_table.Program.{IsAccepted}
+use Rattle.refine_calls.specs.class_rules.First.{each_below}
+use Rattle.refine_calls.specs.class_rules.Classes.{class_slots, main_of}
+use Rattle.refine_calls.specs.class_rules.Program.{IsAccepted}
 use Rattle.static_layout.specs.roopl_semantics.Source.{main_fields}
 use Rattle.static_layout.specs.roopl_semantics.Layout.{main_statics, tables}
 use Rattle.static_layout.proofs.roopl_semantics_laws.MainPlace.{class_inside}

@@ -1,4 +1,4 @@
-pub use Rattle.refine_calls.proofs.class_table_laws
+pub use Rattle.refine_calls.proofs.class_rules_laws
 pub use Rattle.refine_calls.proofs.pisa_isa_laws
 pub use Rattle.static_layout.proofs.roopl_semantics_laws
 pub use Rattle.refine_calls.proofs.meaning_sound_laws

@@ -9,12 +9,12 @@ use Rattle.refine_calls.specs.rpp_words.declared.input.FieldWord.{FieldWord}
 use Rattle.refine_calls.specs.rpp_words.declared.input.Limits.{Limits}
 use Rattle.refine_calls.specs.rpp_tree.declared.tree.Ident.{Ident}
 use Rattle.refine_calls.specs.rpp_tree.Tree.{Source}
-use Rattle.refine_calls.specs.class_table.Members.{no_procedure}
-use Rattle.refine_calls.specs.class_table.Classes.{class_slots, main_of}
-use Rattle.refine_calls.specs.class_table.Table.{table_of, slot_in}
-use Rattle.refine_calls.specs.class_table.Inheritance.{is_or_inherits}
-use Rattle.refine_calls.proofs.class_table_laws.FoundMethods.{dispatched_method, own_range}
-use Rattle.refine_calls.proofs.class_table_laws.Numbers.{each_below-get}
+use Rattle.refine_calls.specs.class_rules.Members.{no_procedure}
+use Rattle.refine_calls.specs.class_rules.Classes.{class_slots, main_of}
+use Rattle.refine_calls.specs.class_rules.Table.{table_of, slot_in}
+use Rattle.refine_calls.specs.class_rules.Inheritance.{is_or_inherits}
+use Rattle.refine_calls.proofs.class_rules_laws.FoundMethods.{dispatched_method, own_range}
+use Rattle.refine_calls.proofs.class_rules_laws.Numbers.{each_below-get}
 use Rattle.refine_calls.proofs.meaning_sound_laws.Starting.{main_there}
 use Rattle.refine_calls.specs.pisa_isa.Image.{Segments}
 use Rattle.refine_calls.specs.pisa_isa.declared.image.TheConstants.{MOST_STATICS}

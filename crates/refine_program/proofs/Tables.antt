@@ -9,11 +9,11 @@ use Rattle.std.specs.Prelude.{slice_get, slice_index, Bool, true, false, nat_lt}
 use Rattle.std.specs.List.{All}
 use Rattle.std.specs.Option.{unwrap_or}
 use Rattle.refine_calls.specs.rpp_tree.Tree.{Source}
-use Rattle.refine_calls.specs.class_table.declared.method.MethodId.{MethodId}
-use Rattle.refine_calls.specs.class_table.First.{each_below}
-use Rattle.refine_calls.specs.class_table.Members.{Slots}
-use Rattle.refine_calls.specs.class_table.Overrides.{run_at}
-use Rattle.refine_calls.specs.class_table.Classes.{class_slots}
+use Rattle.refine_calls.specs.class_rules.declared.method.MethodId.{MethodId}
+use Rattle.refine_calls.specs.class_rules.First.{each_below}
+use Rattle.refine_calls.specs.class_rules.Members.{Slots}
+use Rattle.refine_calls.specs.class_rules.Overrides.{run_at}
+use Rattle.refine_calls.specs.class_rules.Classes.{class_slots}
 use Rattle.refine_calls.specs.pisa_isa.declared.cell.Cell.{Cell}
 use Rattle.refine_calls.specs.pisa_isa.Machine.{fetch}
 use Rattle.refine_calls.specs.pisa_isa.Image.{Segments}

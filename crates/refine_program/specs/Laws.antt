@@ -7,12 +7,12 @@ use Rattle.refine_calls.specs.rpp_words.declared.input.Limits.{Limits}
 use Rattle.refine_calls.specs.rpp_tree.declared.tree.Ident.{Ident}
 use Rattle.refine_calls.specs.rpp_tree.Tree.{Procedure, Source}
 use Rattle.refine_calls.specs.rpp_tree.declared.limits.TheConstants.{MOST_CLASSES, MOST_FIELDS, MOST_METHODS}
-use Rattle.refine_calls.specs.class_table.declared.method.MethodId.{MethodId}
-use Rattle.refine_calls.specs.class_table.Members.{class_at}
-use Rattle.refine_calls.specs.class_table.Classes.{method_named}
-use Rattle.refine_calls.specs.class_table.Table.{table_of, slot_in}
-use Rattle.refine_calls.specs.class_table.Inheritance.{is_or_inherits}
-use Rattle.refine_calls.specs.class_table.Program.{IsAccepted}
+use Rattle.refine_calls.specs.class_rules.declared.method.MethodId.{MethodId}
+use Rattle.refine_calls.specs.class_rules.Members.{class_at}
+use Rattle.refine_calls.specs.class_rules.Classes.{method_named}
+use Rattle.refine_calls.specs.class_rules.Table.{table_of, slot_in}
+use Rattle.refine_calls.specs.class_rules.Inheritance.{is_or_inherits}
+use Rattle.refine_calls.specs.class_rules.Program.{IsAccepted}
 use Rattle.refine_calls.specs.pisa_isa.Image.{Segments}
 use Rattle.refine_calls.specs.code_conventions.declared.memory.TheConstants.{HEADER_WORDS, TABLE_HEADER}
 use Rattle.refine_calls.specs.paired_code.declared.part.Symbol.{Symbol}

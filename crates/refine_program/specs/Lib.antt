@@ -1,6 +1,6 @@
 pub use Rattle.refine_calls.specs.rpp_words
 pub use Rattle.refine_calls.specs.rpp_tree
-pub use Rattle.refine_calls.specs.class_table
+pub use Rattle.refine_calls.specs.class_rules
 pub use Rattle.refine_calls.specs.pisa_isa
 pub use Rattle.refine_calls.specs.code_conventions
 pub use Rattle.static_layout.specs.roopl_semantics

@@ -5,10 +5,10 @@ use Rattle.std.specs.Prelude.{slice_index}
 use Rattle.std.specs.Option.{unwrap_or}
 use Rattle.refine_calls.specs.rpp_tree.declared.tree.Ident.{Ident}
 use Rattle.refine_calls.specs.rpp_tree.Tree.{Procedure, ClassText, Source}
-use Rattle.refine_calls.specs.class_table.declared.method.MethodId.{MethodId}
-use Rattle.refine_calls.specs.class_table.First.{each_below}
-use Rattle.refine_calls.specs.class_table.Members.{no_procedure}
-use Rattle.refine_calls.specs.class_table.Classes.{class_slots, method_slot, dispatch, main_of}
+use Rattle.refine_calls.specs.class_rules.declared.method.MethodId.{MethodId}
+use Rattle.refine_calls.specs.class_rules.First.{each_below}
+use Rattle.refine_calls.specs.class_rules.Members.{no_procedure}
+use Rattle.refine_calls.specs.class_rules.Classes.{class_slots, method_slot, dispatch, main_of}
 use Rattle.static_layout.specs.roopl_semantics.Layout.{main_statics, tables}
 use Rattle.refine_calls.specs.refine_form.Form.{Scope}
 

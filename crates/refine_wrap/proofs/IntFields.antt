@@ -11,13 +11,13 @@ use Rattle.meaning_sound.specs.rpp_tree.declared.tree.Var.{Var}
 use Rattle.meaning_sound.specs.rpp_tree.declared.tree.VarType.{VarType}
 use Rattle.meaning_sound.specs.rpp_tree.declared.tree.VarType.TheVariants as type
 use Rattle.meaning_sound.specs.rpp_tree.Tree.{Source}
-use Rattle.meaning_sound.specs.class_table.declared.kind.Kind.{Kind}
-use Rattle.meaning_sound.specs.class_table.declared.kind.Kind.TheVariants as kind
-use Rattle.meaning_sound.specs.class_table.Classes.{main_of}
-use Rattle.meaning_sound.specs.class_table.Inheritance.{kind_of_var}
-use Rattle.meaning_sound.specs.class_table.Program.{IsAccepted}
-use Rattle.meaning_sound.specs.class_table.Scope.{kind_of}
-use Rattle.meaning_sound.specs.class_table.Table.{Table, table_of}
+use Rattle.meaning_sound.specs.class_rules.declared.kind.Kind.{Kind}
+use Rattle.meaning_sound.specs.class_rules.declared.kind.Kind.TheVariants as kind
+use Rattle.meaning_sound.specs.class_rules.Classes.{main_of}
+use Rattle.meaning_sound.specs.class_rules.Inheritance.{kind_of_var}
+use Rattle.meaning_sound.specs.class_rules.Program.{IsAccepted}
+use Rattle.meaning_sound.specs.class_rules.Scope.{kind_of}
+use Rattle.meaning_sound.specs.class_rules.Table.{Table, table_of}
 use Rattle.meaning_sound.specs.roopl_semantics.Store.{Value, Word, Nil, Name, Head, OfClass, Object, Store, State, main_name}
 use Rattle.meaning_sound.specs.roopl_semantics.Store.{object_named, object_at}
 use Rattle.meaning_sound.specs.roopl_semantics.Source.{GivesDone, IsValid, main_fields, is_int_type, is_int_field, starting}

@@ -5,7 +5,7 @@ use Rattle.bennett_wrap.specs.rpp_words.Limits.{IsLimits}
 use Rattle.bennett_wrap.specs.rpp_words.declared.input.FieldWord.{FieldWord}
 use Rattle.bennett_wrap.specs.rpp_words.declared.input.Limits.{Limits}
 use Rattle.meaning_sound.specs.rpp_tree.Tree.{Source}
-use Rattle.meaning_sound.specs.class_table.Program.{IsAccepted}
+use Rattle.meaning_sound.specs.class_rules.Program.{IsAccepted}
 use Rattle.bennett_wrap.specs.pisa_isa.declared.cell.Cell.{Cell}
 use Rattle.bennett_wrap.specs.pisa_isa.Image.{Segments, IsImage}
 use Rattle.bennett_wrap.specs.pisa_isa.Loaded.{loaded}

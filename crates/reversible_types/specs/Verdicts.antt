@@ -2,8 +2,8 @@
 use Rattle.std.specs.Prelude.{Result, Ok, Err}
 use Rattle.reversible_types.specs.declared.error.TypeError.{TypeError}
 use Rattle.reversible_types.specs.declared.error.TypeError.TheVariants as error
-use Rattle.class_table.specs.Refusal as refusal
-use Rattle.class_table.specs.Refusal.{Refusal}
+use Rattle.class_table.specs.class_rules.Refusal as refusal
+use Rattle.class_table.specs.class_rules.Refusal.{Refusal}
 
 abbrev pub refusal_of : TypeError → Refusal
 refusal_of (error.UnknownName at) = refusal.unknown_name at

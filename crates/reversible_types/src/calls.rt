@@ -4,9 +4,9 @@ ghost use Rattle.std.specs.List.{list_any};
 ghost use Rattle.std.specs.Option.{is_none};
 ghost use Rattle.std.specs.Str.{bytes_eq};
 ghost use Rattle.rpp_tree.specs.Views.{procedure_of, lvalue_of, optional_lvalue_of};
-ghost use Rattle.class_table.specs.Table.{dispatch_in};
-ghost use Rattle.class_table.specs.Overrides.{parameters_in as methods_params, parameters_of};
-ghost use Rattle.class_table.specs.Statements.{argument_known, argument_new, argument_fits, arguments_fit as all_fit, receiver_kind, receiver_class, plain_receiver, call_rules as of_call, each_passes, each_passes_after};
+ghost use Rattle.class_table.specs.class_rules.Table.{dispatch_in};
+ghost use Rattle.class_table.specs.class_rules.Overrides.{parameters_in as methods_params, parameters_of};
+ghost use Rattle.class_table.specs.class_rules.Statements.{argument_known, argument_new, argument_fits, arguments_fit as all_fit, receiver_kind, receiver_class, plain_receiver, call_rules as of_call, each_passes, each_passes_after};
 ghost use Rattle.reversible_types.specs.ScopeView.{typing_of, locals_of};
 ghost use Rattle.reversible_types.specs.Verdicts.{verdict_of};
 

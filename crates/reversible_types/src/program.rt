@@ -4,10 +4,10 @@ ghost use Rattle.rpp_tree.specs.Views.{procedure_of, class_text_of, source_of, b
 ghost use Rattle.rpp_tree.specs.Limits.{IsWithinLimits};
 ghost use Rattle.reversible_types.specs.Verdicts.{verdict_of, refusal_of};
 ghost use Rattle.reversible_types.specs.ScopeView.{typing_of, locals_of};
-ghost use Rattle.class_table.specs.Members.{has_field};
-ghost use Rattle.class_table.specs.Table.{table_of, HasClassTable};
-ghost use Rattle.class_table.specs.Statements.{each_passes_after, check_statements};
-ghost use Rattle.class_table.specs.Program.{parameter_new, with_parameters, check_method as of_method, check_class as of_class, check_classes as of_classes, check_program, IsAccepted};
+ghost use Rattle.class_table.specs.class_rules.Members.{has_field};
+ghost use Rattle.class_table.specs.class_rules.Table.{table_of, HasClassTable};
+ghost use Rattle.class_table.specs.class_rules.Statements.{each_passes_after, check_statements};
+ghost use Rattle.class_table.specs.class_rules.Program.{parameter_new, with_parameters, check_method as of_method, check_class as of_class, check_classes as of_classes, check_program, IsAccepted};
 
 use crate::error::TypeError;
 use crate::scope::{Locals, Typing, kind_of_type};

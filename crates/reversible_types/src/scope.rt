@@ -1,8 +1,8 @@
 // What names mean.
 ghost use Rattle.std.specs.Prelude.{◌≡◌};
 ghost use Rattle.std.specs.Option.{option_copied};
-ghost use Rattle.class_table.specs.Scope.{class_kind, kind_of, field_kind, local_kind, kind_in};
-ghost use Rattle.class_table.specs.Table.{class_of};
+ghost use Rattle.class_table.specs.class_rules.Scope.{class_kind, kind_of, field_kind, local_kind, kind_in};
+ghost use Rattle.class_table.specs.class_rules.Table.{class_of};
 ghost use Rattle.reversible_types.specs.ScopeView.{typing_of, locals_of};
 
 use class_table::{ClassTable, Kind};

@@ -6,8 +6,8 @@ ghost use Rattle.std.specs.Str.{bytes_eq};
 ghost use Rattle.rpp_tree.specs.Views.{procedure_of, expression_of, lvalue_of, creation_of, optional_lvalue_of, statement_of, block_of};
 ghost use Rattle.reversible_types.specs.Verdicts.{verdict_of};
 ghost use Rattle.reversible_types.specs.ScopeView.{typing_of, locals_of};
-ghost use Rattle.class_table.specs.Table.{dispatch_in};
-ghost use Rattle.class_table.specs.Statements.{same_kind, is_class, is_class_array, is_int_array as of_ints, takes_object, takes_copy, is_nil_word, same_plain, written_kind, update_rules as of_update, swap_rules as of_swap, test_rules as of_tests, class_known, type_known, local_rules as of_local, construct_rules as of_construct, copy_rules as of_copy, made_known, length_is_int, occurs_in_length, takes as takes_made, make_rules as of_make, check_statement, check_statements};
+ghost use Rattle.class_table.specs.class_rules.Table.{dispatch_in};
+ghost use Rattle.class_table.specs.class_rules.Statements.{same_kind, is_class, is_class_array, is_int_array as of_ints, takes_object, takes_copy, is_nil_word, same_plain, written_kind, update_rules as of_update, swap_rules as of_swap, test_rules as of_tests, class_known, type_known, local_rules as of_local, construct_rules as of_construct, copy_rules as of_copy, made_known, length_is_int, occurs_in_length, takes as takes_made, make_rules as of_make, check_statement, check_statements};
 ghost use Rattle.rpp_tree.specs.Places.{place_name};
 
 use crate::calls::call_rules;

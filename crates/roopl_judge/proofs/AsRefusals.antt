@@ -9,16 +9,16 @@ use Rattle.roopl_parser.specs.roopl_lexer.declared.error.LexError.{LexError}
 use Rattle.roopl_parser.specs.roopl_lexer.Tokens.{IsCutting, IsFirstRefusal}
 use Rattle.roopl_parser.specs.declared.error.ParseError.{ParseError}
 use Rattle.roopl_parser.specs.Viable.{IsWrongAt, IsReached, first_limit}
-use Rattle.class_table.specs.declared.error.ClassError.{ClassError}
-use Rattle.class_table.specs.Rules.{IsFirst}
-use Rattle.class_table.specs.Program.{check_program}
-use Rattle.class_table.specs.Refusal.{Refusal, refused}
-use Rattle.class_table.specs.Table.{HasClassTable, first_class_refusal}
+use Rattle.class_table.specs.class_rules.declared.error.ClassError.{ClassError}
+use Rattle.class_table.specs.class_rules.Rules.{IsFirst}
+use Rattle.class_table.specs.class_rules.Program.{check_program}
+use Rattle.class_table.specs.class_rules.Refusal.{Refusal, refused}
+use Rattle.class_table.specs.class_rules.Table.{HasClassTable, first_class_refusal}
 use Rattle.roopl_judge.specs.Errors.{lex_refusal, parse_refusal, class_refusal, error_of, IfRefused}
 use Rattle.roopl_judge.specs.Judged.{IsTree, IsJudged, no_tokens, no_tree, no_table, no_types}
 use Rattle.roopl_parser.specs.roopl_lexer.declared.error.LexError.TheVariants as lex
 use Rattle.roopl_parser.specs.declared.error.ParseError.TheVariants as parse
-use Rattle.class_table.specs.declared.error.ClassError.TheVariants as class
+use Rattle.class_table.specs.class_rules.declared.error.ClassError.TheVariants as class
 
 abbrev pub IsRefusal : List ℕ → Refusal → Type 0
 IsRefusal text refusal = IsJudged text (Err refusal)

@@ -11,10 +11,10 @@ use Rattle.roopl_parser.specs.declared.error.ParseError.TheVariants.{Syntax, Lim
 use Rattle.roopl_parser.specs.Grammar.{Derives}
 use Rattle.roopl_parser.specs.Viable.{first_limit, reading}
 use Rattle.roopl_parser.proofs.Exact.{one_tree, read_all, wrong_read, passed_read}
-use Rattle.class_table.specs.declared.error.ClassError.{ClassError}
-use Rattle.class_table.specs.Program.{IsAccepted, check_program}
-use Rattle.class_table.specs.Refusal.{Refusal}
-use Rattle.class_table.specs.Table.{HasClassTable, first_class_refusal}
+use Rattle.class_table.specs.class_rules.declared.error.ClassError.{ClassError}
+use Rattle.class_table.specs.class_rules.Program.{IsAccepted, check_program}
+use Rattle.class_table.specs.class_rules.Refusal.{Refusal}
+use Rattle.class_table.specs.class_rules.Table.{HasClassTable, first_class_refusal}
 use Rattle.roopl_judge.specs.Errors.{lex_refusal, parse_refusal, class_refusal}
 use Rattle.roopl_judge.specs.Judged.{IsTreeRefusal, IsJudged, no_tokens, no_tree, no_table, no_types, accepted}
 

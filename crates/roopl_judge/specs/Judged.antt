@@ -10,10 +10,10 @@ use Rattle.roopl_parser.specs.declared.error.ParseError.{ParseError}
 use Rattle.roopl_parser.specs.declared.error.ParseError.TheVariants.{Syntax, Limit, NoMemory}
 use Rattle.roopl_parser.specs.Grammar.{Derives}
 use Rattle.roopl_parser.specs.Viable.{IsWrongAt, IsReached, first_limit}
-use Rattle.class_table.specs.declared.error.ClassError.{ClassError}
-use Rattle.class_table.specs.Program.{IsAccepted, check_program}
-use Rattle.class_table.specs.Refusal.{Refusal}
-use Rattle.class_table.specs.Table.{HasClassTable, first_class_refusal}
+use Rattle.class_table.specs.class_rules.declared.error.ClassError.{ClassError}
+use Rattle.class_table.specs.class_rules.Program.{IsAccepted, check_program}
+use Rattle.class_table.specs.class_rules.Refusal.{Refusal}
+use Rattle.class_table.specs.class_rules.Table.{HasClassTable, first_class_refusal}
 use Rattle.roopl_judge.specs.Errors.{lex_refusal, parse_refusal, class_refusal}
 
 -- the first refusal of tokens: one of them is wrong and none before it passes a limit, or one

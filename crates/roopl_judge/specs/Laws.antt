@@ -1,7 +1,7 @@
 -- Laws of the check of texts.
 use Rattle.std.specs.Prelude.{◌≡◌, ℕ, List, Result}
 use Rattle.rpp_tree.specs.Tree.{Source}
-use Rattle.class_table.specs.Refusal.{Refusal}
+use Rattle.class_table.specs.class_rules.Refusal.{Refusal}
 use Rattle.roopl_judge.specs.Judged.{IsJudged}
 
 abbrev pub OneJudgement : Type 0

@@ -2,7 +2,7 @@
 ghost use Rattle.std.specs.Prelude.{◌≡◌, ◌≤◌, length, IfOk, IfErr, OnOk, Ok, Err};
 ghost use Rattle.rpp_tree.specs.declared.limits.TheConstants.{MOST_BYTES};
 ghost use Rattle.rpp_tree.specs.Views.{source_of};
-ghost use Rattle.class_table.specs.Table.{table_of, HasClassTable};
+ghost use Rattle.class_table.specs.class_rules.Table.{table_of, HasClassTable};
 ghost use Rattle.roopl_parser.specs.roopl_lexer.Readable.{AreReadable};
 ghost use Rattle.roopl_parser.specs.roopl_lexer.Tokens.{IsCutting};
 ghost use Rattle.roopl_judge.specs.Errors.{IfRefused};

@@ -2,10 +2,10 @@
 use Rattle.std.specs.Prelude.{◌≡◌, ℕ, ◌-◌, ◌*◌, false, List, [], ◌∷◌, Some, None, codes, length, take, drop, replicate}
 use Rattle.std.proofs.Common.{refl}
 use Rattle.buddy_book.specs.rpp_words.declared.input.Limits.{Limits}
-use Rattle.stmt_inverter.specs.rpp_tree.declared.tree.VarType.TheVariants as kind
-use Rattle.stmt_inverter.specs.rpp_tree.declared.tree.UpdateOp.TheVariants as update
-use Rattle.stmt_inverter.specs.rpp_tree.Tree.{Number, Whole, Item, Object as AnObject, Ints, Objects, Update, New, Delete, Copy}
-use Rattle.stmt_inverter.specs.rpp_tree.Tree.{Uncopy, Call, Skip, Source}
+use Rattle.inverse_rules.specs.rpp_tree.declared.tree.VarType.TheVariants as kind
+use Rattle.inverse_rules.specs.rpp_tree.declared.tree.UpdateOp.TheVariants as update
+use Rattle.inverse_rules.specs.rpp_tree.Tree.{Number, Whole, Item, Object as AnObject, Ints, Objects, Update, New, Delete, Copy}
+use Rattle.inverse_rules.specs.rpp_tree.Tree.{Uncopy, Call, Skip, Source}
 use Rattle.roopl_semantics.specs.Run.{Run, Done}
 use Rattle.roopl_semantics.specs.Store.{State}
 use Rattle.roopl_semantics.specs.Source.{source}

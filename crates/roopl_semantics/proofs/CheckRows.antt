@@ -3,13 +3,13 @@
 use Rattle.std.specs.Prelude.{◌≡◌, List, true, false, [], ◌∷◌, Some, None, codes}
 use Rattle.std.specs.Fmt.{digits}
 use Rattle.std.proofs.Common.{refl}
-use Rattle.stmt_inverter.specs.rpp_tree.declared.tree.VarType.TheVariants as kind
-use Rattle.stmt_inverter.specs.rpp_tree.declared.tree.UpdateOp.TheVariants as update
-use Rattle.stmt_inverter.specs.rpp_tree.declared.tree.BinOp.TheVariants as op
-use Rattle.stmt_inverter.specs.rpp_tree.declared.tree.Ident.{Ident}
-use Rattle.stmt_inverter.specs.rpp_tree.Tree.{Statement, Number, Variable, Element, Binary, Whole, Item, Object as AnObject, Ints}
-use Rattle.stmt_inverter.specs.rpp_tree.Tree.{Objects, Update, Swap, From, Construct, Local, New, Delete, Copy, Uncopy, Call, Skip}
-use Rattle.stmt_inverter.specs.rpp_tree.Tree.{Source}
+use Rattle.inverse_rules.specs.rpp_tree.declared.tree.VarType.TheVariants as kind
+use Rattle.inverse_rules.specs.rpp_tree.declared.tree.UpdateOp.TheVariants as update
+use Rattle.inverse_rules.specs.rpp_tree.declared.tree.BinOp.TheVariants as op
+use Rattle.inverse_rules.specs.rpp_tree.declared.tree.Ident.{Ident}
+use Rattle.inverse_rules.specs.rpp_tree.Tree.{Statement, Number, Variable, Element, Binary, Whole, Item, Object as AnObject, Ints}
+use Rattle.inverse_rules.specs.rpp_tree.Tree.{Objects, Update, Swap, From, Construct, Local, New, Delete, Copy, Uncopy, Call, Skip}
+use Rattle.inverse_rules.specs.rpp_tree.Tree.{Source}
 use Rattle.roopl_semantics.proofs.Testing.{named, var, procedure, class_text, block, program, word_for, Finished}
 use Rattle.roopl_semantics.proofs.Testing.{Faulted, Unfinished, lines, ending}
 

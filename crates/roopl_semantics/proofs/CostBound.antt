@@ -1,14 +1,14 @@
 -- The bound on depth never ends a run: if its cost is within the bound, the run is over.
 use Rattle.std.proofs.Common.{◌≡◌, ℕ, zero, suc, ◌+◌, ◌-◌, ◌<◌, ◌≤◌, Bool, true, false, cond, not, refl, ap, subst, ◌∙◌}
 use Rattle.std.proofs.Common.{arith, List, [], ◌∷◌, length, Some, None}
-use Rattle.stmt_inverter.specs.rpp_tree.Tree.{Expression, Null, Whole, Item, Object as AnObject, nodes, Number, Variable, Element}
-use Rattle.stmt_inverter.specs.rpp_tree.Tree.{Binary, Statement, Statements, If, From, Construct, Local, New, Delete, Call, End, Then}
-use Rattle.stmt_inverter.specs.rpp_tree.Tree.{Procedure}
+use Rattle.inverse_rules.specs.rpp_tree.Tree.{Expression, Null, Whole, Item, Object as AnObject, nodes, Number, Variable, Element}
+use Rattle.inverse_rules.specs.rpp_tree.Tree.{Binary, Statement, Statements, If, From, Construct, Local, New, Delete, Call, End, Then}
+use Rattle.inverse_rules.specs.rpp_tree.Tree.{Procedure}
 use Rattle.std.specs.Prelude.{Result, Ok, Err}
 use Rattle.roopl_semantics.specs.Run.{Run, Done, Fault, More, after_cost, given, ◌>>=◌, spend, fault_if}
 use Rattle.roopl_semantics.specs.Store.{Value, State, number_of, is_nil}
 use Rattle.roopl_semantics.specs.Value.{value as value_in, Cell, evaluated, read, cell_named, own_class, nil_fault}
-use Rattle.class_table.specs.Classes.{method_named}
+use Rattle.class_rules.specs.Classes.{method_named}
 use Rattle.roopl_semantics.specs.Execution.{Setting, Runner, holds, loop_fault, opened, invoked, is_too_deep}
 use Rattle.roopl_semantics.specs.Execution.{too_deep_fault, class_of, cells_named, constructed, element_call}
 use Rattle.roopl_semantics.specs.Execution.{element_name, with_local, turn_end, turns, statement, exec}

@@ -2,7 +2,7 @@
 use Rattle.std.proofs.Common.{◌≡◌, ℕ, ◌+◌, refl, sym, ap, ◌∙◌, arith, List, Some}
 use Rattle.buddy_book.specs.rpp_words.declared.input.FieldWord.{FieldWord}
 use Rattle.buddy_book.specs.rpp_words.declared.input.Limits.{Limits}
-use Rattle.stmt_inverter.specs.rpp_tree.Tree.{Source}
+use Rattle.inverse_rules.specs.rpp_tree.Tree.{Source}
 use Rattle.code_conventions.specs.pisa_isa.declared.machine.Stop.{Stop}
 use Rattle.code_conventions.specs.pisa_isa.declared.machine.Stop.TheVariants.{Finished, Returned, Trap, BadAddress, OffCode, Bound}
 use Rattle.code_conventions.specs.pisa_isa.Image.{Segments}

@@ -2,10 +2,10 @@
 use Rattle.std.specs.Prelude.{◌≡◌, [], ◌∷◌, None, codes}
 use Rattle.std.specs.Fmt.{digits}
 use Rattle.std.proofs.Common.{refl}
-use Rattle.stmt_inverter.specs.rpp_tree.declared.tree.VarType.TheVariants as kind
-use Rattle.stmt_inverter.specs.rpp_tree.declared.tree.BinOp.TheVariants as op
-use Rattle.stmt_inverter.specs.rpp_tree.declared.tree.UpdateOp.TheVariants as update
-use Rattle.stmt_inverter.specs.rpp_tree.Tree.{Number, Variable, Binary, Whole, Update, If, From, Local, Skip, Source}
+use Rattle.inverse_rules.specs.rpp_tree.declared.tree.VarType.TheVariants as kind
+use Rattle.inverse_rules.specs.rpp_tree.declared.tree.BinOp.TheVariants as op
+use Rattle.inverse_rules.specs.rpp_tree.declared.tree.UpdateOp.TheVariants as update
+use Rattle.inverse_rules.specs.rpp_tree.Tree.{Number, Variable, Binary, Whole, Update, If, From, Local, Skip, Source}
 use Rattle.roopl_semantics.proofs.Testing.{named, var, procedure, class_text, block, program, word_for, Finished}
 use Rattle.roopl_semantics.proofs.Testing.{Faulted, Unfinished, lines, ending}
 

@@ -1,7 +1,7 @@
 pub use Rattle.buddy_book.proofs.rpp_words_laws
-pub use Rattle.stmt_inverter.proofs.rpp_tree_laws
-pub use Rattle.class_table.proofs as class_table_laws
-pub use Rattle.stmt_inverter.proofs as stmt_inverter_laws
+pub use Rattle.inverse_rules.proofs.rpp_tree_laws
+pub use Rattle.class_rules.proofs as class_rules_laws
+pub use Rattle.inverse_rules.proofs as inverse_rules_laws
 pub use Rattle.code_conventions.proofs.pisa_isa_laws
 pub use Rattle.buddy_book.proofs as buddy_book_laws
 pub mod CostBound

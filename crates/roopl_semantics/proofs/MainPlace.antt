@@ -3,21 +3,21 @@ use Rattle.std.proofs.Common.{◌≡◌, ◌∙◌, sym, ap, subst, refl, ℕ, s
 use Rattle.std.proofs.Common.{length, Option, Some, None, arith, slice_get}
 use Rattle.std.specs.Prelude.{if◌then◌else◌}
 use Rattle.std.proofs.lemmas.Option.{slice_get_within}
-use Rattle.stmt_inverter.specs.rpp_tree.declared.tree.Var.{Var}
-use Rattle.stmt_inverter.specs.rpp_tree.Tree.{Procedure, ClassText, Source}
-use Rattle.class_table.specs.declared.method.MethodId.{MethodId}
-use Rattle.class_table.specs.declared.mains.Main.{Main}
-use Rattle.class_table.specs.First.{first_of}
-use Rattle.class_table.specs.Rules.{duplicate_class, unknown_class}
-use Rattle.class_table.specs.Chains.{inheritance_cycle}
-use Rattle.class_table.specs.Members.{duplicate_field, too_many_fields, too_many_slots}
-use Rattle.class_table.specs.Overrides.{duplicate_method, differing_override}
-use Rattle.class_table.specs.Mains.{is_main, mains_in, mains_from, mains, main_refusal, first_main}
-use Rattle.class_table.specs.Table.{Table, table_of, HasClassTable, fields_in}
-use Rattle.class_table.specs.Program.{IsAccepted}
-use Rattle.class_table.proofs.Tables.{table_reads}
+use Rattle.inverse_rules.specs.rpp_tree.declared.tree.Var.{Var}
+use Rattle.inverse_rules.specs.rpp_tree.Tree.{Procedure, ClassText, Source}
+use Rattle.class_rules.specs.declared.method.MethodId.{MethodId}
+use Rattle.class_rules.specs.declared.mains.Main.{Main}
+use Rattle.class_rules.specs.First.{first_of}
+use Rattle.class_rules.specs.Rules.{duplicate_class, unknown_class}
+use Rattle.class_rules.specs.Chains.{inheritance_cycle}
+use Rattle.class_rules.specs.Members.{duplicate_field, too_many_fields, too_many_slots}
+use Rattle.class_rules.specs.Overrides.{duplicate_method, differing_override}
+use Rattle.class_rules.specs.Mains.{is_main, mains_in, mains_from, mains, main_refusal, first_main}
+use Rattle.class_rules.specs.Table.{Table, table_of, HasClassTable, fields_in}
+use Rattle.class_rules.specs.Program.{IsAccepted}
+use Rattle.class_rules.proofs.Tables.{table_reads}
 use Rattle.roopl_semantics.specs.Source.{main_fields}
-use Rattle.class_table.specs.Classes.{main_of}
+use Rattle.class_rules.specs.Classes.{main_of}
 
 -- of two rules in turn that refuse nothing, neither does
 pub none_of : {E : Type 0} (a b : Option E) → first_of a b ≡ None → (a ≡ None) × (b ≡ None)

@@ -2,10 +2,10 @@
 use Rattle.std.specs.Prelude.{◌≡◌, false, [], ◌∷◌, Some, None, codes}
 use Rattle.std.specs.Fmt.{digits}
 use Rattle.std.proofs.Common.{refl}
-use Rattle.stmt_inverter.specs.rpp_tree.declared.tree.VarType.TheVariants as kind
-use Rattle.stmt_inverter.specs.rpp_tree.declared.tree.UpdateOp.TheVariants as update
-use Rattle.stmt_inverter.specs.rpp_tree.Tree.{Number, Whole, Object as AnObject, Update, New, Delete, Copy, Uncopy, Call, Skip}
-use Rattle.stmt_inverter.specs.rpp_tree.Tree.{Source}
+use Rattle.inverse_rules.specs.rpp_tree.declared.tree.VarType.TheVariants as kind
+use Rattle.inverse_rules.specs.rpp_tree.declared.tree.UpdateOp.TheVariants as update
+use Rattle.inverse_rules.specs.rpp_tree.Tree.{Number, Whole, Object as AnObject, Update, New, Delete, Copy, Uncopy, Call, Skip}
+use Rattle.inverse_rules.specs.rpp_tree.Tree.{Source}
 use Rattle.roopl_semantics.proofs.Testing.{named, var, procedure, class_text, block, program, Finished, Faulted, lines}
 use Rattle.roopl_semantics.proofs.Testing.{ending}
 

@@ -2,11 +2,11 @@
 use Rattle.std.specs.Prelude.{◌≡◌, ℕ, List, [], ◌∷◌, None, codes}
 use Rattle.std.specs.Fmt.{digits}
 use Rattle.std.proofs.Common.{refl}
-use Rattle.stmt_inverter.specs.rpp_tree.declared.tree.VarType.TheVariants as kind
-use Rattle.stmt_inverter.specs.rpp_tree.declared.tree.BinOp.TheVariants as op
-use Rattle.stmt_inverter.specs.rpp_tree.declared.tree.UpdateOp.TheVariants as update
-use Rattle.stmt_inverter.specs.rpp_tree.declared.tree.Var.{Var}
-use Rattle.stmt_inverter.specs.rpp_tree.Tree.{Number, Variable, Whole, Update, Local, Source}
+use Rattle.inverse_rules.specs.rpp_tree.declared.tree.VarType.TheVariants as kind
+use Rattle.inverse_rules.specs.rpp_tree.declared.tree.BinOp.TheVariants as op
+use Rattle.inverse_rules.specs.rpp_tree.declared.tree.UpdateOp.TheVariants as update
+use Rattle.inverse_rules.specs.rpp_tree.declared.tree.Var.{Var}
+use Rattle.inverse_rules.specs.rpp_tree.Tree.{Number, Variable, Whole, Update, Local, Source}
 use Rattle.roopl_semantics.specs.Operators.{operated, updated}
 use Rattle.roopl_semantics.proofs.Testing.{named, var, procedure, class_text, block, program, Finished, lines, ending}
 

@@ -2,11 +2,11 @@
 use Rattle.std.specs.Prelude.{◌≡◌, false, [], ◌∷◌, Some, None, codes}
 use Rattle.std.specs.Fmt.{digits}
 use Rattle.std.proofs.Common.{refl}
-use Rattle.stmt_inverter.specs.rpp_tree.declared.tree.VarType.TheVariants as kind
-use Rattle.stmt_inverter.specs.rpp_tree.declared.tree.UpdateOp.TheVariants as update
-use Rattle.stmt_inverter.specs.rpp_tree.declared.tree.BinOp.TheVariants as op
-use Rattle.stmt_inverter.specs.rpp_tree.Tree.{Number, Null, Element, Binary, Whole, Item, Object as AnObject, Ints, Objects, Update}
-use Rattle.stmt_inverter.specs.rpp_tree.Tree.{Swap, New, Delete, Copy, Uncopy, Call, Source}
+use Rattle.inverse_rules.specs.rpp_tree.declared.tree.VarType.TheVariants as kind
+use Rattle.inverse_rules.specs.rpp_tree.declared.tree.UpdateOp.TheVariants as update
+use Rattle.inverse_rules.specs.rpp_tree.declared.tree.BinOp.TheVariants as op
+use Rattle.inverse_rules.specs.rpp_tree.Tree.{Number, Null, Element, Binary, Whole, Item, Object as AnObject, Ints, Objects, Update}
+use Rattle.inverse_rules.specs.rpp_tree.Tree.{Swap, New, Delete, Copy, Uncopy, Call, Source}
 use Rattle.roopl_semantics.proofs.Testing.{named, var, procedure, class_text, block, program, Finished, Faulted}
 use Rattle.roopl_semantics.proofs.Testing.{Unfinished, lines, ending}
 

@@ -12,16 +12,16 @@ use Rattle.buddy_book.specs.rpp_words.declared.input.TheConstants.{FRAME_WORDS}
 use Rattle.code_conventions.specs.declared.memory.TheConstants.{HEADER_WORDS}
 use Rattle.buddy_book.specs.rpp_words.declared.input.FieldWord.{FieldWord}
 use Rattle.buddy_book.specs.rpp_words.declared.input.Limits.{Limits}
-use Rattle.stmt_inverter.specs.rpp_tree.declared.tree.Var.{Var}
-use Rattle.stmt_inverter.specs.rpp_tree.declared.tree.VarType.{VarType}
-use Rattle.stmt_inverter.specs.rpp_tree.declared.tree.VarType.TheVariants as kind
-use Rattle.stmt_inverter.specs.rpp_tree.Tree.{Source}
+use Rattle.inverse_rules.specs.rpp_tree.declared.tree.Var.{Var}
+use Rattle.inverse_rules.specs.rpp_tree.declared.tree.VarType.{VarType}
+use Rattle.inverse_rules.specs.rpp_tree.declared.tree.VarType.TheVariants as kind
+use Rattle.inverse_rules.specs.rpp_tree.Tree.{Source}
 use Rattle.buddy_book.specs.Book.{start}
 use Rattle.code_conventions.specs.pisa_isa.Loaded.{statics_at, heap_base, fixed_cells, empty_heads, with_words, loaded}
 use Rattle.code_conventions.specs.Header.{header}
 use Rattle.roopl_semantics.specs.Store.{Value, Word, Nil, number_of, zero_value, zero_values}
 use Rattle.roopl_semantics.specs.Source.{main_fields, is_int_field, with_input, IsValid}
-use Rattle.class_table.specs.Classes.{main_of}
+use Rattle.class_rules.specs.Classes.{main_of}
 use Rattle.buddy_book.specs.rpp_words.Limits.{IsLimits}
 use Rattle.roopl_semantics.specs.Alone.{alone}
 use Rattle.roopl_semantics.specs.Laws.{StartsLoaded}

@@ -1,11 +1,11 @@
 -- How worked programs are written, and what is seen of their runs.
 use Rattle.std.specs.Prelude.{ℕ, List, [], ◌∷◌, ◌++◌, Option}
 use Rattle.buddy_book.specs.rpp_words.declared.input.FieldWord.{FieldWord}
-use Rattle.stmt_inverter.specs.rpp_tree.declared.tree.Ident.{Ident}
-use Rattle.stmt_inverter.specs.rpp_tree.declared.tree.Var.{Var}
-use Rattle.stmt_inverter.specs.rpp_tree.declared.tree.VarType.{VarType}
-use Rattle.stmt_inverter.specs.rpp_tree.Tree.{Statement, Statements, Procedure, ClassText, Source}
-use Rattle.stmt_inverter.specs.rpp_tree.Views.{statements_of}
+use Rattle.inverse_rules.specs.rpp_tree.declared.tree.Ident.{Ident}
+use Rattle.inverse_rules.specs.rpp_tree.declared.tree.Var.{Var}
+use Rattle.inverse_rules.specs.rpp_tree.declared.tree.VarType.{VarType}
+use Rattle.inverse_rules.specs.rpp_tree.Tree.{Statement, Statements, Procedure, ClassText, Source}
+use Rattle.inverse_rules.specs.rpp_tree.Views.{statements_of}
 use Rattle.roopl_semantics.specs.Run.{Run, Done, Fault, More}
 use Rattle.roopl_semantics.specs.Store.{State}
 use Rattle.roopl_semantics.specs.Source.{source}

@@ -1,8 +1,8 @@
 -- The elements that a statement changes and those that it reads, which may not be of one array.
 use Rattle.std.specs.Prelude.{ℕ, Bool, false, ◌||◌, List, [], ◌∷◌, ◌++◌, length}
-use Rattle.stmt_inverter.specs.rpp_tree.declared.tree.Ident.{Ident}
-use Rattle.stmt_inverter.specs.rpp_tree.Tree.{Expression, Number, Null, Variable, Element, Binary, Lvalue, Whole}
-use Rattle.stmt_inverter.specs.rpp_tree.Tree.{Item, Source}
+use Rattle.inverse_rules.specs.rpp_tree.declared.tree.Ident.{Ident}
+use Rattle.inverse_rules.specs.rpp_tree.Tree.{Expression, Number, Null, Variable, Element, Binary, Lvalue, Whole}
+use Rattle.inverse_rules.specs.rpp_tree.Tree.{Item, Source}
 use Rattle.code_conventions.specs.declared.faults.TheConstants.{SHARED_ARRAY}
 use Rattle.roopl_semantics.specs.Run.{Run, spend, fault_if, ◌>>=◌}
 use Rattle.roopl_semantics.specs.Store.{State, same_value}

@@ -2,7 +2,7 @@
 use Rattle.std.specs.Prelude.{◌≡◌, ℕ, List}
 use Rattle.buddy_book.specs.rpp_words.declared.input.FieldWord.{FieldWord}
 use Rattle.buddy_book.specs.rpp_words.declared.input.Limits.{Limits}
-use Rattle.stmt_inverter.specs.rpp_tree.Tree.{Source}
+use Rattle.inverse_rules.specs.rpp_tree.Tree.{Source}
 use Rattle.code_conventions.specs.pisa_isa.declared.machine.Stop.TheVariants.{Finished, Trap}
 use Rattle.code_conventions.specs.pisa_isa.Image.{Segments}
 use Rattle.roopl_semantics.specs.Store.{State}

@@ -5,14 +5,14 @@ use Rattle.std.specs.Prelude.{None, is_none, if◌then◌else◌}
 use Rattle.std.specs.Option.{unwrap_or}
 use Rattle.buddy_book.specs.rpp_words.Words.{is_less}
 use Rattle.buddy_book.specs.rpp_words.declared.input.Limits.{Limits}
-use Rattle.stmt_inverter.specs.rpp_tree.declared.tree.Ident.{Ident}
-use Rattle.stmt_inverter.specs.rpp_tree.declared.tree.Var.{Var}
-use Rattle.stmt_inverter.specs.rpp_tree.Tree.{Expression, Null, Lvalue, Whole, Item, Object as AnObject, Ints}
-use Rattle.stmt_inverter.specs.rpp_tree.Tree.{Objects, Statement, Statements, Update, Swap, If, From, Construct}
-use Rattle.stmt_inverter.specs.rpp_tree.Tree.{Local, New, Delete, Copy, Uncopy, Call, Skip, End, Then, joined}
-use Rattle.stmt_inverter.specs.rpp_tree.Tree.{Procedure, Source}
-use Rattle.class_table.specs.Classes.{class_number, class_fields, method_named}
-use Rattle.stmt_inverter.specs.Inverse.{inverse}
+use Rattle.inverse_rules.specs.rpp_tree.declared.tree.Ident.{Ident}
+use Rattle.inverse_rules.specs.rpp_tree.declared.tree.Var.{Var}
+use Rattle.inverse_rules.specs.rpp_tree.Tree.{Expression, Null, Lvalue, Whole, Item, Object as AnObject, Ints}
+use Rattle.inverse_rules.specs.rpp_tree.Tree.{Objects, Statement, Statements, Update, Swap, If, From, Construct}
+use Rattle.inverse_rules.specs.rpp_tree.Tree.{Local, New, Delete, Copy, Uncopy, Call, Skip, End, Then, joined}
+use Rattle.inverse_rules.specs.rpp_tree.Tree.{Procedure, Source}
+use Rattle.class_rules.specs.Classes.{class_number, class_fields, method_named}
+use Rattle.inverse_rules.specs.Inverse.{inverse}
 use Rattle.buddy_book.specs.Book.{order_for}
 use Rattle.buddy_book.specs.Place.{Taken, Given, count_taken, place}
 use Rattle.code_conventions.specs.declared.memory.TheConstants.{HEADER_WORDS}

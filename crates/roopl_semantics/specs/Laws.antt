@@ -3,8 +3,8 @@ use Rattle.std.specs.Prelude.{◌≡◌, ◌≢◌, ◌≤◌, ℕ, ◌+◌, Lis
 use Rattle.std.specs.Prelude.{if◌then◌else◌}
 use Rattle.buddy_book.specs.rpp_words.declared.input.FieldWord.{FieldWord}
 use Rattle.buddy_book.specs.rpp_words.declared.input.Limits.{Limits}
-use Rattle.stmt_inverter.specs.rpp_tree.Tree.{Statements, Source}
-use Rattle.class_table.specs.Program.{IsAccepted}
+use Rattle.inverse_rules.specs.rpp_tree.Tree.{Statements, Source}
+use Rattle.class_rules.specs.Program.{IsAccepted}
 use Rattle.buddy_book.specs.Book.{Book}
 use Rattle.buddy_book.specs.Place.{Placing, block_of, place}
 use Rattle.roopl_semantics.specs.Run.{Done, Fault}

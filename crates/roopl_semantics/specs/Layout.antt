@@ -5,16 +5,16 @@ use Rattle.std.specs.List.{All, list_any}
 use Rattle.std.specs.Option.{unwrap_or}
 use Rattle.buddy_book.specs.rpp_words.declared.input.Limits.{Limits}
 use Rattle.buddy_book.specs.rpp_words.declared.input.TheConstants.{FRAME_WORDS}
-use Rattle.stmt_inverter.specs.rpp_tree.Tree.{Source}
-use Rattle.class_table.specs.First.{each_below}
-use Rattle.class_table.specs.Classes.{class_slots}
+use Rattle.inverse_rules.specs.rpp_tree.Tree.{Source}
+use Rattle.class_rules.specs.First.{each_below}
+use Rattle.class_rules.specs.Classes.{class_slots}
 use Rattle.buddy_book.specs.Book.{Book}
 pub use Rattle.buddy_book.specs.Shown.{first_address}
 use Rattle.buddy_book.specs.Place.{Log, Placing, block_of, place}
 use Rattle.roopl_semantics.specs.Store.{Value, Word, Nil, Name, Head, OfClass, OfInts, OfObjects}
 use Rattle.roopl_semantics.specs.Store.{Object, Store, main_name, object_at}
 use Rattle.roopl_semantics.specs.Source.{main_fields}
-use Rattle.class_table.specs.Classes.{main_of}
+use Rattle.class_rules.specs.Classes.{main_of}
 use Rattle.roopl_semantics.specs.Report.{numbered}
 use Rattle.code_conventions.specs.pisa_isa.Image.{Segments}
 use Rattle.code_conventions.specs.pisa_isa.Loaded.{statics_at, heap_base, fixed_cells}

@@ -1,7 +1,7 @@
 pub use Rattle.buddy_book.specs.rpp_words
-pub use Rattle.stmt_inverter.specs.rpp_tree
-pub use Rattle.class_table.specs as class_table
-pub use Rattle.stmt_inverter.specs as stmt_inverter
+pub use Rattle.inverse_rules.specs.rpp_tree
+pub use Rattle.class_rules.specs as class_rules
+pub use Rattle.inverse_rules.specs as inverse_rules
 pub use Rattle.code_conventions.specs.pisa_isa
 pub use Rattle.code_conventions.specs as code_conventions
 pub use Rattle.buddy_book.specs as buddy_book

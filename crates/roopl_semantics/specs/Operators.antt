@@ -2,10 +2,10 @@
 use Rattle.std.specs.Prelude.{ℕ, Bool, true, false, not, ◌&&◌, ◌||◌, nat_eq, bit_and, bit_or}
 use Rattle.std.specs.Prelude.{bit_xor}
 use Rattle.buddy_book.specs.rpp_words.Words.{sum_of, difference_of, is_less}
-use Rattle.stmt_inverter.specs.rpp_tree.declared.tree.BinOp.{BinOp}
-use Rattle.stmt_inverter.specs.rpp_tree.declared.tree.BinOp.TheVariants as op
-use Rattle.stmt_inverter.specs.rpp_tree.declared.tree.UpdateOp.{UpdateOp}
-use Rattle.stmt_inverter.specs.rpp_tree.declared.tree.UpdateOp.TheVariants as update
+use Rattle.inverse_rules.specs.rpp_tree.declared.tree.BinOp.{BinOp}
+use Rattle.inverse_rules.specs.rpp_tree.declared.tree.BinOp.TheVariants as op
+use Rattle.inverse_rules.specs.rpp_tree.declared.tree.UpdateOp.{UpdateOp}
+use Rattle.inverse_rules.specs.rpp_tree.declared.tree.UpdateOp.TheVariants as update
 
 -- truth is any word but 0
 abbrev pub is_true : ℕ → Bool

@@ -5,10 +5,10 @@ use Rattle.std.specs.List.{list_any}
 use Rattle.std.specs.Option.{unwrap_or}
 use Rattle.std.specs.Fmt.{decimal}
 use Rattle.buddy_book.specs.rpp_words.Texts.{line_end}
-use Rattle.stmt_inverter.specs.rpp_tree.declared.tree.Var.{Var}
-use Rattle.stmt_inverter.specs.rpp_tree.Tree.{Source}
-use Rattle.class_table.specs.Members.{class_at}
-use Rattle.class_table.specs.Classes.{class_fields}
+use Rattle.inverse_rules.specs.rpp_tree.declared.tree.Var.{Var}
+use Rattle.inverse_rules.specs.rpp_tree.Tree.{Source}
+use Rattle.class_rules.specs.Members.{class_at}
+use Rattle.class_rules.specs.Classes.{class_fields}
 use Rattle.roopl_semantics.specs.Store.{Value, Word, Nil, Name, Head, OfClass, OfInts, OfObjects}
 use Rattle.roopl_semantics.specs.Store.{Store, main_name, object_at}
 use Rattle.roopl_semantics.specs.Source.{main_fields}

@@ -5,11 +5,11 @@ use Rattle.std.specs.List.{All, list_any}
 use Rattle.buddy_book.specs.rpp_words.Words.{IsWord}
 use Rattle.buddy_book.specs.rpp_words.declared.input.FieldWord.{FieldWord}
 use Rattle.buddy_book.specs.rpp_words.declared.input.Limits.{Limits}
-use Rattle.stmt_inverter.specs.rpp_tree.declared.tree.Var.{Var}
-use Rattle.stmt_inverter.specs.rpp_tree.declared.tree.VarType.{VarType}
-use Rattle.stmt_inverter.specs.rpp_tree.declared.tree.VarType.TheVariants as kind
-use Rattle.stmt_inverter.specs.rpp_tree.Tree.{Statements, Source}
-use Rattle.class_table.specs.Classes.{class_fields, main_of, procedure_at}
+use Rattle.inverse_rules.specs.rpp_tree.declared.tree.Var.{Var}
+use Rattle.inverse_rules.specs.rpp_tree.declared.tree.VarType.{VarType}
+use Rattle.inverse_rules.specs.rpp_tree.declared.tree.VarType.TheVariants as kind
+use Rattle.inverse_rules.specs.rpp_tree.Tree.{Statements, Source}
+use Rattle.class_rules.specs.Classes.{class_fields, main_of, procedure_at}
 use Rattle.roopl_semantics.specs.Run.{Run, Done, Fault, More}
 use Rattle.roopl_semantics.specs.Store.{Value, Word, Object, OfClass, State, main_name, zero_values}
 use Rattle.roopl_semantics.specs.Execution.{exec}

@@ -2,7 +2,7 @@
 use Rattle.std.specs.Prelude.{◌≡◌, ◌≢◌, ◌≤◌, ◌+◌, ◌*◌, ℕ, ℤ, List, Option, Some, None}
 use Rattle.buddy_book.specs.rpp_words.declared.input.FieldWord.{FieldWord}
 use Rattle.buddy_book.specs.rpp_words.declared.input.Limits.{Limits}
-use Rattle.stmt_inverter.specs.rpp_tree.Tree.{Source}
+use Rattle.inverse_rules.specs.rpp_tree.Tree.{Source}
 use Rattle.code_conventions.specs.pisa_isa.declared.machine.Stop.TheVariants.{Finished, Returned, Trap, BadAddress}
 use Rattle.code_conventions.specs.pisa_isa.declared.machine.Stop.TheVariants.{OffCode, Bound}
 use Rattle.code_conventions.specs.pisa_isa.Image.{Segments}

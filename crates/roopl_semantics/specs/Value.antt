@@ -3,12 +3,12 @@ use Rattle.std.specs.Prelude.{ℕ, zero, suc, nat_lt, List, [], ◌∷◌, map, 
 use Rattle.std.specs.Prelude.{Some, None, Result, Ok, Err, slice_get, slice_set, if◌then◌else◌}
 use Rattle.std.specs.Option.{unwrap_or}
 use Rattle.std.specs.Str.{bytes_eq}
-use Rattle.stmt_inverter.specs.rpp_tree.declared.tree.Var.{Var}
-use Rattle.stmt_inverter.specs.rpp_tree.declared.tree.BinOp.{BinOp}
-use Rattle.stmt_inverter.specs.rpp_tree.Tree.{Expression, Number, Null, Variable, Element, Binary, Lvalue, Whole}
-use Rattle.stmt_inverter.specs.rpp_tree.Tree.{Item, Source, nodes, index_nodes}
-use Rattle.class_table.specs.Members.{field_of}
-use Rattle.class_table.specs.Classes.{class_fields}
+use Rattle.inverse_rules.specs.rpp_tree.declared.tree.Var.{Var}
+use Rattle.inverse_rules.specs.rpp_tree.declared.tree.BinOp.{BinOp}
+use Rattle.inverse_rules.specs.rpp_tree.Tree.{Expression, Number, Null, Variable, Element, Binary, Lvalue, Whole}
+use Rattle.inverse_rules.specs.rpp_tree.Tree.{Item, Source, nodes, index_nodes}
+use Rattle.class_rules.specs.Members.{field_of}
+use Rattle.class_rules.specs.Classes.{class_fields}
 use Rattle.code_conventions.specs.declared.faults.TheConstants.{NIL, INDEX}
 use Rattle.roopl_semantics.specs.Operators.{operated}
 use Rattle.roopl_semantics.specs.Run.{Run, after_cost, given}

@@ -4,11 +4,11 @@ use Rattle.std.specs.Prelude.{nat_le, List, [], ◌∷◌, ◌++◌, length, map
 use Rattle.std.specs.Prelude.{Some, None, if◌then◌else◌}
 use Rattle.std.specs.List.{list_any}
 use Rattle.std.specs.Option.{unwrap_or}
-use Rattle.stmt_inverter.specs.rpp_tree.declared.tree.Var.{Var}
-use Rattle.stmt_inverter.specs.rpp_tree.declared.tree.VarType.{VarType}
-use Rattle.stmt_inverter.specs.rpp_tree.declared.tree.VarType.TheVariants as kind
-use Rattle.stmt_inverter.specs.rpp_tree.Tree.{Source}
-use Rattle.class_table.specs.Classes.{class_fields}
+use Rattle.inverse_rules.specs.rpp_tree.declared.tree.Var.{Var}
+use Rattle.inverse_rules.specs.rpp_tree.declared.tree.VarType.{VarType}
+use Rattle.inverse_rules.specs.rpp_tree.declared.tree.VarType.TheVariants as kind
+use Rattle.inverse_rules.specs.rpp_tree.Tree.{Source}
+use Rattle.class_rules.specs.Classes.{class_fields}
 use Rattle.roopl_semantics.specs.Store.{Store}
 use Rattle.roopl_semantics.specs.Source.{main_fields}
 use Rattle.roopl_semantics.specs.Execution.{order_of_cells}

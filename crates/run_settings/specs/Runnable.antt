@@ -5,7 +5,7 @@ use Rattle.roopl_judge.specs.rpp_words.declared.input.FieldWord.{FieldWord}
 use Rattle.roopl_judge.specs.rpp_words.declared.input.Limits.{Limits}
 use Rattle.roopl_judge.specs.rpp_words.declared.input.TheConstants.{MOST_DEEP}
 use Rattle.roopl_judge.specs.rpp_tree.Tree.{Source}
-use Rattle.roopl_judge.specs.class_table.Refusal.{Refusal}
+use Rattle.roopl_judge.specs.class_rules.Refusal.{Refusal}
 use Rattle.command_plan.specs.declared.plan.Room.{Room}
 use Rattle.command_plan.specs.pisa_loader.Limiting.{limits_refusal}
 use Rattle.command_plan.specs.pisa_loader.declared.error.LoadError.{LoadError}

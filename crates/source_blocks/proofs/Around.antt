@@ -6,8 +6,8 @@ use Rattle.std.proofs.lemmas.List.{reverse-append, take_all, drop_all}
 use Rattle.rpp_tree.specs.declared.tree.Ident.{Ident}
 use Rattle.rpp_tree.specs.Tree.{Whole, Object as AnObject, Statements, Delete, End, Then, joined}
 use Rattle.rpp_tree.specs.Views.{expression_of, block_of}
-use Rattle.source_steps.specs.stmt_inverter.Inverse.{inverse}
-use Rattle.source_steps.proofs.stmt_inverter_laws.Inverses.{inverse-twice, inverse-joined}
+use Rattle.source_steps.specs.inverse_rules.Inverse.{inverse}
+use Rattle.source_steps.proofs.inverse_rules_laws.Inverses.{inverse-twice, inverse-joined}
 use Rattle.source_steps.specs.roopl_semantics.Execution.{in_direction, constructed}
 use Rattle.source_steps.specs.meaning_machine.Machine.{Config, Open, Part as Runs, First, Again}
 use Rattle.source_steps.specs.meaning_machine.Turned.{each_undone, turned_open, turned_part, turn}

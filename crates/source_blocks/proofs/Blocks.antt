@@ -6,7 +6,7 @@ use Rattle.rpp_tree.specs.declared.tree.Block.{Block}
 use Rattle.rpp_tree.specs.Tree.{Whole, Object as AnObject, Statement, Statements, New, Delete, End, Then, joined}
 use Rattle.rpp_tree.specs.Views.{statement_of, statements_of, block_of}
 use Rattle.rpp_tree.proofs.Blocks.{block_of-list}
-use Rattle.source_steps.specs.stmt_inverter.Inverse.{inverse_statement, inverse}
+use Rattle.source_steps.specs.inverse_rules.Inverse.{inverse_statement, inverse}
 use Rattle.source_steps.specs.roopl_semantics.Execution.{in_direction}
 use Rattle.source_steps.specs.Ends.{turned}
 use Rattle.source_blocks.specs.declared.task.Task.{Task}

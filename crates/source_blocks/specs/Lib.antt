@@ -1,7 +1,7 @@
 pub use Rattle.source_steps.specs.rpp_words
 pub use Rattle.rpp_tree.specs as rpp_tree
-pub use Rattle.source_steps.specs.class_table
-pub use Rattle.source_steps.specs.stmt_inverter
+pub use Rattle.source_steps.specs.class_rules
+pub use Rattle.source_steps.specs.inverse_rules
 pub use Rattle.source_steps.specs.roopl_semantics
 pub use Rattle.source_steps.specs.meaning_points
 pub use Rattle.source_steps.specs.meaning_machine

@@ -1,7 +1,7 @@
 // The blocks that run, and their statements.
 ghost use Rattle.std.specs.Prelude.{◌≡◌, ◌<◌, ◌≤◌, ◌-◌, IfNone, IfSome, false};
 ghost use Rattle.rpp_tree.specs.Views.{block_of, statement_of};
-ghost use Rattle.source_steps.specs.stmt_inverter.Inverse.{inverse};
+ghost use Rattle.source_steps.specs.inverse_rules.Inverse.{inverse};
 ghost use Rattle.source_steps.specs.roopl_semantics.Execution.{in_direction};
 ghost use Rattle.source_steps.specs.Ends.{turned};
 ghost use Rattle.source_blocks.specs.Blocks.{statement_at, count_of};

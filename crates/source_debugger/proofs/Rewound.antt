@@ -5,7 +5,7 @@ use Rattle.source_meaning.specs.rpp_words.declared.input.FieldWord.{FieldWord}
 use Rattle.source_meaning.specs.rpp_words.declared.input.Limits.{Limits}
 use Rattle.source_meaning.specs.rpp_words.Limits.{IsLimits}
 use Rattle.rpp_tree.specs.Tree.{Source, Statements, End, Then}
-use Rattle.source_meaning.specs.class_table.Program.{IsAccepted}
+use Rattle.source_meaning.specs.class_rules.Program.{IsAccepted}
 use Rattle.source_meaning.specs.roopl_semantics.Run.{Run, Done, Fault, More, ◌>>=◌, after_cost}
 use Rattle.source_meaning.specs.roopl_semantics.Store.{State}
 use Rattle.source_meaning.specs.roopl_semantics.Source.{IsValid}

@@ -4,7 +4,7 @@ use Rattle.std.specs.Fmt.{decimal}
 use Rattle.source_meaning.specs.rpp_words.Texts.{line_end}
 use Rattle.pisa_scripts.specs.Stops.{fault_line}
 use Rattle.rpp_tree.specs.Tree.{Source}
-use Rattle.source_meaning.specs.class_table.Classes.{class_fields}
+use Rattle.source_meaning.specs.class_rules.Classes.{class_fields}
 use Rattle.source_meaning.specs.roopl_semantics.Store.{State, object_at}
 use Rattle.source_meaning.specs.roopl_semantics.Value.{own_class}
 use Rattle.source_meaning.specs.roopl_semantics.Report.{Text}

@@ -3,8 +3,8 @@ ghost use Rattle.std.specs.Prelude.{◌≡◌, ◌++◌, ◌∷◌, [], OnOk, st
 ghost use Rattle.std.specs.Fmt.{decimal};
 ghost use Rattle.source_meaning.specs.rpp_words.Texts.{line_end};
 ghost use Rattle.rpp_tree.specs.Views.{source_of};
-ghost use Rattle.source_meaning.specs.class_table.Members.{class_at};
-ghost use Rattle.source_meaning.specs.class_table.Classes.{class_fields};
+ghost use Rattle.source_meaning.specs.class_rules.Members.{class_at};
+ghost use Rattle.source_meaning.specs.class_rules.Classes.{class_fields};
 ghost use Rattle.source_meaning.specs.roopl_semantics.Store.{object_named};
 ghost use Rattle.source_meaning.specs.roopl_semantics.Report.{signed_decimal, head_shown};
 ghost use Rattle.source_meaning.specs.source_store.ValueView.{value_of, values_of, head_of, object_of};

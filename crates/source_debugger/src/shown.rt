@@ -6,7 +6,7 @@ ghost use Rattle.source_debugger.specs.declared.running.TheConstants.{MOST_COST}
 ghost use Rattle.source_debugger.specs.Walks.{stand_at};
 ghost use Rattle.source_debugger.specs.Shown.{ending_shown, line_at, regs_at, cells_at};
 ghost use Rattle.source_debugger.specs.Named.{fields_named, frame_named};
-ghost use Rattle.source_meaning.specs.class_table.Classes.{class_fields};
+ghost use Rattle.source_meaning.specs.class_rules.Classes.{class_fields};
 ghost use Rattle.source_meaning.specs.roopl_semantics.Store.{class_of_head, object_at};
 ghost use Rattle.source_meaning.specs.source_store.ValueView.{values_of};
 ghost use Rattle.source_meaning.specs.source_execution.Variables.{binding_of};

@@ -6,9 +6,9 @@ use Rattle.std.specs.Prelude.{Result, Ok, Err, IfOk, IsTrue, true, false}
 use Rattle.source_statements.specs.rpp_words.declared.input.FieldWord.{FieldWord}
 use Rattle.rpp_tree.specs.declared.tree.Var.{Var}
 use Rattle.rpp_tree.specs.Tree.{Source, Statements, Statement, End, Then}
-use Rattle.source_statements.specs.class_table.declared.method.MethodId.{MethodId}
-use Rattle.source_statements.specs.class_table.Table.{Table, table_of, fields_in}
-use Rattle.source_statements.specs.class_table.Classes.{class_fields, main_of}
+use Rattle.source_statements.specs.class_rules.declared.method.MethodId.{MethodId}
+use Rattle.source_statements.specs.class_rules.Table.{Table, table_of, fields_in}
+use Rattle.source_statements.specs.class_rules.Classes.{class_fields, main_of}
 use Rattle.source_statements.specs.roopl_semantics.Store.{Value, OfClass, Object, main_name, zero_values}
 use Rattle.source_statements.specs.roopl_semantics.Source.{with_input, main_object}
 use Rattle.source_statements.specs.source_store.HeapView.{Kept}

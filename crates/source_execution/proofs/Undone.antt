@@ -3,7 +3,7 @@ use Rattle.std.proofs.Common.{◌≡◌, refl, Bool, true, false}
 use Rattle.rpp_tree.specs.Tree.{Statement, Update, Swap, If, From, Construct, Local, New, Delete, Copy, Uncopy, Call}
 use Rattle.rpp_tree.specs.Tree.{Skip}
 use Rattle.rpp_tree.specs.Places.{statement_place}
-use Rattle.source_statements.specs.stmt_inverter.Inverse.{inverse_statement}
+use Rattle.source_statements.specs.inverse_rules.Inverse.{inverse_statement}
 use Rattle.source_statements.specs.source_steps.Ends.{turned}
 
 place_undone : (s : Statement) → statement_place s ≡ statement_place (inverse_statement s)

@@ -1,6 +1,6 @@
 pub use Rattle.source_statements.specs.rpp_words
 pub use Rattle.rpp_tree.specs as rpp_tree
-pub use Rattle.source_statements.specs.class_table
+pub use Rattle.source_statements.specs.class_rules
 pub use Rattle.source_statements.specs.roopl_semantics
 pub use Rattle.source_statements.specs.meaning_points
 pub use Rattle.source_statements.specs.meaning_machine

@@ -7,7 +7,7 @@ use Rattle.source_execution.specs.rpp_words.declared.input.FieldWord.{FieldWord}
 use Rattle.source_execution.specs.rpp_words.declared.input.Limits.{Limits}
 use Rattle.source_execution.specs.rpp_words.Limits.{IsLimits}
 use Rattle.source_execution.specs.rpp_tree.Tree.{Source}
-use Rattle.source_execution.specs.class_table.Program.{IsAccepted}
+use Rattle.source_execution.specs.class_rules.Program.{IsAccepted}
 use Rattle.source_execution.specs.roopl_semantics.Run.{Run, Done, Fault, More}
 use Rattle.source_execution.specs.roopl_semantics.Store.{Store}
 use Rattle.source_execution.specs.roopl_semantics.Source.{within, source, IsValid}

@@ -1,6 +1,6 @@
 pub use Rattle.source_execution.specs.rpp_words
 pub use Rattle.source_execution.specs.rpp_tree
-pub use Rattle.source_execution.specs.class_table
+pub use Rattle.source_execution.specs.class_rules
 pub use Rattle.source_execution.specs.roopl_semantics
 pub use Rattle.source_execution.specs.meaning_points
 pub use Rattle.meaning_inverse.specs.meaning_sound

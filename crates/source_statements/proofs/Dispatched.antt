@@ -8,15 +8,15 @@ use Rattle.std.specs.Prelude.{Option, slice_get, nat_lt, position}
 use Rattle.std.specs.Option.{unwrap_or}
 use Rattle.std.specs.Str.{bytes_eq}
 use Rattle.rpp_tree.specs.Tree.{Procedure, Source}
-use Rattle.source_blocks.specs.class_table.declared.method.MethodId.{MethodId}
-use Rattle.source_blocks.specs.class_table.Table.{Table, table_of, slots_in, slot_in, dispatch_in}
-use Rattle.source_blocks.specs.class_table.Rules.{class_names}
-use Rattle.source_blocks.specs.class_table.Chains.{parents, parent_named, chain, with_last}
-use Rattle.source_blocks.specs.class_table.Members.{class_at, no_class, no_procedure, slots, slots_of, slots_along, with_methods}
-use Rattle.source_blocks.specs.class_table.Overrides.{run_at}
-use Rattle.source_blocks.specs.class_table.Classes.{class_slots, method_named}
-use Rattle.source_blocks.proofs.class_table_laws.Numbers.{length-each_below}
-use Rattle.source_blocks.proofs.class_table_laws.Tables.{table_reads}
+use Rattle.source_blocks.specs.class_rules.declared.method.MethodId.{MethodId}
+use Rattle.source_blocks.specs.class_rules.Table.{Table, table_of, slots_in, slot_in, dispatch_in}
+use Rattle.source_blocks.specs.class_rules.Rules.{class_names}
+use Rattle.source_blocks.specs.class_rules.Chains.{parents, parent_named, chain, with_last}
+use Rattle.source_blocks.specs.class_rules.Members.{class_at, no_class, no_procedure, slots, slots_of, slots_along, with_methods}
+use Rattle.source_blocks.specs.class_rules.Overrides.{run_at}
+use Rattle.source_blocks.specs.class_rules.Classes.{class_slots, method_named}
+use Rattle.source_blocks.proofs.class_rules_laws.Numbers.{length-each_below}
+use Rattle.source_blocks.proofs.class_rules_laws.Tables.{table_reads}
 use Rattle.source_blocks.specs.source_steps.Ends.{slot_or_first}
 
 chain_slots : (n : ℕ) (program : Source) (class : ℕ) → slice_get (parents program) class ≡ None

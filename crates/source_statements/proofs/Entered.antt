@@ -3,7 +3,7 @@ use Rattle.std.proofs.Common.{◌≡◌, ℕ, ◌+◌, sym, ap, subst, ◌∙◌
 use Rattle.std.specs.Prelude.{Result, MatchResult}
 use Rattle.rpp_tree.specs.declared.tree.Ident.{Ident}
 use Rattle.rpp_tree.specs.Tree.{Statement, Statements, End, Procedure}
-use Rattle.source_blocks.specs.class_table.Classes.{method_named}
+use Rattle.source_blocks.specs.class_rules.Classes.{method_named}
 use Rattle.source_blocks.specs.roopl_semantics.Run.{Run, ◌>>=◌, give, spend, fault_if}
 use Rattle.source_blocks.specs.roopl_semantics.Store.{State, Value, Binding}
 use Rattle.source_blocks.specs.roopl_semantics.Value.{Cell, cell_named, own_class, read}

@@ -1,7 +1,7 @@
 pub use Rattle.source_blocks.specs.rpp_words
 pub use Rattle.rpp_tree.specs as rpp_tree
-pub use Rattle.source_blocks.specs.class_table
-pub use Rattle.source_blocks.specs.stmt_inverter
+pub use Rattle.source_blocks.specs.class_rules
+pub use Rattle.source_blocks.specs.inverse_rules
 pub use Rattle.source_blocks.specs.roopl_semantics
 pub use Rattle.source_blocks.specs.meaning_points
 pub use Rattle.source_blocks.specs.meaning_machine

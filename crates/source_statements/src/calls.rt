@@ -3,8 +3,8 @@ ghost use Rattle.std.specs.Prelude.{◌≡◌, ◌+◌, ◌<◌, ◌≤◌, ◌^
 ghost use Rattle.std.specs.Option.{unwrap_or, option_map};
 ghost use Rattle.rpp_tree.specs.Tree.{Whole, Procedure};
 ghost use Rattle.rpp_tree.specs.Views.{procedure_of, optional_lvalue_of};
-ghost use Rattle.source_blocks.specs.class_table.Members.{no_procedure};
-ghost use Rattle.source_blocks.specs.class_table.Classes.{method_named};
+ghost use Rattle.source_blocks.specs.class_rules.Members.{no_procedure};
+ghost use Rattle.source_blocks.specs.class_rules.Classes.{method_named};
 ghost use Rattle.source_blocks.specs.roopl_semantics.Value.{read, cell_named};
 ghost use Rattle.source_blocks.specs.roopl_semantics.Execution.{in_direction, cells_named, class_of, moved_out, bound};
 ghost use Rattle.source_blocks.specs.meaning_machine.Machine.{called, entered, held_local};

@@ -2,8 +2,8 @@
 ghost use Rattle.std.specs.Prelude.{◌≡◌, ◌+◌, ◌<◌, ◌≤◌, map, min, length, take, slice_get, not, nat_lt};
 ghost use Rattle.std.specs.Option.{unwrap_or, option_map};
 ghost use Rattle.rpp_tree.specs.Views.{source_of, procedure_of};
-ghost use Rattle.source_blocks.specs.class_table.Members.{class_at, no_procedure};
-ghost use Rattle.source_blocks.specs.class_table.Classes.{method_named};
+ghost use Rattle.source_blocks.specs.class_rules.Members.{class_at, no_procedure};
+ghost use Rattle.source_blocks.specs.class_rules.Classes.{method_named};
 ghost use Rattle.source_blocks.specs.source_steps.Ends.{slot_or_first};
 ghost use Rattle.source_blocks.specs.source_steps.StateView.{setting_of};
 

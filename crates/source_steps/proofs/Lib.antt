@@ -1,6 +1,6 @@
 pub use Rattle.rpp_tree.proofs as rpp_tree_laws
-pub use Rattle.source_store.proofs.class_table_laws
-pub use Rattle.source_store.proofs.stmt_inverter_laws
+pub use Rattle.source_store.proofs.class_rules_laws
+pub use Rattle.source_store.proofs.inverse_rules_laws
 pub use Rattle.source_store.proofs.roopl_semantics_laws
 pub use Rattle.source_store.proofs.meaning_points_laws
 pub use Rattle.source_store.proofs.meaning_machine_laws

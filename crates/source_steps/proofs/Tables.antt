@@ -8,13 +8,13 @@ use Rattle.std.specs.Prelude.{Option, slice_get, slice_set, nat_lt, position}
 use Rattle.std.specs.Option.{unwrap_or}
 use Rattle.std.specs.Str.{bytes_eq}
 use Rattle.rpp_tree.specs.Tree.{Source}
-use Rattle.source_store.specs.class_table.Table.{Table, table_of, fields_in, field_in}
-use Rattle.source_store.specs.class_table.Rules.{class_names}
-use Rattle.source_store.specs.class_table.Chains.{parents, parent_named, chain, with_last}
-use Rattle.source_store.specs.class_table.Members.{field_of, fields, fields_of, fields_along, no_class}
-use Rattle.source_store.proofs.class_table_laws.Numbers.{length-each_below}
-use Rattle.source_store.specs.class_table.Classes.{class_fields}
-use Rattle.source_store.proofs.class_table_laws.Tables.{table_reads}
+use Rattle.source_store.specs.class_rules.Table.{Table, table_of, fields_in, field_in}
+use Rattle.source_store.specs.class_rules.Rules.{class_names}
+use Rattle.source_store.specs.class_rules.Chains.{parents, parent_named, chain, with_last}
+use Rattle.source_store.specs.class_rules.Members.{field_of, fields, fields_of, fields_along, no_class}
+use Rattle.source_store.proofs.class_rules_laws.Numbers.{length-each_below}
+use Rattle.source_store.specs.class_rules.Classes.{class_fields}
+use Rattle.source_store.proofs.class_rules_laws.Tables.{table_reads}
 use Rattle.source_store.specs.roopl_semantics.Store.{Value, Nil, State}
 use Rattle.source_store.specs.roopl_semantics.Value.{Slot, Part, value_at, with_value, slot_of, slot_or_field, cell_named, own_class}
 use Rattle.source_store.specs.declared.value.Value.{Value as Held}

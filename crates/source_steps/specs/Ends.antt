@@ -4,8 +4,8 @@ use Rattle.std.specs.Prelude.{replicate, Option, Some, None, Result}
 use Rattle.std.specs.Option.{unwrap_or}
 use Rattle.source_store.specs.rpp_words.Words.{is_less}
 use Rattle.rpp_tree.specs.Tree.{Expression, Lvalue, Statement, Source}
-use Rattle.source_store.specs.class_table.Classes.{class_number, class_fields, method_slot}
-use Rattle.source_store.specs.stmt_inverter.Inverse.{inverse_statement}
+use Rattle.source_store.specs.class_rules.Classes.{class_number, class_fields, method_slot}
+use Rattle.source_store.specs.inverse_rules.Inverse.{inverse_statement}
 use Rattle.source_store.specs.roopl_semantics.Run.{Run, More, ◌>>=◌, give, spend, fault_if}
 use Rattle.source_store.specs.roopl_semantics.Store.{State, Value, Word, Nil, Head, OfClass, OfInts, OfObjects}
 use Rattle.source_store.specs.roopl_semantics.Store.{is_nil, number_of, same_value, object_at, zero_values}

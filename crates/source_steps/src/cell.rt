@@ -1,10 +1,10 @@
 // Cells: variables of the frame, and fields and elements.
 ghost use Rattle.std.specs.Prelude.{◌≡◌, length, slice_get, slice_set};
 ghost use Rattle.std.specs.Option.{unwrap_or};
-ghost use Rattle.source_store.specs.class_table.Classes.{class_fields};
+ghost use Rattle.source_store.specs.class_rules.Classes.{class_fields};
 ghost use Rattle.source_store.specs.roopl_semantics.Store.{Nil, class_of_head, object_at};
 ghost use Rattle.source_store.specs.roopl_semantics.Value.{read, written, cell_named, value_at, variable_value};
-ghost use Rattle.source_store.specs.class_table.Members.{field_of};
+ghost use Rattle.source_store.specs.class_rules.Members.{field_of};
 ghost use Rattle.source_store.specs.ValueView.{value_of, values_of};
 ghost use Rattle.source_steps.specs.CellView.{cell_of};
 ghost use Rattle.source_steps.specs.StateView.{IsFramed, names_of, frame_of, state_of, setting_of};

@@ -3,7 +3,7 @@ ghost use Rattle.std.specs.Prelude.{◌≡◌, ◌+◌, ◌≤◌, ◌<◌, ◌^
 ghost use Rattle.std.specs.Option.{unwrap_or};
 ghost use Rattle.rpp_tree.specs.Tree.{New, Delete, Object as AnObject};
 ghost use Rattle.rpp_tree.specs.Views.{source_of, creation_of, expression_of, lvalue_of};
-ghost use Rattle.source_store.specs.class_table.Classes.{class_fields, class_number};
+ghost use Rattle.source_store.specs.class_rules.Classes.{class_fields, class_number};
 ghost use Rattle.source_store.specs.roopl_semantics.Store.{zero_value, zero_values};
 ghost use Rattle.source_store.specs.roopl_semantics.Execution.{allocated, freed, new_array as new_array_in, delete_array as delete_array_in};
 ghost use Rattle.source_store.specs.ValueView.{value_of, values_of, head_of};

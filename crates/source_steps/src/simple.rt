@@ -2,7 +2,7 @@
 ghost use Rattle.std.specs.Prelude.{◌≡◌, ◌≤◌, OnOk};
 ghost use Rattle.rpp_tree.specs.Tree.{Update, Swap};
 ghost use Rattle.rpp_tree.specs.Views.{expression_of, lvalue_of};
-ghost use Rattle.source_store.specs.stmt_inverter.Inverse.{inverse_operator};
+ghost use Rattle.source_store.specs.inverse_rules.Inverse.{inverse_operator};
 ghost use Rattle.source_store.specs.roopl_semantics.Operators.{updated};
 ghost use Rattle.source_steps.specs.Ends.{Ends, does_simply, call_turned};
 ghost use Rattle.source_steps.specs.StateView.{IsFramed, state_of, setting_of};

@@ -13,14 +13,14 @@ use Rattle.rpp_tree.specs.Tree.{Expression, Lvalue, Whole, Item, Statement, Stat
 use Rattle.rpp_tree.specs.Tree.{Call, Source, nodes, index_nodes}
 use Rattle.rpp_tree.specs.Views.{lvalue_with, expression_of, lvalue_of, source_of}
 use Rattle.rpp_tree.specs.Parts.{list_tokens}
-use Rattle.branch_codegen.specs.class_table.Overrides.{parameters_of}
-use Rattle.branch_codegen.specs.class_table.Program.{IsAccepted}
-use Rattle.branch_codegen.specs.class_table.Refusal.{wrong_arity}
-use Rattle.branch_codegen.specs.class_table.Scope.{Typing, Locals}
-use Rattle.branch_codegen.specs.class_table.Statements.{passed, required, each_passes, each_passes_after, argument_known, argument_new}
-use Rattle.branch_codegen.specs.class_table.Statements.{arguments_fit, plain_receiver, receiver_class, slot_rules, call_rules}
-use Rattle.branch_codegen.specs.class_table.Table.{slot_in, dispatch_in}
-use Rattle.branch_codegen.proofs.class_table_laws.PassedRules.{both_passed, handed_on, held}
+use Rattle.branch_codegen.specs.class_rules.Overrides.{parameters_of}
+use Rattle.branch_codegen.specs.class_rules.Program.{IsAccepted}
+use Rattle.branch_codegen.specs.class_rules.Refusal.{wrong_arity}
+use Rattle.branch_codegen.specs.class_rules.Scope.{Typing, Locals}
+use Rattle.branch_codegen.specs.class_rules.Statements.{passed, required, each_passes, each_passes_after, argument_known, argument_new}
+use Rattle.branch_codegen.specs.class_rules.Statements.{arguments_fit, plain_receiver, receiver_class, slot_rules, call_rules}
+use Rattle.branch_codegen.specs.class_rules.Table.{slot_in, dispatch_in}
+use Rattle.branch_codegen.proofs.class_rules_laws.PassedRules.{both_passed, handed_on, held}
 use Rattle.branch_codegen.specs.paired_code.Code.{Code}
 use Rattle.branch_codegen.specs.meaning_sound.Plain.{ReceiverIsPlain}
 use Rattle.refine_form.specs.Held.{Holds, HoldsBoth}

@@ -10,14 +10,14 @@ use Rattle.std.specs.Str.{bytes_eq}
 use Rattle.rpp_tree.specs.declared.tree.Ident.{Ident}
 use Rattle.rpp_tree.specs.Tree.{Whole, Call, Source}
 use Rattle.rpp_tree.specs.Views.{source_of}
-use Rattle.branch_codegen.specs.class_table.declared.kind.Kind.{Kind}
-use Rattle.branch_codegen.specs.class_table.declared.kind.Kind.TheVariants as kind
-use Rattle.branch_codegen.specs.class_table.Refusal.{unknown_name}
-use Rattle.branch_codegen.specs.class_table.Scope.{Typing, Locals, kind_in}
-use Rattle.branch_codegen.specs.class_table.Expressions.{variable_type}
-use Rattle.branch_codegen.specs.class_table.Statements.{passed, check_statement, call_rules}
-use Rattle.branch_codegen.proofs.class_table_laws.FirstPlaces.{equal_name}
-use Rattle.branch_codegen.proofs.class_table_laws.PassedRules.{some_of}
+use Rattle.branch_codegen.specs.class_rules.declared.kind.Kind.{Kind}
+use Rattle.branch_codegen.specs.class_rules.declared.kind.Kind.TheVariants as kind
+use Rattle.branch_codegen.specs.class_rules.Refusal.{unknown_name}
+use Rattle.branch_codegen.specs.class_rules.Scope.{Typing, Locals, kind_in}
+use Rattle.branch_codegen.specs.class_rules.Expressions.{variable_type}
+use Rattle.branch_codegen.specs.class_rules.Statements.{passed, check_statement, call_rules}
+use Rattle.branch_codegen.proofs.class_rules_laws.FirstPlaces.{equal_name}
+use Rattle.branch_codegen.proofs.class_rules_laws.PassedRules.{some_of}
 use Rattle.branch_codegen.specs.paired_code.declared.part.Symbol.{Symbol}
 use Rattle.branch_codegen.specs.paired_code.Code.{Code}
 use Rattle.branch_codegen.specs.roopl_semantics.Store.{State}

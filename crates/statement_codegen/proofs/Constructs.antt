@@ -5,11 +5,11 @@ use Rattle.std.specs.Prelude.{Result, Ok, Err, IfOk, not}
 use Rattle.rpp_tree.specs.declared.tree.Ident.{Ident}
 use Rattle.rpp_tree.specs.declared.tree.Var.{Var}
 use Rattle.rpp_tree.specs.Tree.{Null, Lvalue, Whole, Creation, Object, Statements, New, Delete, End, Then, joined}
-use Rattle.branch_codegen.specs.class_table.Expressions.{is_int}
-use Rattle.branch_codegen.specs.class_table.Scope.{kind_of}
-use Rattle.branch_codegen.specs.class_table.Table.{table_of, class_of}
-use Rattle.branch_codegen.specs.stmt_inverter.Inverse.{inverse}
-use Rattle.branch_codegen.proofs.stmt_inverter_laws.Inverses.{inverse-joined}
+use Rattle.branch_codegen.specs.class_rules.Expressions.{is_int}
+use Rattle.branch_codegen.specs.class_rules.Scope.{kind_of}
+use Rattle.branch_codegen.specs.class_rules.Table.{table_of, class_of}
+use Rattle.branch_codegen.specs.inverse_rules.Inverse.{inverse}
+use Rattle.branch_codegen.proofs.inverse_rules_laws.Inverses.{inverse-joined}
 use Rattle.branch_codegen.specs.pisa_isa.Machine.{Memory}
 use Rattle.branch_codegen.specs.paired_code.declared.part.Symbol.{Symbol}
 use Rattle.branch_codegen.specs.paired_code.Code.{Code}

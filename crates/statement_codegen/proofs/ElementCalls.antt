@@ -15,14 +15,14 @@ use Rattle.rpp_tree.specs.declared.tree.VarType.TheVariants as type
 use Rattle.rpp_tree.specs.Tree.{Expression, Null, Lvalue, Whole, Item, Swap, Call, End, Then, Source}
 use Rattle.rpp_tree.specs.Places.{place_name}
 use Rattle.rpp_tree.specs.Views.{lvalue_with, lvalue_of, source_of}
-use Rattle.branch_codegen.specs.class_table.declared.kind.Kind.TheVariants as kind
-use Rattle.branch_codegen.specs.class_table.Expressions.{is_int}
-use Rattle.branch_codegen.specs.class_table.Inheritance.{kind_of_var}
-use Rattle.branch_codegen.specs.class_table.Refusal.{unknown_name}
-use Rattle.branch_codegen.specs.class_table.Scope.{Typing, Locals, kind_of, kind_in, class_kind, array_kind}
-use Rattle.branch_codegen.specs.class_table.Statements.{passed, check_statement}
-use Rattle.branch_codegen.specs.class_table.Table.{Table, table_of, class_of}
-use Rattle.branch_codegen.proofs.class_table_laws.PassedRules.{some_of}
+use Rattle.branch_codegen.specs.class_rules.declared.kind.Kind.TheVariants as kind
+use Rattle.branch_codegen.specs.class_rules.Expressions.{is_int}
+use Rattle.branch_codegen.specs.class_rules.Inheritance.{kind_of_var}
+use Rattle.branch_codegen.specs.class_rules.Refusal.{unknown_name}
+use Rattle.branch_codegen.specs.class_rules.Scope.{Typing, Locals, kind_of, kind_in, class_kind, array_kind}
+use Rattle.branch_codegen.specs.class_rules.Statements.{passed, check_statement}
+use Rattle.branch_codegen.specs.class_rules.Table.{Table, table_of, class_of}
+use Rattle.branch_codegen.proofs.class_rules_laws.PassedRules.{some_of}
 use Rattle.branch_codegen.specs.paired_code.Code.{Code, seq_code}
 use Rattle.branch_codegen.specs.paired_code.declared.part.Symbol.{Symbol}
 use Rattle.branch_codegen.specs.roopl_semantics.Execution.{element_name, element_call}

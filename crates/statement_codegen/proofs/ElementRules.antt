@@ -8,21 +8,21 @@ use Rattle.std.specs.List.{list_any}
 use Rattle.rpp_tree.specs.declared.tree.Ident.{Ident}
 use Rattle.rpp_tree.specs.declared.tree.Var.{Var}
 use Rattle.rpp_tree.specs.Tree.{Expression, Number, Null, Variable, Element, Binary, Whole, Item}
-use Rattle.branch_codegen.specs.class_table.declared.kind.Kind.{Kind}
-use Rattle.branch_codegen.specs.class_table.declared.kind.Kind.TheVariants as kind
-use Rattle.branch_codegen.specs.class_table.Overrides.{parameters_of}
-use Rattle.branch_codegen.specs.class_table.Table.{slot_in, dispatch_in}
-use Rattle.branch_codegen.specs.class_table.Refusal.{unknown_name, type_differs, self_update, same_argument, wrong_arity}
-use Rattle.branch_codegen.specs.class_table.Scope.{Typing, Local, Locals, kind_of}
-use Rattle.branch_codegen.specs.class_table.Expressions.{and_then, is_int, index_is_int, element_of, variable_type, occurs, type_of}
-use Rattle.branch_codegen.specs.class_table.Expressions.{place_type, first_token}
-use Rattle.branch_codegen.specs.class_table.Statements.{Verdict, receiver_kind, place_class, passed, required, in_turn, each_passes}
-use Rattle.branch_codegen.specs.class_table.Statements.{each_passes_after, same_kind, in_either_index, swap_rules, argument_known}
-use Rattle.branch_codegen.specs.class_table.Statements.{argument_new, argument_fits, arguments_fit, slot_rules, call_rules}
-use Rattle.branch_codegen.specs.class_table.Statements.{receiver_class}
-use Rattle.branch_codegen.proofs.class_table_laws.FirstPlaces.{bytes_turned}
-use Rattle.branch_codegen.proofs.class_table_laws.PassedRules.{both_passed, in_turn_passes, required_passes, handed_on, hands_on}
-use Rattle.branch_codegen.proofs.class_table_laws.PassedRules.{same_as_itself}
+use Rattle.branch_codegen.specs.class_rules.declared.kind.Kind.{Kind}
+use Rattle.branch_codegen.specs.class_rules.declared.kind.Kind.TheVariants as kind
+use Rattle.branch_codegen.specs.class_rules.Overrides.{parameters_of}
+use Rattle.branch_codegen.specs.class_rules.Table.{slot_in, dispatch_in}
+use Rattle.branch_codegen.specs.class_rules.Refusal.{unknown_name, type_differs, self_update, same_argument, wrong_arity}
+use Rattle.branch_codegen.specs.class_rules.Scope.{Typing, Local, Locals, kind_of}
+use Rattle.branch_codegen.specs.class_rules.Expressions.{and_then, is_int, index_is_int, element_of, variable_type, occurs, type_of}
+use Rattle.branch_codegen.specs.class_rules.Expressions.{place_type, first_token}
+use Rattle.branch_codegen.specs.class_rules.Statements.{Verdict, receiver_kind, place_class, passed, required, in_turn, each_passes}
+use Rattle.branch_codegen.specs.class_rules.Statements.{each_passes_after, same_kind, in_either_index, swap_rules, argument_known}
+use Rattle.branch_codegen.specs.class_rules.Statements.{argument_new, argument_fits, arguments_fit, slot_rules, call_rules}
+use Rattle.branch_codegen.specs.class_rules.Statements.{receiver_class}
+use Rattle.branch_codegen.proofs.class_rules_laws.FirstPlaces.{bytes_turned}
+use Rattle.branch_codegen.proofs.class_rules_laws.PassedRules.{both_passed, in_turn_passes, required_passes, handed_on, hands_on}
+use Rattle.branch_codegen.proofs.class_rules_laws.PassedRules.{same_as_itself}
 use Rattle.branch_codegen.specs.roopl_semantics.Execution.{element_name}
 use Rattle.branch_codegen.specs.meaning_sound.Plain.{IsNamed, HasNames, AreNamed}
 use Rattle.branch_codegen.proofs.meaning_sound_laws.Expansions.{innermost}

@@ -13,18 +13,18 @@ use Rattle.rpp_tree.specs.declared.tree.Ident.{Ident}
 use Rattle.rpp_tree.specs.declared.tree.Var.{Var}
 use Rattle.rpp_tree.specs.declared.tree.VarType.{VarType}
 use Rattle.rpp_tree.specs.Tree.{Source}
-use Rattle.branch_codegen.specs.class_table.declared.kind.Kind.{Kind}
-use Rattle.branch_codegen.specs.class_table.Members.{field_name, field_of, fields_of}
-use Rattle.branch_codegen.specs.class_table.Classes.{class_fields}
-use Rattle.branch_codegen.specs.class_table.Table.{Table, table_of, fields_in, field_in}
-use Rattle.branch_codegen.specs.class_table.Refusal.{unknown_name}
-use Rattle.branch_codegen.specs.class_table.Scope.{Typing, Locals, kind_of, class_kind, array_kind, local_kind, kind_at, field_kind}
-use Rattle.branch_codegen.specs.class_table.Scope.{kind_in, no_var}
-use Rattle.branch_codegen.specs.class_table.Inheritance.{kind_of_var}
-use Rattle.branch_codegen.specs.class_table.Expressions.{variable_type}
-use Rattle.branch_codegen.proofs.class_table_laws.Numbers.{length-each_below}
-use Rattle.branch_codegen.proofs.class_table_laws.PassedRules.{some_of}
-use Rattle.branch_codegen.proofs.class_table_laws.Tables.{table_reads}
+use Rattle.branch_codegen.specs.class_rules.declared.kind.Kind.{Kind}
+use Rattle.branch_codegen.specs.class_rules.Members.{field_name, field_of, fields_of}
+use Rattle.branch_codegen.specs.class_rules.Classes.{class_fields}
+use Rattle.branch_codegen.specs.class_rules.Table.{Table, table_of, fields_in, field_in}
+use Rattle.branch_codegen.specs.class_rules.Refusal.{unknown_name}
+use Rattle.branch_codegen.specs.class_rules.Scope.{Typing, Locals, kind_of, class_kind, array_kind, local_kind, kind_at, field_kind}
+use Rattle.branch_codegen.specs.class_rules.Scope.{kind_in, no_var}
+use Rattle.branch_codegen.specs.class_rules.Inheritance.{kind_of_var}
+use Rattle.branch_codegen.specs.class_rules.Expressions.{variable_type}
+use Rattle.branch_codegen.proofs.class_rules_laws.Numbers.{length-each_below}
+use Rattle.branch_codegen.proofs.class_rules_laws.PassedRules.{some_of}
+use Rattle.branch_codegen.proofs.class_rules_laws.Tables.{table_reads}
 use Rattle.branch_codegen.proofs.meaning_sound_laws.Names.{type_at, local_kind_is}
 use Rattle.refine_form.specs.declared.spot.Spot.{Spot}
 use Rattle.refine_form.specs.declared.spot.Spot.TheVariants.{Field, Frame}

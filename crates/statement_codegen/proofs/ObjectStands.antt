@@ -18,8 +18,8 @@ use Rattle.refine_objects.specs.object_codegen.Promises.{CopyLaw}
 use Rattle.refine_objects.specs.object_codegen.Creations.{creation_words, NewLaw}
 use Rattle.refine_objects.proofs.StatedCopies.{copies_are_told, uncopies_are_told}
 use Rattle.refine_objects.proofs.StatedMade.{news_are_told, deletes_are_told}
-use Rattle.branch_codegen.specs.class_table.Statements.{class_known, construct_rules, check_statements, with_object}
-use Rattle.branch_codegen.proofs.class_table_laws.PassedRules.{both_passed}
+use Rattle.branch_codegen.specs.class_rules.Statements.{class_known, construct_rules, check_statements, with_object}
+use Rattle.branch_codegen.proofs.class_rules_laws.PassedRules.{both_passed}
 use Rattle.branch_codegen.proofs.meaning_sound_laws.Expansions.{made_in}
 use Rattle.refine_form.specs.Stands.{shape_of}
 use Rattle.branch_codegen.specs.refine_expressions.Typing.{typing_in}

@@ -8,19 +8,19 @@ use Rattle.std.specs.Option.{unwrap_or, is_none, ok_or}
 use Rattle.rpp_tree.specs.declared.tree.Ident.{Ident}
 use Rattle.rpp_tree.specs.declared.tree.Var.{Var}
 use Rattle.rpp_tree.specs.Tree.{Lvalue, Whole, Source}
-use Rattle.branch_codegen.specs.class_table.declared.kind.Kind.{Kind}
-use Rattle.branch_codegen.specs.class_table.declared.kind.Kind.TheVariants as kind
-use Rattle.branch_codegen.specs.class_table.Overrides.{parameters_of}
-use Rattle.branch_codegen.specs.class_table.Table.{Table, table_of, slot_in, dispatch_in}
-use Rattle.branch_codegen.specs.class_table.Refusal.{unknown_name, type_differs, wrong_arity}
-use Rattle.branch_codegen.specs.class_table.Scope.{Typing, Locals, kind_of, kind_in}
-use Rattle.branch_codegen.specs.class_table.Inheritance.{kind_of_var}
-use Rattle.branch_codegen.specs.class_table.Expressions.{and_then, variable_type}
-use Rattle.branch_codegen.specs.class_table.Statements.{passed, required, each_passes, each_passes_after, argument_known, argument_new}
-use Rattle.branch_codegen.specs.class_table.Statements.{argument_fits, arguments_fit, receiver_kind, place_class, receiver_class}
-use Rattle.branch_codegen.specs.class_table.Statements.{plain_receiver, slot_rules, call_rules}
-use Rattle.branch_codegen.proofs.class_table_laws.PassedRules.{both_passed, held, handed_on, kinds_same}
-use Rattle.branch_codegen.proofs.class_table_laws.FoundMethods.{slot_inside}
+use Rattle.branch_codegen.specs.class_rules.declared.kind.Kind.{Kind}
+use Rattle.branch_codegen.specs.class_rules.declared.kind.Kind.TheVariants as kind
+use Rattle.branch_codegen.specs.class_rules.Overrides.{parameters_of}
+use Rattle.branch_codegen.specs.class_rules.Table.{Table, table_of, slot_in, dispatch_in}
+use Rattle.branch_codegen.specs.class_rules.Refusal.{unknown_name, type_differs, wrong_arity}
+use Rattle.branch_codegen.specs.class_rules.Scope.{Typing, Locals, kind_of, kind_in}
+use Rattle.branch_codegen.specs.class_rules.Inheritance.{kind_of_var}
+use Rattle.branch_codegen.specs.class_rules.Expressions.{and_then, variable_type}
+use Rattle.branch_codegen.specs.class_rules.Statements.{passed, required, each_passes, each_passes_after, argument_known, argument_new}
+use Rattle.branch_codegen.specs.class_rules.Statements.{argument_fits, arguments_fit, receiver_kind, place_class, receiver_class}
+use Rattle.branch_codegen.specs.class_rules.Statements.{plain_receiver, slot_rules, call_rules}
+use Rattle.branch_codegen.proofs.class_rules_laws.PassedRules.{both_passed, held, handed_on, kinds_same}
+use Rattle.branch_codegen.proofs.class_rules_laws.FoundMethods.{slot_inside}
 use Rattle.refine_form.specs.Form.{Scope}
 use Rattle.refine_form.specs.Stands.{shape_of}
 use Rattle.branch_codegen.specs.method_calls.Names.{AllTyped}

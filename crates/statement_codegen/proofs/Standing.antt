@@ -10,10 +10,10 @@ use Rattle.rpp_tree.specs.Tree.{Expression, Statement, Statements, Update, If, F
 use Rattle.rpp_tree.specs.Places.{statement_place}
 use Rattle.rpp_tree.specs.Views.{source_of}
 use Rattle.rpp_tree.specs.Parts.{expression_places, var_places, statement_places, block_places}
-use Rattle.branch_codegen.specs.class_table.Scope.{Typing, Locals}
-use Rattle.branch_codegen.specs.class_table.Statements.{test_rules, local_rules, construct_rules, with_local, with_object}
-use Rattle.branch_codegen.specs.class_table.Statements.{check_statement, check_statements}
-use Rattle.branch_codegen.proofs.class_table_laws.PassedRules.{both_passed}
+use Rattle.branch_codegen.specs.class_rules.Scope.{Typing, Locals}
+use Rattle.branch_codegen.specs.class_rules.Statements.{test_rules, local_rules, construct_rules, with_local, with_object}
+use Rattle.branch_codegen.specs.class_rules.Statements.{check_statement, check_statements}
+use Rattle.branch_codegen.proofs.class_rules_laws.PassedRules.{both_passed}
 use Rattle.refine_form.specs.Stands.{shape_of}
 use Rattle.branch_codegen.specs.code_scope.Visible.{Visible}
 use Rattle.branch_codegen.specs.refine_expressions.Typing.{typing_in}

@@ -13,17 +13,17 @@ use Rattle.rpp_tree.specs.declared.tree.UpdateOp.{UpdateOp}
 use Rattle.rpp_tree.specs.Tree.{Expression, Number, Null, Variable, Element, Binary, Lvalue, Statements, Update, Swap}
 use Rattle.rpp_tree.specs.Tree.{If, From, Local, Source, nodes}
 use Rattle.rpp_tree.specs.Views.{source_of}
-use Rattle.branch_codegen.specs.class_table.declared.kind.Kind.{Kind}
-use Rattle.branch_codegen.specs.class_table.declared.kind.Kind.TheVariants as kind
-use Rattle.branch_codegen.specs.class_table.Overrides.{is_type_int, same_type}
-use Rattle.branch_codegen.specs.class_table.Table.{table_of, class_of}
-use Rattle.branch_codegen.specs.class_table.Refusal.{redeclared, type_differs, local_in_own_expression}
-use Rattle.branch_codegen.specs.class_table.Scope.{Typing, Locals, local_kind, kind_of, class_kind, array_kind}
-use Rattle.branch_codegen.specs.class_table.Expressions.{is_int, type_of, occurs, first_token}
-use Rattle.branch_codegen.specs.class_table.Statements.{passed, required, in_turn, test_rules, type_known, is_nil_word, local_rules}
-use Rattle.branch_codegen.specs.class_table.Statements.{with_local, check_statements}
-use Rattle.branch_codegen.proofs.class_table_laws.FirstPlaces.{same_name}
-use Rattle.branch_codegen.proofs.class_table_laws.PassedRules.{both_passed, held, handed_on, both_true, neither_true, int_kind}
+use Rattle.branch_codegen.specs.class_rules.declared.kind.Kind.{Kind}
+use Rattle.branch_codegen.specs.class_rules.declared.kind.Kind.TheVariants as kind
+use Rattle.branch_codegen.specs.class_rules.Overrides.{is_type_int, same_type}
+use Rattle.branch_codegen.specs.class_rules.Table.{table_of, class_of}
+use Rattle.branch_codegen.specs.class_rules.Refusal.{redeclared, type_differs, local_in_own_expression}
+use Rattle.branch_codegen.specs.class_rules.Scope.{Typing, Locals, local_kind, kind_of, class_kind, array_kind}
+use Rattle.branch_codegen.specs.class_rules.Expressions.{is_int, type_of, occurs, first_token}
+use Rattle.branch_codegen.specs.class_rules.Statements.{passed, required, in_turn, test_rules, type_known, is_nil_word, local_rules}
+use Rattle.branch_codegen.specs.class_rules.Statements.{with_local, check_statements}
+use Rattle.branch_codegen.proofs.class_rules_laws.FirstPlaces.{same_name}
+use Rattle.branch_codegen.proofs.class_rules_laws.PassedRules.{both_passed, held, handed_on, both_true, neither_true, int_kind}
 use Rattle.branch_codegen.specs.paired_code.declared.part.Symbol.{Symbol}
 use Rattle.branch_codegen.specs.meaning_sound.Plain.{HasWords}
 use Rattle.branch_codegen.proofs.meaning_sound_laws.Locals.{no_int_class}

@@ -6,7 +6,7 @@ use Rattle.rpp_tree.specs.declared.limits.TheConstants.{MOST_NODES}
 use Rattle.rpp_tree.specs.Limits.{statement_locals}
 use Rattle.rpp_tree.specs.Tree.{Statement, Statements, Procedure, statement_nodes}
 use Rattle.rpp_tree.specs.Views.{source_of}
-use Rattle.branch_codegen.specs.class_table.Statements.{passed, check_statement}
+use Rattle.branch_codegen.specs.class_rules.Statements.{passed, check_statement}
 use Rattle.branch_codegen.specs.meaning_sound.Plain.{StatementHasWords}
 use Rattle.branch_codegen.specs.paired_code.declared.part.Symbol.{Symbol}
 use Rattle.branch_codegen.specs.code_conventions.declared.memory.TheConstants.{MOST_VARIABLES}

@@ -6,7 +6,7 @@ use Rattle.rpp_tree.specs.Tree.{Statement, Statements, Source}
 use Rattle.rpp_tree.specs.Views.{source_of}
 use Rattle.rpp_tree.specs.Parts.{statement_places, block_places, statement_tokens, block_tokens}
 use Rattle.rpp_tree.specs.Limits.{locals, AreSmall, AreInnerSmall}
-use Rattle.branch_codegen.specs.class_table.Statements.{passed, check_statements}
+use Rattle.branch_codegen.specs.class_rules.Statements.{passed, check_statements}
 use Rattle.branch_codegen.specs.paired_code.declared.part.Symbol.{Symbol}
 use Rattle.branch_codegen.specs.paired_code.Code.{Code}
 use Rattle.branch_codegen.specs.meaning_sound.Plain.{StatementIsPlain, BlockHasWords, IsPlain}

@@ -3,8 +3,8 @@ ghost use Rattle.std.specs.Prelude.{◌≡◌, ◌<◌, ◌≤◌, ◌^◌, ◌+
 ghost use Rattle.std.specs.List.{All};
 ghost use Rattle.std.specs.Option.{option_map, unwrap_or};
 ghost use Rattle.rpp_tree.specs.Views.{source_of};
-ghost use Rattle.branch_codegen.specs.class_table.Table.{table_of, class_of, slot_in};
-ghost use Rattle.branch_codegen.specs.class_table.Scope.{kind_of};
+ghost use Rattle.branch_codegen.specs.class_rules.Table.{table_of, class_of, slot_in};
+ghost use Rattle.branch_codegen.specs.class_rules.Scope.{kind_of};
 ghost use Rattle.refine_form.specs.Held.{Holds};
 ghost use Rattle.branch_codegen.specs.code_scope.Visible.{spot_of as spot_of_name, known_in};
 ghost use Rattle.branch_codegen.specs.method_calls.Facts.{IsNear};

@@ -6,15 +6,15 @@ use Rattle.std.proofs.lemmas.List.{length-map}
 use Rattle.roopl_semantics.specs.rpp_tree.declared.limits.TheConstants.{MOST_FIELDS, MOST_METHODS}
 use Rattle.roopl_semantics.specs.rpp_tree.declared.limits.LimitKind.TheVariants as limit
 use Rattle.roopl_semantics.specs.rpp_tree.Tree.{Source}
-use Rattle.roopl_semantics.specs.class_table.declared.error.ClassError.TheVariants.{Limit}
-use Rattle.roopl_semantics.specs.class_table.First.{refused_if}
-use Rattle.roopl_semantics.specs.class_table.Rules.{name_of}
-use Rattle.roopl_semantics.specs.class_table.Members.{Slots, class_at, fields_of, slots_of, too_many_fields_at, too_many_slots_at}
-use Rattle.roopl_semantics.specs.class_table.Classes.{class_fields, class_slots}
-use Rattle.roopl_semantics.specs.class_table.Table.{table_of, slots_in}
-use Rattle.roopl_semantics.specs.class_table.Program.{IsAccepted}
-use Rattle.roopl_semantics.proofs.class_table_laws.FreshFields.{passed_at}
-use Rattle.roopl_semantics.proofs.class_table_laws.Tables.{table_reads}
+use Rattle.roopl_semantics.specs.class_rules.declared.error.ClassError.TheVariants.{Limit}
+use Rattle.roopl_semantics.specs.class_rules.First.{refused_if}
+use Rattle.roopl_semantics.specs.class_rules.Rules.{name_of}
+use Rattle.roopl_semantics.specs.class_rules.Members.{Slots, class_at, fields_of, slots_of, too_many_fields_at, too_many_slots_at}
+use Rattle.roopl_semantics.specs.class_rules.Classes.{class_fields, class_slots}
+use Rattle.roopl_semantics.specs.class_rules.Table.{table_of, slots_in}
+use Rattle.roopl_semantics.specs.class_rules.Program.{IsAccepted}
+use Rattle.roopl_semantics.proofs.class_rules_laws.FreshFields.{passed_at}
+use Rattle.roopl_semantics.proofs.class_rules_laws.Tables.{table_reads}
 use Rattle.roopl_semantics.specs.code_conventions.declared.memory.TheConstants.{FIRST_FIELD, TABLE_HEADER}
 use Rattle.roopl_semantics.specs.Layout.{table_at}
 use Rattle.roopl_semantics.proofs.MainPlace.{table_rules}

@@ -1,3 +1,2 @@
-pub use Rattle.rpp_tree.specs as rpp_tree
-pub mod Inverse
-pub mod Laws
+pub use Rattle.inverse_rules.specs.rpp_tree
+pub use Rattle.inverse_rules.specs as inverse_rules

@@ -1,7 +1,7 @@
 // The inverses of statements and blocks.
 ghost use Rattle.std.specs.Prelude.{◌≡◌, IfOk};
 ghost use Rattle.rpp_tree.specs.Views.{statement_of, block_of};
-ghost use Rattle.stmt_inverter.specs.Inverse.{call_direction, inverse_statement_as, inverse_as, inverse_statement, inverse};
+ghost use Rattle.inverse_rules.specs.Inverse.{call_direction, inverse_statement_as, inverse_as, inverse_statement, inverse};
 
 use crate::form::{
     call, conditional, construct, copy_stmt, delete_stmt, invert_op, local, new_stmt, turns,

@@ -2,7 +2,7 @@
 ghost use Rattle.std.specs.Prelude.{◌≡◌, IfOk};
 ghost use Rattle.rpp_tree.specs.Tree.{Update, If, From as FromLoop, Construct, Local, New, Delete, Copy as CopyTo, Uncopy, Call};
 ghost use Rattle.rpp_tree.specs.Views.{expression_of, lvalue_of, creation_of, optional_lvalue_of, statement_of, block_of};
-ghost use Rattle.stmt_inverter.specs.Inverse.{inverse_operator};
+ghost use Rattle.inverse_rules.specs.Inverse.{inverse_operator};
 
 use rpp_tree::tree::{Block, Expr, Ident, Made, Place, Stmt, UpdateOp, Var, VarType};
 use rpp_tree::copy_names;

@@ -1,7 +1,7 @@
 // The inverses of programs.
 ghost use Rattle.std.specs.Prelude.{◌≡◌, IfOk, map};
 ghost use Rattle.rpp_tree.specs.Views.{procedure_of, class_text_of, source_of};
-ghost use Rattle.stmt_inverter.specs.Inverse.{inverse_procedure, inverse_class, inverse_program};
+ghost use Rattle.inverse_rules.specs.Inverse.{inverse_procedure, inverse_class, inverse_program};
 
 use crate::code::undo_block;
 use rpp_tree::tree::{Class, Method, Program};

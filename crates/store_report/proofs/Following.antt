@@ -90,7 +90,7 @@ module _ (program : Source) (store : Store) (base : ℕ) (blocks : List (ℕ × 
       (λ i l. ap (λ a. word_at mem (a + HEADER_WORDS + i)) m.at ∙ facts.part n i m.good l))
 
   main_types : (f : Rattle.rpp_tree.specs.declared.tree.VarType.VarType
-      → Rattle.refine_frame.specs.class_table.declared.kind.Kind.Kind)
+      → Rattle.refine_frame.specs.class_rules.declared.kind.Kind.Kind)
       (vars : List Rattle.rpp_tree.specs.declared.tree.Var.Var)
       → map f (types_of vars) ≡ map (λ var. f var.kind) vars
   main_types f [] = refl

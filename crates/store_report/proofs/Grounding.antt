@@ -7,8 +7,8 @@ use Rattle.std.specs.Prelude.{slice_index, is_some}
 use Rattle.std.specs.Option.{option_map}
 use Rattle.refine_frame.specs.rpp_words.declared.input.FieldWord.{FieldWord}
 use Rattle.rpp_tree.specs.Tree.{Source}
-use Rattle.refine_frame.specs.class_table.Classes.{main_of}
-use Rattle.refine_frame.specs.class_table.Program.{IsAccepted}
+use Rattle.refine_frame.specs.class_rules.Classes.{main_of}
+use Rattle.refine_frame.specs.class_rules.Program.{IsAccepted}
 use Rattle.refine_frame.specs.buddy_book.Place.{block_of, count_taken}
 use Rattle.refine_frame.specs.code_conventions.declared.memory.TheConstants.{COUNT_WORD, HEADER_WORDS}
 use Rattle.static_layout.specs.roopl_semantics.Store.{OfClass, State, main_name, object_at}

@@ -15,10 +15,10 @@ use Rattle.rpp_tree.specs.declared.tree.Var.{Var}
 use Rattle.rpp_tree.specs.declared.tree.VarType.{VarType}
 use Rattle.rpp_tree.specs.declared.tree.VarType.TheVariants as type
 use Rattle.rpp_tree.specs.Tree.{Source}
-use Rattle.refine_frame.specs.class_table.Classes.{class_fields}
-use Rattle.refine_frame.specs.class_table.Members.{fields_of}
-use Rattle.refine_frame.specs.class_table.Table.{Table, table_of, fields_in}
-use Rattle.refine_frame.proofs.class_table_laws.Numbers.{length-each_below, each_below-get}
+use Rattle.refine_frame.specs.class_rules.Classes.{class_fields}
+use Rattle.refine_frame.specs.class_rules.Members.{fields_of}
+use Rattle.refine_frame.specs.class_rules.Table.{Table, table_of, fields_in}
+use Rattle.refine_frame.proofs.class_rules_laws.Numbers.{length-each_below, each_below-get}
 use Rattle.refine_frame.specs.code_conventions.declared.memory.TheConstants.{COUNT_WORD, HEADER_WORDS}
 use Rattle.static_layout.specs.roopl_semantics.Source.{main_fields}
 use Rattle.static_layout.specs.roopl_semantics.Report.{number_shown, field_lines, element_lines, head_shown, cell_lines, live_line}
@@ -28,7 +28,7 @@ use Rattle.static_layout.specs.roopl_semantics.Walk.{newly_reached, reached_with
 use Rattle.pisa_machine.specs.pisa_isa.Loaded.{statics_at}
 use Rattle.pisa_machine.specs.pisa_isa.Machine.{word_at}
 use Rattle.refine_frame.proofs.meaning_sound_laws.Stores.{same_number, other_number, differs}
-use Rattle.refine_frame.proofs.class_table_laws.FirstPlaces.{position_cons}
+use Rattle.refine_frame.proofs.class_rules_laws.FirstPlaces.{position_cons}
 use Rattle.store_report.specs.declared.leads.Lead.{Lead}
 use Rattle.store_report.specs.Told.{value_told, values_told, head_told, address_of, lines_told, report_told}
 use Rattle.store_report.specs.Leads.{Met, lead_of, leads_of, is_reference, address_met, is_unmet, meets_one, meets}

@@ -13,14 +13,14 @@ use Rattle.refine_frame.proofs.rpp_words_laws.AsciiNames.{name_bytes_ascii}
 use Rattle.rpp_tree.specs.Names.{IsName}
 use Rattle.rpp_tree.specs.Parts.{type_names, var_names, procedure_names, parent_names, class_names, source_names}
 use Rattle.rpp_tree.specs.Tree.{ClassText, Source}
-use Rattle.refine_frame.specs.class_table.Chains.{line_of}
-use Rattle.refine_frame.specs.class_table.First.{each_below}
-use Rattle.refine_frame.specs.class_table.Members.{class_at, no_class, fields_along, fields_of}
-use Rattle.refine_frame.specs.class_table.Table.{table_of, fields_in}
-use Rattle.refine_frame.proofs.class_table_laws.Numbers.{length-each_below, each_below-get}
-use Rattle.refine_frame.specs.class_table.Program.{IsAccepted}
+use Rattle.refine_frame.specs.class_rules.Chains.{line_of}
+use Rattle.refine_frame.specs.class_rules.First.{each_below}
+use Rattle.refine_frame.specs.class_rules.Members.{class_at, no_class, fields_along, fields_of}
+use Rattle.refine_frame.specs.class_rules.Table.{table_of, fields_in}
+use Rattle.refine_frame.proofs.class_rules_laws.Numbers.{length-each_below, each_below-get}
+use Rattle.refine_frame.specs.class_rules.Program.{IsAccepted}
 use Rattle.static_layout.specs.roopl_semantics.Source.{main_fields}
-use Rattle.refine_frame.specs.class_table.Classes.{main_of, class_fields}
+use Rattle.refine_frame.specs.class_rules.Classes.{main_of, class_fields}
 use Rattle.store_report.specs.Ascii.{HasAsciiName, AreAscii}
 
 name_ascii : (text : List ℕ) → IsName text → IsAscii text

@@ -2,8 +2,8 @@
 use Rattle.std.proofs.Common.{◌≡◌, ◌∙◌, ap, ℕ, List, arith}
 use Rattle.rpp_tree.specs.declared.tree.Var.{Var}
 use Rattle.rpp_tree.specs.Tree.{Source}
-use Rattle.refine_frame.specs.class_table.Table.{table_of}
-use Rattle.refine_frame.specs.class_table.Program.{IsAccepted}
+use Rattle.refine_frame.specs.class_rules.Table.{table_of}
+use Rattle.refine_frame.specs.class_rules.Program.{IsAccepted}
 use Rattle.static_layout.specs.roopl_semantics.Source.{main_fields}
 use Rattle.static_layout.specs.roopl_semantics.Layout.{table_addresses}
 use Rattle.static_layout.proofs.roopl_semantics_laws.MainPlace.{class_inside}

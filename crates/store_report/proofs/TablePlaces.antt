@@ -5,13 +5,13 @@ use Rattle.std.proofs.lemmas.Bool.{ltb-true, ltb-false}
 use Rattle.std.specs.Prelude.{nat_eq, nat_lt, position}
 use Rattle.std.specs.Option.{option_map}
 use Rattle.rpp_tree.specs.Tree.{Source}
-use Rattle.refine_frame.specs.class_table.First.{each_below}
-use Rattle.refine_frame.proofs.class_table_laws.Numbers.{length-each_below}
+use Rattle.refine_frame.specs.class_rules.First.{each_below}
+use Rattle.refine_frame.proofs.class_rules_laws.Numbers.{length-each_below}
 use Rattle.static_layout.specs.roopl_semantics.Layout.{table_at}
 use Rattle.static_layout.specs.roopl_semantics.Walk.{class_with_table}
 use Rattle.refine_frame.proofs.meaning_sound_laws.Stores.{same_number, other_number}
 use Rattle.refine_frame.proofs.TableWords.{tables_ascend}
-use Rattle.refine_frame.proofs.class_table_laws.FirstPlaces.{position_cons, position_before}
+use Rattle.refine_frame.proofs.class_rules_laws.FirstPlaces.{position_cons, position_before}
 
 abbrev NoneOf : (ℕ → Bool) → List ℕ → Type 0
 NoneOf p [] = Unit {0}

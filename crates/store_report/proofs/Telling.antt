@@ -9,16 +9,16 @@ use Rattle.rpp_tree.specs.declared.tree.Var.{Var}
 use Rattle.rpp_tree.specs.declared.tree.VarType.{VarType}
 use Rattle.rpp_tree.specs.declared.tree.VarType.TheVariants as type
 use Rattle.rpp_tree.specs.Tree.{Source}
-use Rattle.refine_frame.specs.class_table.declared.kind.Kind.{Kind}
-use Rattle.refine_frame.specs.class_table.declared.kind.Kind.TheVariants as kind
-use Rattle.refine_frame.specs.class_table.Classes.{class_fields}
-use Rattle.refine_frame.specs.class_table.Table.{table_of, class_of}
-use Rattle.refine_frame.specs.class_table.Scope.{kind_of, class_kind, array_kind}
+use Rattle.refine_frame.specs.class_rules.declared.kind.Kind.{Kind}
+use Rattle.refine_frame.specs.class_rules.declared.kind.Kind.TheVariants as kind
+use Rattle.refine_frame.specs.class_rules.Classes.{class_fields}
+use Rattle.refine_frame.specs.class_rules.Table.{table_of, class_of}
+use Rattle.refine_frame.specs.class_rules.Scope.{kind_of, class_kind, array_kind}
 use Rattle.refine_frame.specs.buddy_book.Place.{block_of}
 use Rattle.refine_frame.specs.code_conventions.declared.memory.TheConstants.{COUNT_WORD, HEADER_WORDS}
 use Rattle.static_layout.specs.roopl_semantics.Store.{Value, Word, Nil, Name, Head, OfClass, OfInts, OfObjects, Object, Store}
 use Rattle.static_layout.specs.roopl_semantics.Store.{main_name, object_named, object_at}
-use Rattle.refine_frame.specs.class_table.Classes.{main_of}
+use Rattle.refine_frame.specs.class_rules.Classes.{main_of}
 use Rattle.static_layout.specs.roopl_semantics.Agreement.{renamed}
 use Rattle.static_layout.specs.roopl_semantics.Laws.{holders_among, holders}
 use Rattle.static_layout.specs.roopl_semantics.Report.{newly_met}
@@ -29,8 +29,8 @@ use Rattle.pisa_machine.specs.pisa_isa.Loaded.{statics_at}
 use Rattle.pisa_machine.specs.pisa_isa.Machine.{word_at}
 use Rattle.refine_frame.specs.meaning_sound.Sound.{head_of, head_named, head_fits, named_fits, fits, cell_kinds, is_live, AllFit}
 use Rattle.refine_frame.proofs.meaning_sound_laws.Stores.{same_number, other_number, differs, live_object}
-use Rattle.refine_frame.proofs.class_table_laws.FoundMethods.{own_range}
-use Rattle.refine_frame.specs.class_table.Inheritance.{kind_of_var}
+use Rattle.refine_frame.proofs.class_rules_laws.FoundMethods.{own_range}
+use Rattle.refine_frame.specs.class_rules.Inheritance.{kind_of_var}
 use Rattle.refine_frame.proofs.meaning_sound_laws.Makes.{class_is_inside}
 use Rattle.store_report.specs.Told.{reference_told, value_told, values_told, head_told}
 use Rattle.store_report.proofs.TablePlaces.{class_told}

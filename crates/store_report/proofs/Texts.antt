@@ -6,11 +6,11 @@ use Rattle.std.specs.Fmt.{decimal}
 use Rattle.refine_frame.specs.rpp_words.Texts.{line_end}
 use Rattle.rpp_tree.specs.declared.tree.Var.{Var}
 use Rattle.rpp_tree.specs.Tree.{Source}
-use Rattle.refine_frame.specs.class_table.Classes.{class_fields}
+use Rattle.refine_frame.specs.class_rules.Classes.{class_fields}
 use Rattle.static_layout.specs.roopl_semantics.Store.{Value, Word, Nil, Name, Head, OfClass, OfInts, OfObjects}
 use Rattle.static_layout.specs.roopl_semantics.Agreement.{renamed}
 use Rattle.static_layout.specs.roopl_semantics.Report.{Text, number_shown, value_shown, field_lines, element_lines, cell_lines}
-use Rattle.refine_frame.proofs.class_table_laws.FirstPlaces.{position_cons}
+use Rattle.refine_frame.proofs.class_rules_laws.FirstPlaces.{position_cons}
 
 -- object ids that are distinguished by their addresses
 module _ (there : ℕ → ℕ) (Good : ℕ → Type 0) (apart : (n m : ℕ) → Good n → Good m

@@ -3,8 +3,8 @@ use Rattle.std.specs.Prelude.{ℕ, All}
 use Rattle.std.specs.Str.{IsAscii}
 use Rattle.rpp_tree.specs.declared.tree.Var.{Var}
 use Rattle.rpp_tree.specs.Tree.{Source}
-use Rattle.refine_frame.specs.class_table.Members.{class_at}
-use Rattle.refine_frame.specs.class_table.Table.{Table, fields_in}
+use Rattle.refine_frame.specs.class_rules.Members.{class_at}
+use Rattle.refine_frame.specs.class_rules.Table.{Table, fields_in}
 
 abbrev pub HasAsciiName : Var → Type 0
 HasAsciiName var = IsAscii var.name.text

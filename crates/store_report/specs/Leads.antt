@@ -9,7 +9,7 @@ use Rattle.indexmap.specs.IndexMap.{insert_entry}
 use Rattle.rpp_tree.specs.declared.tree.Var.{Var}
 use Rattle.rpp_tree.specs.declared.tree.VarType.{VarType}
 use Rattle.rpp_tree.specs.declared.tree.VarType.TheVariants as type
-use Rattle.refine_frame.specs.class_table.Table.{Table, class_of, fields_in}
+use Rattle.refine_frame.specs.class_rules.Table.{Table, class_of, fields_in}
 use Rattle.pisa_machine.specs.pisa_isa.Loaded.{statics_at}
 use Rattle.pisa_machine.specs.pisa_isa.Machine.{word_at}
 use Rattle.refine_frame.specs.code_conventions.declared.memory.TheConstants.{HEADER_WORDS}

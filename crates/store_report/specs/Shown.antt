@@ -4,7 +4,7 @@ use Rattle.std.specs.Fmt.{decimal}
 use Rattle.refine_frame.specs.rpp_words.Texts.{line_end}
 use Rattle.rpp_tree.specs.declared.tree.Var.{Var}
 use Rattle.rpp_tree.specs.Tree.{Source}
-use Rattle.refine_frame.specs.class_table.Table.{Table, fields_in}
+use Rattle.refine_frame.specs.class_rules.Table.{Table, fields_in}
 use Rattle.static_layout.specs.roopl_semantics.Store.{Value, Word, Head, OfClass, OfInts, OfObjects}
 use Rattle.static_layout.specs.roopl_semantics.Report.{Text, number_shown, field_lines, element_lines, head_shown}
 use Rattle.static_layout.specs.roopl_semantics.Report.{live_line}

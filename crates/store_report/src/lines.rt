@@ -2,7 +2,7 @@
 ghost use Rattle.std.specs.Prelude.{◌≡◌, ◌++◌, string_bytes, OnOk};
 ghost use Rattle.std.specs.Str.{IsAscii};
 ghost use Rattle.rpp_tree.specs.Views.{source_of};
-ghost use Rattle.refine_frame.specs.class_table.Members.{class_at};
+ghost use Rattle.refine_frame.specs.class_rules.Members.{class_at};
 ghost use Rattle.static_layout.specs.roopl_semantics.Report.{signed_decimal, live_line};
 
 use rpp_tree::Text;

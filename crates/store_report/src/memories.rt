@@ -6,8 +6,8 @@ ghost use Rattle.rpp_tree.specs.declared.limits.TheConstants.{MOST_FIELDS, MOST_
 ghost use Rattle.refine_frame.specs.rpp_words.declared.input.FieldWord.{FieldWord};
 ghost use Rattle.refine_frame.specs.rpp_words.Texts.{line_end};
 ghost use Rattle.rpp_tree.specs.Views.{source_of};
-ghost use Rattle.refine_frame.specs.class_table.Members.{class_at};
-ghost use Rattle.refine_frame.specs.class_table.Table.{fields_in};
+ghost use Rattle.refine_frame.specs.class_rules.Members.{class_at};
+ghost use Rattle.refine_frame.specs.class_rules.Table.{fields_in};
 ghost use Rattle.static_layout.specs.roopl_semantics.Store.{State};
 ghost use Rattle.static_layout.specs.roopl_semantics.Source.{starting};
 ghost use Rattle.static_layout.specs.roopl_semantics.Report.{report as report_of, field_lines, element_lines, value_shown, number_shown, head_shown};

@@ -8,8 +8,8 @@ use Rattle.rpp_generator.proofs.rpp_words_laws.AsciiNames.{name_bytes_ascii}
 use Rattle.roopl_judge.specs.rpp_tree.Names.{IsName}
 use Rattle.roopl_judge.specs.rpp_tree.Parts.{source_names}
 use Rattle.roopl_judge.specs.rpp_tree.Tree.{Source}
-use Rattle.roopl_judge.specs.class_table.Program.{IsAccepted}
-use Rattle.meaning_inverse.specs.stmt_inverter.Inverse.{inverse_program}
+use Rattle.roopl_judge.specs.class_rules.Program.{IsAccepted}
+use Rattle.meaning_inverse.specs.inverse_rules.Inverse.{inverse_program}
 use Rattle.meaning_inverse.proofs.SameTypes.{inverse_accepted}
 
 name_ascii : (name : Ident) → IsName name.text → IsAscii name.text

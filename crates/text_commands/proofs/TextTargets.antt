@@ -4,7 +4,7 @@ use Rattle.std.specs.Prelude.{Result}
 use Rattle.std.specs.declared.option.Option.{Option}
 use Rattle.command_plan.specs.rpp_ports.Ports.{Texts}
 use Rattle.roopl_judge.specs.rpp_tree.Tree.{Source}
-use Rattle.roopl_judge.specs.class_table.Refusal.{Refusal}
+use Rattle.roopl_judge.specs.class_rules.Refusal.{Refusal}
 use Rattle.command_plan.specs.Plans.{Planned, WritesOnly}
 use Rattle.text_commands.specs.TextPlans.{WritesInverse, Generates, ShowsInverse}
 use Rattle.command_plan.proofs.Writes.{along}

@@ -7,9 +7,9 @@ use Rattle.roopl_judge.specs.rpp_tree.declared.limits.TheConstants.{MOST_BYTES}
 use Rattle.roopl_judge.specs.rpp_tree.Tree.{Source}
 use Rattle.command_plan.specs.rpp_ports.Ports.{Texts}
 use Rattle.rpp_generator.specs.Generated.{generated}
-use Rattle.roopl_judge.specs.class_table.Refusal.{Refusal}
+use Rattle.roopl_judge.specs.class_rules.Refusal.{Refusal}
 use Rattle.roopl_judge.specs.Judged.{IsJudged}
-use Rattle.meaning_inverse.specs.stmt_inverter.Inverse.{inverse_program}
+use Rattle.meaning_inverse.specs.inverse_rules.Inverse.{inverse_program}
 use Rattle.roopl_printer.specs.Spelled.{printed}
 use Rattle.command_plan.specs.declared.plan.Verdict.TheVariants.{SourceRefused}
 use Rattle.command_plan.specs.Plans.{Planned, prints, writes, WithText}

@@ -2,7 +2,7 @@
 ghost use Rattle.std.specs.Prelude.{◌≡◌, ◌≤◌, [], ◌∷◌, length, IfOk, IfSome};
 ghost use Rattle.roopl_judge.specs.rpp_tree.Views.{source_of};
 ghost use Rattle.roopl_judge.specs.rpp_tree.declared.limits.TheConstants.{MOST_BYTES};
-ghost use Rattle.meaning_inverse.specs.stmt_inverter.Inverse.{inverse_program};
+ghost use Rattle.meaning_inverse.specs.inverse_rules.Inverse.{inverse_program};
 ghost use Rattle.roopl_printer.specs.Spelled.{printed};
 ghost use Rattle.command_plan.specs.Plans.{planned, GivesPlan};
 ghost use Rattle.command_plan.specs.Files.{OnlyReads, source};

@@ -13,7 +13,7 @@ use Rattle.std.proofs.lemmas.Map.Keys.{IsDistinct-push}
 use Rattle.std.proofs.lemmas.Map.Made.{All-is_member, length-le_from_is_member}
 use Rattle.program_commands.specs.rpp_tree.declared.tree.Var.{Var}
 use Rattle.program_commands.specs.rpp_tree.Tree.{Source}
-use Rattle.program_commands.specs.class_table.Program.{IsAccepted}
+use Rattle.program_commands.specs.class_rules.Program.{IsAccepted}
 use Rattle.program_commands.specs.pisa_scripts.Lines.{pieces}
 use Rattle.program_commands.specs.pisa_image.Numbers.{◌>>=◌}
 use Rattle.program_commands.specs.pisa_loader.declared.input.InputField.{InputField}

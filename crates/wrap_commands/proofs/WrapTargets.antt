@@ -7,7 +7,7 @@ use Rattle.program_commands.specs.rpp_words.declared.input.Limits.{Limits}
 use Rattle.program_commands.specs.rpp_words.declared.input.TheConstants.{MOST_DEEP}
 use Rattle.program_commands.specs.rpp_tree.Tree.{Source}
 use Rattle.program_commands.specs.rpp_ports.Ports.{Texts}
-use Rattle.program_commands.specs.class_table.Refusal.{Refusal}
+use Rattle.program_commands.specs.class_rules.Refusal.{Refusal}
 use Rattle.program_commands.specs.pisa_isa.declared.machine.Stop.{Stop}
 use Rattle.program_commands.specs.pisa_isa.declared.machine.Stop.TheVariants.{Finished, Trap, Bound, Returned}
 use Rattle.program_commands.specs.pisa_isa.declared.machine.Stop.TheVariants.{BadAddress, OffCode}

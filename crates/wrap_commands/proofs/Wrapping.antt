@@ -11,7 +11,7 @@ use Rattle.program_commands.specs.rpp_words.Limits.{IsLimits}
 use Rattle.program_commands.specs.rpp_words.declared.input.FieldWord.{FieldWord}
 use Rattle.program_commands.specs.rpp_words.declared.input.Limits.{Limits}
 use Rattle.program_commands.specs.rpp_tree.Tree.{Source}
-use Rattle.program_commands.specs.class_table.Program.{IsAccepted}
+use Rattle.program_commands.specs.class_rules.Program.{IsAccepted}
 use Rattle.program_commands.specs.pisa_isa.declared.cell.Cell.{Cell}
 use Rattle.program_commands.specs.pisa_isa.declared.machine.Stop.{Stop}
 use Rattle.program_commands.specs.pisa_isa.declared.machine.Stop.TheVariants.{Finished, Trap, Returned, BadAddress, OffCode, Bound}

@@ -9,7 +9,7 @@ use Rattle.program_commands.specs.rpp_words.declared.input.TheConstants.{MOST_DE
 use Rattle.program_commands.specs.rpp_tree.declared.limits.TheConstants.{MOST_BYTES}
 use Rattle.program_commands.specs.rpp_tree.Tree.{Source}
 use Rattle.program_commands.specs.rpp_ports.Ports.{Texts}
-use Rattle.program_commands.specs.class_table.Refusal.{Refusal}
+use Rattle.program_commands.specs.class_rules.Refusal.{Refusal}
 use Rattle.program_commands.specs.pisa_isa.declared.machine.Stop.{Stop}
 use Rattle.program_commands.specs.pisa_isa.declared.machine.Stop.TheVariants.{Finished, Trap}
 use Rattle.program_commands.specs.pisa_isa.declared.machine.Stop.TheVariants.{Bound as AtBound}

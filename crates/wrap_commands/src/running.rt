@@ -2,7 +2,7 @@
 ghost use Rattle.std.specs.Prelude.{◌≡◌, ◌<◌, ◌≤◌, ◌+◌, ◌^◌, All, IfOk};
 ghost use Rattle.program_commands.specs.rpp_tree.Views.{source_of};
 ghost use Rattle.program_commands.specs.rpp_words.Limits.{IsLimits};
-ghost use Rattle.program_commands.specs.class_table.Program.{IsAccepted};
+ghost use Rattle.program_commands.specs.class_rules.Program.{IsAccepted};
 ghost use Rattle.program_commands.specs.roopl_semantics.Source.{IsValid};
 ghost use Rattle.refine_wrap.specs.Programs.{field_cell as cell_of_field};
 ghost use Rattle.program_commands.specs.command_plan.Plans.{planned};

@@ -1,7 +1,7 @@
 use Rattle.std.proofs.Common.{◌≡◌, drop, map}
 use Rattle.rpp_tree.specs.Views.{source_of, class_text_of}
-use Rattle.class_table.specs.First.{first_at, each_below}
-use Rattle.class_table.specs.Chains.{endless_chain, line_of}
+use Rattle.class_rules.specs.First.{first_at, each_below}
+use Rattle.class_rules.specs.Chains.{endless_chain, line_of}
 use Rattle.class_table.proofs.chains.lines.Given as goal
 
 abbrev pub invariant-loop-number : goal.invariant-loop-number

@@ -1,6 +1,6 @@
 use Rattle.std.proofs.Common.{◌≡◌, drop, map}
-use Rattle.class_table.specs.Names.{with_names}
-use Rattle.class_table.specs.Members.{field_name}
+use Rattle.class_rules.specs.Names.{with_names}
+use Rattle.class_rules.specs.Members.{field_name}
 use Rattle.class_table.proofs.fields.add_field_names.Given as goal
 
 abbrev pub invariant-loop-var : goal.invariant-loop-var

@@ -1,5 +1,5 @@
 use Rattle.std.proofs.Common.{◌≡◌, drop}
-use Rattle.class_table.specs.Members.{taken_field}
+use Rattle.class_rules.specs.Members.{taken_field}
 use Rattle.class_table.proofs.fields.check_own_fields.Given as goal
 
 abbrev pub invariant-loop-var : goal.invariant-loop-var

@@ -1,8 +1,8 @@
 use Rattle.std.proofs.Common.{◌≡◌, ◌∙◌, sym, true}
 use Rattle.std.specs.Result.{is_ok}
 use Rattle.rpp_tree.specs.Views.{source_of, class_text_of}
-use Rattle.class_table.specs.Members.{fields_of, too_many_fields_at}
-use Rattle.class_table.proofs.Numbers.{each_below-next, first_at-next}
+use Rattle.class_rules.specs.Members.{fields_of, too_many_fields_at}
+use Rattle.class_rules.proofs.Numbers.{each_below-next, first_at-next}
 use Rattle.class_table.proofs.fields.fields.Goals as goal
 
 pub loop-number-preserved : goal.loop-number-preserved

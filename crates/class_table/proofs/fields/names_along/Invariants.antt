@@ -1,6 +1,6 @@
 use Rattle.std.proofs.Common.{◌≡◌, [], drop}
 use Rattle.rpp_tree.specs.Views.{source_of}
-use Rattle.class_table.specs.Members.{names_along}
+use Rattle.class_rules.specs.Members.{names_along}
 use Rattle.class_table.proofs.fields.names_along.Given as goal
 
 abbrev pub invariant-loop-number : goal.invariant-loop-number

@@ -1,5 +1,5 @@
 use Rattle.std.proofs.Common.{◌≡◌, None, take, drop, map}
-use Rattle.class_table.specs.Members.{field_name, taken_field}
+use Rattle.class_rules.specs.Members.{field_name, taken_field}
 use Rattle.class_table.proofs.fields.names_of.Given as goal
 
 abbrev pub invariant-loop-var : goal.invariant-loop-var

@@ -1,7 +1,7 @@
 use Rattle.std.proofs.Common.{◌≡◌, [], take, drop, map}
 use Rattle.rpp_tree.specs.Views.{procedure_of}
-use Rattle.class_table.specs.First.{first_after}
-use Rattle.class_table.specs.Overrides.{method_name, method_taken}
+use Rattle.class_rules.specs.First.{first_after}
+use Rattle.class_rules.specs.Overrides.{method_name, method_taken}
 use Rattle.class_table.proofs.overrides.check_own_methods.Given as goal
 
 abbrev pub invariant-loop-method : goal.invariant-loop-method

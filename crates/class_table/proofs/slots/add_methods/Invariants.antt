@@ -1,6 +1,6 @@
 use Rattle.std.proofs.Common.{◌≡◌, drop, map}
 use Rattle.rpp_tree.specs.Views.{procedure_of}
-use Rattle.class_table.specs.Members.{with_methods}
+use Rattle.class_rules.specs.Members.{with_methods}
 use Rattle.class_table.proofs.slots.add_methods.Given as goal
 
 abbrev pub invariant-loop-number : goal.invariant-loop-number

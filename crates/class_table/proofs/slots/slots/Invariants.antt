@@ -1,7 +1,7 @@
 use Rattle.std.proofs.Common.{◌≡◌, drop, map}
 use Rattle.rpp_tree.specs.Views.{source_of, class_text_of}
-use Rattle.class_table.specs.First.{first_at, each_below}
-use Rattle.class_table.specs.Members.{too_many_slots_at, slots_of}
+use Rattle.class_rules.specs.First.{first_at, each_below}
+use Rattle.class_rules.specs.Members.{too_many_slots_at, slots_of}
 use Rattle.class_table.proofs.slots.slots.Given as goal
 
 abbrev pub invariant-loop-number : goal.invariant-loop-number

@@ -1,8 +1,8 @@
 use Rattle.std.proofs.Common.{◌∙◌, ap, List, length}
 use Rattle.rpp_tree.specs.declared.tree.Var.{Var}
 use Rattle.rpp_tree.specs.Views.{source_of}
-use Rattle.refine_heap.specs.class_table.Table.{Table, fields_in}
-use Rattle.refine_heap.proofs.class_table_laws.Tables.{table_reads}
+use Rattle.refine_heap.specs.class_rules.Table.{Table, fields_in}
+use Rattle.refine_heap.proofs.class_rules_laws.Tables.{table_reads}
 use Rattle.object_codegen.proofs.tables.field_count.Goals as goal
 
 pub returns-clause-count : goal.returns-clause-count

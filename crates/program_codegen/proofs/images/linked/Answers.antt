@@ -1,8 +1,8 @@
 use Rattle.std.proofs.Common.{◌≡◌, ◌∙◌, sym, ap, subst, ◌+◌, length, arith}
 use Rattle.rpp_tree.specs.Views.{source_of}
-use Rattle.refine_program.specs.class_table.Classes.{main_of}
-use Rattle.refine_program.specs.class_table.First.{each_below}
-use Rattle.refine_program.specs.class_table.Table.{Table}
+use Rattle.refine_program.specs.class_rules.Classes.{main_of}
+use Rattle.refine_program.specs.class_rules.First.{each_below}
+use Rattle.refine_program.specs.class_rules.Table.{Table}
 use Rattle.refine_program.specs.paired_code.Code.{bodies}
 use Rattle.refine_program.specs.paired_code.Link.{places, first_top}
 use Rattle.refine_program.specs.Methods.{methods_before, routine_of}

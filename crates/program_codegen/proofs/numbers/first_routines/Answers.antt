@@ -1,7 +1,7 @@
 use Rattle.std.proofs.Common.{◌≡◌, ◌∙◌, sym, ap, ◌+◌, [], ◌∷◌, ◌++◌, map, arith}
 use Rattle.rpp_tree.specs.Views.{class_text_of, source_of}
-use Rattle.refine_program.specs.class_table.First.{each_below}
-use Rattle.refine_program.proofs.class_table_laws.Numbers.{each_below-next}
+use Rattle.refine_program.specs.class_rules.First.{each_below}
+use Rattle.refine_program.proofs.class_rules_laws.Numbers.{each_below-next}
 use Rattle.refine_program.specs.Methods.{methods_before}
 use Rattle.program_codegen.proofs.Tables.{none_before, first_counted}
 use Rattle.program_codegen.proofs.Counts.{methods_few}

@@ -1,9 +1,9 @@
 use Rattle.std.proofs.Common.{◌∙◌, ap, ◌<◌, length, map, arith}
 use Rattle.std.proofs.lemmas.List.{length-map}
 use Rattle.rpp_tree.specs.Views.{procedure_of, source_of}
-use Rattle.refine_program.specs.class_table.Members.{class_at}
-use Rattle.refine_program.specs.class_table.Table.{Table}
-use Rattle.refine_program.proofs.class_table_laws.InheritedSlots.{class_there}
+use Rattle.refine_program.specs.class_rules.Members.{class_at}
+use Rattle.refine_program.specs.class_rules.Table.{Table}
+use Rattle.refine_program.proofs.class_rules_laws.InheritedSlots.{class_there}
 use Rattle.program_codegen.proofs.Counts.{class_few}
 use Rattle.program_codegen.proofs.Entries.{class_pushed}
 use Rattle.refine_program.proofs.static_layout_laws.Counted.{many_classes}

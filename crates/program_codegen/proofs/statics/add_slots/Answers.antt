@@ -1,9 +1,9 @@
 use Rattle.std.proofs.Common.{◌∙◌, ap, ◌≤◌, ◌+◌, ◌++◌, length, map, take_all, arith}
 use Rattle.std.specs.Prelude.{slice_index}
 use Rattle.rpp_tree.specs.Views.{source_of}
-use Rattle.refine_program.specs.class_table.Classes.{class_slots}
-use Rattle.refine_program.specs.class_table.Members.{Slots}
-use Rattle.refine_program.specs.class_table.Table.{Table, slots_in}
+use Rattle.refine_program.specs.class_rules.Classes.{class_slots}
+use Rattle.refine_program.specs.class_rules.Members.{Slots}
+use Rattle.refine_program.specs.class_rules.Table.{Table, slots_in}
 use Rattle.refine_program.specs.paired_code.Link.{static_word}
 use Rattle.refine_program.specs.Methods.{routine_of}
 use Rattle.program_codegen.proofs.SlotMethods.{SlotRead, slot_read, NumberRead, number_read}

@@ -1,7 +1,7 @@
 use Rattle.std.proofs.Common.{◌≡◌, ◌++◌, ◌+◌, ℕ, List, map, take}
 use Rattle.std.specs.Prelude.{slice_index}
 use Rattle.rpp_tree.specs.Views.{source_of}
-use Rattle.refine_program.specs.class_table.Classes.{class_slots}
+use Rattle.refine_program.specs.class_rules.Classes.{class_slots}
 use Rattle.refine_program.specs.paired_code.Link.{static_word}
 use Rattle.refine_program.specs.Methods.{routine_of}
 use Rattle.program_codegen.proofs.statics.add_slots.Given as goal

@@ -1,7 +1,7 @@
 use Rattle.std.proofs.Common.{◌≡◌, ◌∙◌, ap, ◌++◌, length, map, arith}
 use Rattle.rpp_tree.specs.Views.{source_of}
-use Rattle.refine_program.specs.class_table.First.{each_below}
-use Rattle.refine_program.specs.class_table.Table.{Table}
+use Rattle.refine_program.specs.class_rules.First.{each_below}
+use Rattle.refine_program.specs.class_rules.Table.{Table}
 use Rattle.refine_program.specs.roopl_semantics.Layout.{tables}
 use Rattle.refine_program.specs.paired_code.Link.{static_word}
 use Rattle.refine_program.specs.Methods.{slot_places}

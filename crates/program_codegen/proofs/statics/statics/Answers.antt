@@ -1,9 +1,9 @@
 use Rattle.std.proofs.Common.{◌≡◌, ◌∙◌, sym, ap, ◌++◌, ℕ, List, length, replicate, arith}
 use Rattle.rpp_tree.specs.declared.tree.Var.{Var}
 use Rattle.rpp_tree.specs.Views.{source_of}
-use Rattle.refine_program.specs.class_table.declared.method.MethodId.{MethodId}
-use Rattle.refine_program.specs.class_table.Classes.{main_of}
-use Rattle.refine_program.specs.class_table.Table.{Table}
+use Rattle.refine_program.specs.class_rules.declared.method.MethodId.{MethodId}
+use Rattle.refine_program.specs.class_rules.Classes.{main_of}
+use Rattle.refine_program.specs.class_rules.Table.{Table}
 use Rattle.refine_program.specs.code_conventions.Header.{header}
 use Rattle.refine_program.specs.roopl_semantics.Layout.{table_at, tables}
 use Rattle.refine_program.specs.roopl_semantics.Source.{main_fields}

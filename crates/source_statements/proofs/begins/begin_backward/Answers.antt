@@ -4,7 +4,7 @@ use Rattle.rpp_tree.specs.Views.{expression_of, optional_lvalue_of, statement_of
 use Rattle.rpp_tree.proofs.Statements.{statement_if, statement_from, statement_construct, statement_local}
 use Rattle.rpp_tree.proofs.Statements.{statement_call}
 use Rattle.source_blocks.specs.roopl_semantics.Execution.{in_direction}
-use Rattle.source_blocks.specs.stmt_inverter.Inverse.{inverse_statement}
+use Rattle.source_blocks.specs.inverse_rules.Inverse.{inverse_statement}
 use Rattle.source_blocks.specs.meaning_machine.Machine.{held_local, called}
 use Rattle.source_blocks.specs.source_steps.StateView.{setting_of}
 use Rattle.source_blocks.specs.Runs.{config_of, here_in, rest_in}

@@ -2,8 +2,8 @@ use Rattle.std.proofs.Common.{◌≡◌, ◌<◌, List, refl, sym, ap, ap₂, su
 use Rattle.std.specs.Option.{unwrap_or, option_map}
 use Rattle.rpp_tree.specs.Tree.{Procedure}
 use Rattle.rpp_tree.specs.Views.{procedure_of}
-use Rattle.source_blocks.specs.class_table.Members.{no_procedure}
-use Rattle.source_blocks.specs.class_table.Classes.{method_named}
+use Rattle.source_blocks.specs.class_rules.Members.{no_procedure}
+use Rattle.source_blocks.specs.class_rules.Classes.{method_named}
 use Rattle.source_blocks.specs.roopl_semantics.Value.{Cell, read}
 use Rattle.source_blocks.specs.roopl_semantics.Execution.{cells_named, class_of, moved_out, in_direction}
 use Rattle.source_blocks.specs.source_steps.CellView.{cell_of}

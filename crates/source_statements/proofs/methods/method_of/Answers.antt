@@ -2,7 +2,7 @@ use Rattle.rpp_tree.specs.Views.{source_of}
 use Rattle.source_statements.proofs.Dispatched.{method_reads}
 use Rattle.std.proofs.Common.{◌∙◌, ap}
 use Rattle.std.specs.Prelude.{slice_get}
-use Rattle.source_blocks.specs.class_table.Members.{class_at}
+use Rattle.source_blocks.specs.class_rules.Members.{class_at}
 use Rattle.source_statements.proofs.methods.method_of.Goals as goal
 
 pub returns : goal.returns

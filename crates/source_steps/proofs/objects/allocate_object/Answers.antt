@@ -1,6 +1,6 @@
 use Rattle.std.proofs.Common.{◌∙◌, sym, ap, subst, length}
 use Rattle.std.proofs.lemmas.List.{length-map}
-use Rattle.source_store.specs.class_table.Classes.{class_fields}
+use Rattle.source_store.specs.class_rules.Classes.{class_fields}
 use Rattle.source_store.specs.roopl_semantics.Store.{OfClass, zero_values}
 use Rattle.source_store.specs.roopl_semantics.Execution.{allocated}
 use Rattle.source_store.specs.ValueView.{value_of, values_of}

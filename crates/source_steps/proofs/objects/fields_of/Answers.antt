@@ -1,6 +1,6 @@
 use Rattle.std.proofs.Common.{◌∙◌, ap}
 use Rattle.rpp_tree.specs.Views.{source_of}
-use Rattle.source_store.specs.class_table.Table.{fields_in}
+use Rattle.source_store.specs.class_rules.Table.{fields_in}
 use Rattle.source_steps.proofs.Tables.{fields_read}
 use Rattle.source_steps.proofs.objects.fields_of.Goals as goal
 

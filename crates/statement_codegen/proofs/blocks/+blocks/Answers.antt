@@ -4,7 +4,7 @@ use Rattle.rpp_tree.proofs.Blocks.{block_of-list}
 use Rattle.rpp_tree.specs.Tree.{Call}
 use Rattle.rpp_tree.specs.Views.{source_of, expression_of, lvalue_of, optional_lvalue_of, creation_of}
 use Rattle.rpp_tree.specs.Views.{statement_of, statements_of, block_of}
-use Rattle.branch_codegen.specs.class_table.Program.{IsAccepted}
+use Rattle.branch_codegen.specs.class_rules.Program.{IsAccepted}
 use Rattle.statement_codegen.specs.Pieces.{StatementStands, StandsIn, InnerPiece}
 use Rattle.statement_codegen.specs.Codes.{with_variable}
 use Rattle.rpp_tree.proofs.Statements.{statement_if, statement_from, statement_construct, statement_local}

@@ -1,7 +1,7 @@
 use Rattle.std.proofs.Common.{List, subst, sym, ap, ◌∙◌}
 use Rattle.std.specs.Prelude.{IfOk}
 use Rattle.rpp_tree.specs.Views.{source_of}
-use Rattle.branch_codegen.specs.class_table.declared.method.MethodId.{MethodId}
+use Rattle.branch_codegen.specs.class_rules.declared.method.MethodId.{MethodId}
 use Rattle.refine_form.specs.declared.spot.Spot.{Spot}
 use Rattle.branch_codegen.specs.method_calls.Names.{slot_of}
 use Rattle.branch_codegen.specs.method_calls.Laws.{OwnCallCode}

@@ -1,6 +1,6 @@
 use Rattle.std.proofs.Common.{◌≡◌, ◌∙◌, sym, ap, ◌+◌, length}
 use Rattle.roopl_semantics.specs.rpp_tree.Views.{source_of}
-use Rattle.roopl_semantics.specs.class_table.Table.{Table, table_of, slots_in}
+use Rattle.roopl_semantics.specs.class_rules.Table.{Table, table_of, slots_in}
 use Rattle.roopl_semantics.specs.code_conventions.declared.memory.TheConstants.{TABLE_HEADER}
 use Rattle.static_layout.proofs.Counted.{table_next}
 use Rattle.static_layout.proofs.tables.next_table.Goals as goal

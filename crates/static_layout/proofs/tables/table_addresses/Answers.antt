@@ -1,7 +1,7 @@
 use Rattle.std.proofs.Common.{◌≡◌, ◌∙◌, ap, length, arith}
 use Rattle.roopl_semantics.specs.rpp_tree.Views.{source_of}
-use Rattle.roopl_semantics.specs.class_table.First.{each_below}
-use Rattle.roopl_semantics.specs.class_table.Table.{Table}
+use Rattle.roopl_semantics.specs.class_rules.First.{each_below}
+use Rattle.roopl_semantics.specs.class_rules.Table.{Table}
 use Rattle.roopl_semantics.specs.Layout.{table_at}
 use Rattle.static_layout.proofs.Counted.{many_classes}
 use Rattle.static_layout.proofs.tables.table_addresses.Goals as goal

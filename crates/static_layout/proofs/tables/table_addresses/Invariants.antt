@@ -1,6 +1,6 @@
 use Rattle.std.proofs.Common.{◌≡◌, ◌≤◌}
 use Rattle.roopl_semantics.specs.rpp_tree.Views.{source_of}
-use Rattle.roopl_semantics.specs.class_table.First.{each_below}
+use Rattle.roopl_semantics.specs.class_rules.First.{each_below}
 use Rattle.roopl_semantics.specs.Layout.{table_at}
 use Rattle.static_layout.proofs.Counted.{farthest}
 use Rattle.static_layout.proofs.tables.table_addresses.Given as goal

@@ -2,8 +2,8 @@ use Rattle.std.proofs.Common.{◌≡◌, ◌∙◌, sym, ap, map}
 use Rattle.rpp_tree.proofs.Blocks.{block_of-list, block_of-made}
 use Rattle.std.proofs.lemmas.List.{take_all}
 use Rattle.rpp_tree.specs.Views.{statement_of}
-use Rattle.stmt_inverter.specs.Inverse.{inverse_statement_as, inverse_as}
-use Rattle.stmt_inverter.proofs.Inverses.{block_undone}
+use Rattle.inverse_rules.specs.Inverse.{inverse_statement_as, inverse_as}
+use Rattle.inverse_rules.proofs.Inverses.{block_undone}
 use Rattle.stmt_inverter.proofs.code.+undo.Goals as goal
 
 pub undo_block-returns : goal.undo_block-returns

@@ -1,6 +1,6 @@
 use Rattle.std.proofs.Common.{◌≡◌, take, map}
 use Rattle.rpp_tree.specs.Views.{statement_of}
-use Rattle.stmt_inverter.specs.Inverse.{inverse_statement_as}
+use Rattle.inverse_rules.specs.Inverse.{inverse_statement_as}
 use Rattle.stmt_inverter.proofs.code.+undo.Given as goal
 
 abbrev pub invariant-undo_block-loop-stmt : goal.invariant-undo_block-loop-stmt

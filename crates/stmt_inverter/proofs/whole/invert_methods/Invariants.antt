@@ -1,6 +1,6 @@
 use Rattle.std.proofs.Common.{◌≡◌, take, map}
 use Rattle.rpp_tree.specs.Views.{procedure_of}
-use Rattle.stmt_inverter.specs.Inverse.{inverse_procedure}
+use Rattle.inverse_rules.specs.Inverse.{inverse_procedure}
 use Rattle.stmt_inverter.proofs.whole.invert_methods.Given as goal
 
 abbrev pub invariant-loop-method : goal.invariant-loop-method

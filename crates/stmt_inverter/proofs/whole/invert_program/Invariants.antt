@@ -1,6 +1,6 @@
 use Rattle.std.proofs.Common.{◌≡◌, take, map}
 use Rattle.rpp_tree.specs.Views.{class_text_of}
-use Rattle.stmt_inverter.specs.Inverse.{inverse_class}
+use Rattle.inverse_rules.specs.Inverse.{inverse_class}
 use Rattle.stmt_inverter.proofs.whole.invert_program.Given as goal
 
 abbrev pub invariant-loop-class : goal.invariant-loop-class

@@ -3,7 +3,7 @@ use Rattle.std.proofs.Common.{append_assoc}
 use Rattle.std.specs.Prelude.{string_bytes}
 use Rattle.rpp_tree.specs.Views.{source_of}
 use Rattle.rpp_tree.specs.Tree.{Source}
-use Rattle.refine_frame.specs.class_table.Table.{Table}
+use Rattle.refine_frame.specs.class_rules.Table.{Table}
 use Rattle.static_layout.specs.roopl_semantics.Report.{Text}
 use Rattle.store_report.specs.declared.leads.Lead.{Lead}
 use Rattle.store_report.specs.Leads.{Met}

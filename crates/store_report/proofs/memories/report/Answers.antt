@@ -1,8 +1,8 @@
 use Rattle.std.proofs.Common.{◌≡◌, ◌∙◌, sym, ap, subst, length, arith}
 use Rattle.std.specs.Prelude.{All, IfOk, Result, Ok, Err, string_bytes}
 use Rattle.rpp_tree.specs.Views.{source_of}
-use Rattle.refine_frame.specs.class_table.Table.{Table, table_of}
-use Rattle.refine_frame.proofs.class_table_laws.Numbers.{length-each_below}
+use Rattle.refine_frame.specs.class_rules.Table.{Table, table_of}
+use Rattle.refine_frame.proofs.class_rules_laws.Numbers.{length-each_below}
 use Rattle.static_layout.specs.roopl_semantics.Layout.{table_at, table_addresses}
 use Rattle.static_layout.proofs.roopl_semantics_laws.MainPlace.{fields_read}
 use Rattle.store_report.specs.Ascii.{HasAsciiName, AreAscii}

@@ -1,6 +1,6 @@
 use Rattle.std.proofs.Common.{◌≡◌, ◌∙◌, ap, ◌<◌, ◌+◌, length, ℕ, suc, ◌-◌, List, Some, arith}
 use Rattle.std.specs.Prelude.{slice_get}
-use Rattle.refine_frame.specs.class_table.Table.{Table}
+use Rattle.refine_frame.specs.class_rules.Table.{Table}
 use Rattle.store_report.specs.declared.leads.Lead.{Lead}
 use Rattle.store_report.specs.Leads.{Met, meets_behind, goes_on, walks}
 use Rattle.store_report.proofs.walking.met_all.Goals as goal

@@ -1,6 +1,6 @@
 use Rattle.std.proofs.Common.{subst, sym}
 use Rattle.roopl_judge.specs.rpp_tree.Views.{source_of}
-use Rattle.roopl_judge.specs.class_table.Program.{IsAccepted}
+use Rattle.roopl_judge.specs.class_rules.Program.{IsAccepted}
 use Rattle.text_commands.proofs.InverseNames.{inverse_names}
 use Rattle.text_commands.proofs.inverting.write_inverse.Goals as goal
 

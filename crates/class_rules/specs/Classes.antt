@@ -1,0 +1,60 @@
+-- Classes, their fields, method slots, dispatch and inheritance, from the list of classes only.
+use Rattle.std.specs.Prelude.{ℕ, ◌-◌, Bool, List, map, length, take, Option, slice_get, position}
+use Rattle.std.specs.Prelude.{nat_eq}
+use Rattle.std.specs.List.{list_any}
+use Rattle.std.specs.Option.{unwrap_or}
+use Rattle.std.specs.Str.{bytes_eq}
+use Rattle.rpp_tree.specs.declared.tree.Var.{Var}
+use Rattle.rpp_tree.specs.Tree.{Procedure, Source}
+use Rattle.class_rules.specs.declared.method.MethodId.{MethodId}
+use Rattle.class_rules.specs.Rules.{class_names}
+use Rattle.class_rules.specs.Chains.{class_named, line_of}
+use Rattle.class_rules.specs.Members.{Slots, class_at, no_procedure, field_of, fields_of, slots_of}
+use Rattle.class_rules.specs.Overrides.{run_at}
+use Rattle.class_rules.specs.Mains.{mains, first_main}
+
+-- the number of the class of this name
+abbrev pub class_number : Source → List ℕ → Option ℕ
+class_number program name = class_named (class_names program) name
+
+-- a class's fields: the parent's first, then its own
+abbrev pub class_fields : Source → ℕ → List Var
+class_fields program class = fields_of program class
+
+-- the number of the field of this name
+abbrev pub field_number : Source → ℕ → List ℕ → Option ℕ
+field_number program class name = field_of (class_fields program class) name
+
+-- a class's method slots: the parent's first; an overriding method keeps its slot, a new one gets
+-- the next
+abbrev pub class_slots : Source → ℕ → Slots
+class_slots program class = slots_of program class
+
+-- the slot of this name
+abbrev pub method_slot : Source → ℕ → List ℕ → Option ℕ
+method_slot program class name =
+    position (bytes_eq name) (map (λ slot. slot.0) (class_slots program class))
+
+-- the method in a slot
+abbrev pub dispatch : Source → ℕ → ℕ → MethodId
+dispatch program class slot = run_at (class_slots program class) slot
+
+-- the text of a method
+abbrev pub procedure_at : Source → MethodId → Procedure
+procedure_at program id = unwrap_or (slice_get (class_at program id.class).methods id.method)
+    no_procedure
+
+-- the method of this name for an object of the class
+abbrev pub method_named : Source → ℕ → List ℕ → Procedure
+method_named program class name =
+    procedure_at program (dispatch program class (unwrap_or (method_slot program class name) 0))
+
+-- the one method `main` without parameters
+abbrev pub main_of : Source → MethodId
+main_of program = first_main (mains program)
+
+-- whether a class has another above itself
+abbrev pub inherits : Source → ℕ → ℕ → Bool
+inherits program class from =
+    list_any (λ above. nat_eq above from)
+    (take (length (line_of program class) - 1) (line_of program class))

@@ -1,0 +1,116 @@
+-- Fields and method slots, by the chain of parents.
+use Rattle.std.specs.Prelude.{ℕ, ◌+◌, ◌-◌, Bool, nat_lt, List, [], ◌∷◌, ◌++◌, map, length, take}
+use Rattle.std.specs.Prelude.{Option, None, slice_get, position}
+use Rattle.std.specs.Option.{unwrap_or}
+use Rattle.std.specs.Str.{bytes_eq}
+use Rattle.indexmap.specs.IndexMap.{insert_entry}
+use Rattle.rpp_tree.specs.declared.tree.Var.{Var}
+use Rattle.rpp_tree.specs.Tree.{End, Procedure, ClassText, Source}
+use Rattle.class_rules.specs.declared.method.MethodId.{MethodId}
+use Rattle.class_rules.specs.declared.error.ClassError.{ClassError}
+use Rattle.class_rules.specs.declared.error.ClassError.TheVariants.{DuplicateField, Limit}
+use Rattle.rpp_tree.specs.declared.limits.LimitKind.TheVariants as kind
+use Rattle.rpp_tree.specs.declared.limits.TheConstants.{MOST_FIELDS, MOST_METHODS}
+use Rattle.class_rules.specs.First.{refused_if, first_of, first_at, each_below}
+use Rattle.class_rules.specs.Names.{has_name, with_names}
+use Rattle.class_rules.specs.Chains.{line_of}
+
+abbrev pub no_class : ClassText
+no_class = record { name = record { at = 0; text = [] }; parent = None; fields = []; methods = [] }
+
+abbrev pub no_procedure : Procedure
+no_procedure = record { name = record { at = 0; text = [] }; params = []; body = End }
+
+abbrev pub class_at : Source → ℕ → ClassText
+class_at program number = unwrap_or (slice_get program.classes number) no_class
+
+abbrev pub fields_along : Source → List ℕ → List Var
+fields_along program [] = []
+fields_along program (class ∷ below) = (class_at program class).fields ++ fields_along program below
+
+-- the fields of the ancestors, the farthest first
+abbrev pub inherited : Source → ℕ → List Var
+inherited program class =
+    fields_along program (take (length (line_of program class) - 1) (line_of program class))
+
+-- the parent's fields first, then the class's own
+abbrev pub fields_of : Source → ℕ → List Var
+fields_of program class = fields_along program (line_of program class)
+
+abbrev pub fields : Source → List (List Var)
+fields program = each_below (fields_of program) (length program.classes)
+
+abbrev pub field_name : Var → List ℕ
+field_name var = var.name.text
+
+-- the number of the field of this name among these
+abbrev pub field_of : List Var → List ℕ → Option ℕ
+field_of vars name = position (bytes_eq name) (map field_name vars)
+
+-- whether a variable of the name is among these
+abbrev pub has_field : List Var → List ℕ → Bool
+has_field vars name = has_name (map field_name vars) name
+
+-- the names of the fields of these classes, each once, after those that are already listed
+abbrev pub names_along : Source → List (List ℕ) → List ℕ → List (List ℕ)
+names_along program names [] = names
+names_along program names (class ∷ below) =
+    names_along program (with_names names (map field_name (class_at program class).fields)) below
+
+-- 8: an earlier field of the class or an inherited field has the name
+abbrev pub field_taken : List (List ℕ) → Var → Option ClassError
+field_taken names var = refused_if (has_name names var.name.text) (DuplicateField var.name.at)
+
+-- the first field whose name is among these or those of earlier fields
+abbrev pub taken_field : List (List ℕ) → List Var → Option ClassError
+taken_field names [] = None
+taken_field names (var ∷ vars) =
+    first_of (field_taken names var) (taken_field (names ++ var.name.text ∷ []) vars)
+
+abbrev pub duplicate_field_at : Source → ℕ → ClassText → Option ClassError
+duplicate_field_at program number class =
+    taken_field (map field_name (inherited program number)) class.fields
+
+abbrev pub duplicate_field : Source → Option ClassError
+duplicate_field program = first_at (duplicate_field_at program) 0 program.classes
+
+-- 4: the class has more fields than the limit
+abbrev pub too_many_fields_at : Source → ℕ → ClassText → Option ClassError
+too_many_fields_at program number class =
+    refused_if (nat_lt MOST_FIELDS (length (fields_of program number)))
+    (Limit kind.Fields class.name.at)
+
+abbrev pub too_many_fields : Source → Option ClassError
+too_many_fields program = first_at (too_many_fields_at program) 0 program.classes
+
+-- the name of each slot with the method that runs
+abbrev pub Slots : Type 0
+Slots = List (List ℕ × MethodId)
+
+-- an overriding method keeps its slot, a new one gets the next
+abbrev pub with_methods : ℕ → ℕ → List Procedure → Slots → Slots
+with_methods class number [] slots = slots
+with_methods class number (method ∷ methods) slots =
+    with_methods class (number + 1) methods
+    (insert_entry bytes_eq slots method.name.text (record { class = class; method = number }))
+
+abbrev pub slots_along : Source → Slots → List ℕ → Slots
+slots_along program slots [] = slots
+slots_along program slots (class ∷ below) =
+    slots_along program (with_methods class 0 (class_at program class).methods slots) below
+
+-- the parent's slots first
+abbrev pub slots_of : Source → ℕ → Slots
+slots_of program class = slots_along program [] (line_of program class)
+
+abbrev pub slots : Source → List Slots
+slots program = each_below (slots_of program) (length program.classes)
+
+-- 4: the class has more method slots than the limit
+abbrev pub too_many_slots_at : Source → ℕ → ClassText → Option ClassError
+too_many_slots_at program number class =
+    refused_if (nat_lt MOST_METHODS (length (slots_of program number)))
+    (Limit kind.Methods class.name.at)
+
+abbrev pub too_many_slots : Source → Option ClassError
+too_many_slots program = first_at (too_many_slots_at program) 0 program.classes

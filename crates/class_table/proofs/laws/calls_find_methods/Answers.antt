@@ -1,5 +1,0 @@
-use Rattle.class_table.proofs.FoundMethods.{calls_find_methods}
-use Rattle.class_table.proofs.laws.calls_find_methods.Goals as goal
-
-pub returns : goal.returns
-returns c = calls_find_methods

@@ -1,5 +1,0 @@
-use Rattle.class_table.proofs.ChainEnds.{chain_ends}
-use Rattle.class_table.proofs.laws.chain_ends_within.Goals as goal
-
-pub returns : goal.returns
-returns c = λ program class steps line inside ends. chain_ends program class steps line inside ends

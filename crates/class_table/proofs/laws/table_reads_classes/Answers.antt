@@ -1,5 +1,0 @@
-use Rattle.class_table.proofs.Tables.{table_reads}
-use Rattle.class_table.proofs.laws.table_reads_classes.Goals as goal
-
-pub returns : goal.returns
-returns c = λ program class inside. table_reads program class inside

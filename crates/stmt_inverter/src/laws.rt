@@ -1,7 +1,0 @@
-// Laws of inverses, each the contract of a function.
-ghost use Rattle.stmt_inverter.specs.Laws.{InvertsTwice};
-
-/// What is inverted twice is as it was.
-pub fn inverts_twice()
-    ensures { InvertsTwice }
-{}
