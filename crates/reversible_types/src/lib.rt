@@ -1,6 +1,6 @@
 //! The rules of types for programs that can be run backward. `check` returns the program with its
 //! class table if every rule accepts it, and else the first refusal in the order of the text. The
-//! rules themselves are in class_table's specs/; each function here computes one of them, and none
+//! rules themselves are in class_rules's specs/; each function here computes one of them, and none
 //! allocates memory.
 #![tactic(auto)]
 

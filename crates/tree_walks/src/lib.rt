@@ -5,12 +5,12 @@
 mod alike_code;
 mod alike_values;
 mod copy_code;
-mod copy_program;
 mod copy_values;
+mod copy_whole;
 mod count;
 
 pub use alike_code::alike;
 pub use copy_code::{copy_block, copy_statement};
-pub use copy_program::{copy_class, copy_method, copy_program};
 pub use copy_values::{copy_expr, copy_made, copy_place, copy_receiver};
+pub use copy_whole::{copy_class, copy_method, copy_program};
 pub use count::{depth, nodes};
