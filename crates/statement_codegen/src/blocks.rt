@@ -13,11 +13,10 @@ ghost use Rattle.statement_codegen.specs.Pieces.{StatementStands, StandsIn, Have
 use crate::calls::{call_code, skip_code};
 use crate::elements::element_call_code;
 use crate::locals::{construct_code, local_code, making_piece, object_var};
-use branch_codegen::{from_code, if_code};
+use branch_codegen::{from_code, if_code, swap_code, update_code};
 use code_scope::Scope;
-use expr_uncompute::{swap_code, update_code};
-use object_codegen::{copy_code, new_code};
 use paired_code::{Piece, empty, marked, mirror, seq};
+use refine_objects::{copy_code, new_code};
 use rpp_tree::place_of;
 use rpp_tree::tree::{Block, Ident, Place, Stmt};
 use rpp_words::NoMemory;

@@ -11,12 +11,12 @@ ghost use Rattle.refine_form.specs.Held.{Holds};
 ghost use Rattle.refine_objects.specs.object_codegen.Creations.{NewLaw, creation_size};
 ghost use Rattle.statement_codegen.specs.Laws.{LocalLaw, ConstructLaw};
 
+use branch_codegen::value_code;
 use code_conventions::registers::VALUE;
 use code_scope::Scope;
-use expr_uncompute::value_code;
 use method_calls::local_block;
-use object_codegen::class_code;
 use paired_code::{Piece, mirror, seq};
+use refine_objects::class_code;
 use rpp_tree::tree::{Expr, Ident, Place, Var, VarType};
 use rpp_words::NoMemory;
 use std::alloc::Global;
