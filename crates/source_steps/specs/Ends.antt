@@ -9,13 +9,13 @@ use Rattle.source_store.specs.inverse_rules.Inverse.{inverse_statement}
 use Rattle.source_store.specs.roopl_semantics.Run.{Run, More, ◌>>=◌, give, spend, fault_if}
 use Rattle.source_store.specs.roopl_semantics.Store.{State, Value, Word, Nil, Head, OfClass, OfInts, OfObjects}
 use Rattle.source_store.specs.roopl_semantics.Store.{is_nil, number_of, same_value, object_at, zero_values}
-use Rattle.source_store.specs.roopl_semantics.Execution.{Setting, statement, closed, counted, one_less}
+use Rattle.source_store.specs.roopl_semantics.Execution.{Setting, statement, counted, one_less}
 use Rattle.source_store.specs.roopl_semantics.Execution.{same_cell, is_of_class, all_zero, allocated, freed}
-use Rattle.source_store.specs.roopl_semantics.Execution.{delocal_fault, not_nil_fault}
+use Rattle.source_store.specs.roopl_semantics.Execution.{not_nil_fault}
 use Rattle.source_store.specs.roopl_semantics.Execution.{not_same_fault, class_differs_fault}
 use Rattle.source_store.specs.roopl_semantics.Execution.{length_differs_fault, length_fault, count_fault}
 use Rattle.source_store.specs.roopl_semantics.Execution.{not_empty_fault}
-use Rattle.source_store.specs.roopl_semantics.Value.{Cell, Slot, read, written, evaluated, found, nil_fault}
+use Rattle.source_store.specs.roopl_semantics.Value.{Cell, read, written, evaluated, found, nil_fault}
 use Rattle.source_store.specs.meaning_machine.Reversed.{ungiven}
 use Rattle.source_store.specs.declared.value.Value.{Value as Held}
 use Rattle.source_store.specs.HeapView.{Kept as Heap}
@@ -39,13 +39,6 @@ Ends here scope result heap values left run =
 -- what a statement that holds no block comes to
 abbrev pub does_simply : Here → ℕ → Statement → State → Metered State
 does_simply here fuel s st = metered fuel (statement (setting_of here) 0 (λ body st. More) s st)
-
--- after a local's block
-abbrev pub local_end : Setting → Expression → State → Run State
-local_end setting end_value end = do
-  w ← evaluated setting.program end_value end
-  _ ← fault_if delocal_fault (not (same_value (read end (Slot 0)) w))
-  give (closed end)
 
 -- after the places and the check of an `uncopy`
 abbrev pub uncopied : Cell → Cell → State → Run State

@@ -11,4 +11,3 @@ pub mod Metered
 pub mod StateView
 pub mod Apart
 pub mod Ends
-pub mod Parameters

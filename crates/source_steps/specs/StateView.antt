@@ -54,10 +54,6 @@ element_in store (Name array) index = if nat_lt index (length (object_at store a
     then Ok (Part array index) else Err index_fault
 element_in store _ index = Err nil_fault
 
--- a scope with one more variable of this name
-pub record IsInner (name : List ℕ) (scope inner : Chain) : Type 0 where
-  pub names : names_of inner ≡ name ∷ names_of scope
-
 -- the state in which a method begins on an object, with these values of its variables
 abbrev pub entered : Here → List Var → ℕ → Kept → List Held → State
 entered here params object heap values =

@@ -1,8 +1,7 @@
 // What names mean in a method.
-ghost use Rattle.std.specs.Prelude.{◌≡◌, ◌<◌, ◌≤◌, map, position, length, IfSome};
+ghost use Rattle.std.specs.Prelude.{◌≡◌, ◌<◌, map, position, length, IfSome};
 ghost use Rattle.std.specs.Str.{bytes_eq};
 ghost use Rattle.source_steps.specs.StateView.{names_of};
-ghost use Rattle.source_steps.specs.Parameters.{params_of};
 
 use rpp_tree::Text;
 use rpp_tree::tree::Var;
@@ -54,13 +53,6 @@ fn param_slot(params: &[Var], name: &Text) -> Option<usize>
             }
         }
     }
-}
-
-/// How many parameters an open method has.
-pub fn params_in(scope: &Scope) -> usize
-    ensures { result ≡ params_of scope.now }
-{
-    scope.params.len()
 }
 
 /// The place of the innermost variable of this name.

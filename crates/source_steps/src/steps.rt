@@ -1,5 +1,5 @@
 // The steps that statements are made of, each with its cost.
-ghost use Rattle.std.specs.Prelude.{◌≡◌, ◌+◌, ◌<◌, ◌≤◌, IfOk, OnOk, MatchResult, ◌∷◌, length, drop};
+ghost use Rattle.std.specs.Prelude.{◌≡◌, ◌+◌, ◌<◌, ◌≤◌, IfOk, OnOk};
 ghost use Rattle.rpp_tree.specs.Views.{expression_of, lvalue_of};
 ghost use Rattle.source_store.specs.roopl_semantics.Execution.{holds};
 ghost use Rattle.source_store.specs.roopl_semantics.Value.{evaluated as evaluated_in, found as found_in};
@@ -93,25 +93,6 @@ pub fn locate(
             }
         }
     }
-}
-
-/// One more value, before the others.
-pub fn open_value(values: &mut Vec<Value>, value: Value) -> Result<(), Stop>
-    ensures { MatchResult result (λ u. values.new.items ≡ value ∷ values.old.items)
-        (λ why. why ≡ Stop.NoMemory) }
-{
-    match values.insert(0, value) {
-        Ok(()) => Ok(()),
-        Err(_full) => Err(Stop::NoMemory),
-    }
-}
-
-/// The first value goes.
-pub fn close_value(values: &mut Vec<Value>)
-    requires { 0 < length values.old.items }
-    ensures { values.new.items ≡ drop 1 values.old.items }
-{
-    let _closed = values.remove(0);
 }
 
 /// Whether a test's value is true.

@@ -6,5 +6,4 @@ pub use Rattle.meaning_machine.proofs.meaning_points_laws
 pub use Rattle.meaning_machine.proofs as meaning_machine_laws
 pub mod Tables
 pub mod Blocks
-pub mod Asked
 pub mod TakenBack

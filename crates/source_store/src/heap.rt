@@ -1,13 +1,11 @@
 // The heap of a run, and what it returns.
-ghost use Rattle.std.specs.Prelude.{◌≡◌, ℕ, ◌+◌, ◌<◌, ◌≤◌, ◌^◌, ◌∷◌, [], IfOk, length, slice_get, None, Some, nat_lt, not, is_none};
+ghost use Rattle.std.specs.Prelude.{◌≡◌, ℕ, ◌+◌, ◌<◌, ◌≤◌, ◌^◌, ◌∷◌, [], IfOk, length, slice_get, None, Some, nat_lt};
 ghost use Rattle.std.specs.Option.{unwrap_or, option_map};
 ghost use Rattle.meaning_machine.specs.roopl_semantics.Store.{Nil, main_name, object_at, object_named, class_of_head};
 ghost use Rattle.meaning_machine.specs.roopl_semantics.Execution.{order_of_cells, is_of_class, all_zero};
 ghost use Rattle.source_store.specs.ValueView.{value_of, values_of, head_of, object_of};
-ghost use Rattle.source_store.specs.HeapView.{live_in, live_at, listed, store_of, asked_for};
-ghost use Rattle.meaning_machine.specs.buddy_book.Book.{take};
+ghost use Rattle.source_store.specs.HeapView.{live_in, live_at, listed, store_of};
 ghost use Rattle.meaning_machine.specs.buddy_book.Place.{count_taken, place};
-ghost use Rattle.meaning_machine.specs.buddy_book.Shown.{IsKept};
 
 use crate::object::{Head, Object, cell_in, is_all_zero};
 use crate::requests::Request;
@@ -170,30 +168,6 @@ impl Heap {
         ensures { result ≡ nat_lt self.now.order (order_of_cells size) }
     {
         self.order < order_of(size)
-    }
-
-    /// Whether the heap has a block for so many cells.
-    pub fn has_block(&self, size: u32) -> bool
-        requires { size < 2 ^ 31 }
-        ensures { result ≡ not (is_none (place self.now.order (asked_for self.now size))) }
-    {
-        has_order(&self.book, order_of(size), self.order)
-    }
-}
-
-// Whether a book of order `h` has a block of order `k`, taken from a larger one if need be.
-fn has_order(book: &Book, k: u32, h: u32) -> bool
-    requires kept { IsKept book.now }
-    requires from { 1 ≤ k }
-    requires order { h ≡ book.now.h }
-    ensures { result ≡ not (is_none (take book.now.free k)) }
-{
-    if h < k {
-        return false;
-    }
-    match book.head(k) {
-        None => has_order(book, k + 1, h),
-        Some(_address) => true,
     }
 }
 
