@@ -1,12 +1,12 @@
 // The result of a command, and what is expected of it.
+use crate::fault::{Fault, ensure};
 use crate::printed::Numbers;
 use crate::texts::plain;
-use anyhow::{Result, bail, ensure};
 use rpp_command::rooplpp;
 use rpp_ports::{MemoryShelf, MemorySink};
 use rpp_probes::{Coverage, DeepestPlace, Probe, StepTally};
 use rpp_words::NoMemory;
-use std::alloc::Global;
+use std::alloc::{AllocError, Global};
 
 // The number of steps after which the probe of places ends, as in the program.
 const MOST_COVERED: u64 = 1_000_000;
@@ -14,7 +14,6 @@ const MOST_COVERED: u64 = 1_000_000;
 /// A command that has ended, and what is expected of its result.
 #[derive(Drop)]
 pub struct Answer {
-    words: String,
     said: Vec<u8>,
     status: u8,
     /// The lines that are to be printed.
@@ -27,17 +26,11 @@ pub struct Answer {
 
 impl Answer {
     /// What the program answers to these words, with the probes of the program itself.
-    pub fn new(
-        alloc: Global,
-        text: &str,
-        words: &[String],
-        shelf: &mut MemoryShelf,
-    ) -> Result<Self> {
+    pub fn new(alloc: Global, words: &[String], shelf: &mut MemoryShelf) -> Result<Self, Fault> {
         let Ok((status, said)) = respond(alloc, words, shelf) else {
-            bail!("no memory is left");
+            return Err(Fault::NoMemory);
         };
         Ok(Answer {
-            words: String::from_str(alloc, text)?,
             said,
             status,
             wanted: String::new(alloc),
@@ -47,7 +40,7 @@ impl Answer {
     }
 
     /// Wants a line more; a line of ... alone is any lines.
-    pub fn want(&mut self, line: &str) -> Result<()> {
+    pub fn want(&mut self, line: &str) -> Result<(), AllocError> {
         self.wanted.push_str(line)?;
         if line != "..." {
             self.wanted.push('\n')?;
@@ -56,33 +49,32 @@ impl Answer {
     }
 
     /// Wants a text that does not begin so.
-    pub fn refuse(&mut self, alloc: Global, text: &str) -> Result<()> {
+    pub fn refuse(&mut self, alloc: Global, text: &str) -> Result<(), AllocError> {
         self.unwanted.push(plain(alloc, text)?)?;
         Ok(())
     }
 
     /// Wants one of these statuses, in place of 0.
-    pub fn end_with(&mut self, alloc: Global, statuses: &str) -> Result<()> {
+    pub fn end_with(&mut self, alloc: Global, statuses: &str) -> Result<(), AllocError> {
         self.statuses = String::from_str(alloc, statuses)?;
         Ok(())
     }
 
     /// Compares the result with what is expected of it.
-    pub fn settle(&self, numbers: &mut Numbers) -> Result<()> {
-        let words = self.words.as_str();
-        let status = self.status;
-        ensure!(self.has_status(), "the status of `{words}` is {status}");
-        ensure!(
-            self.begins_well(),
-            "`{words}` printed what it must not begin with"
-        );
-        let is_any = self.wanted.is_empty() && !self.unwanted.is_empty();
-        let wanted = if is_any { "..." } else { self.wanted.as_str() };
-        ensure!(
-            numbers.fit(wanted, self.said.as_slice())?,
-            "`{words}` printed another text"
-        );
-        Ok(())
+    pub fn settle(&self, numbers: &mut Numbers) -> Result<(), Fault> {
+        ensure(self.has_status(), "the status is another one")?;
+        ensure(self.begins_well(), "the output begins as it must not")?;
+        let fits = numbers.fit(self.wanted(), self.said.as_slice())?;
+        ensure(fits, "another text is printed")
+    }
+
+    // The text that is to be printed: any, where only its beginning is known.
+    fn wanted(&self) -> &str {
+        if self.wanted.is_empty() && !self.unwanted.is_empty() {
+            "..."
+        } else {
+            self.wanted.as_str()
+        }
     }
 
     fn has_status(&self) -> bool {
@@ -109,7 +101,7 @@ fn respond(
     alloc: Global,
     words: &[String],
     shelf: &mut MemoryShelf,
-) -> std::result::Result<(u8, Vec<u8>), NoMemory> {
+) -> Result<(u8, Vec<u8>), NoMemory> {
     let mut probes: Vec<Box<dyn Probe>> = Vec::new(alloc);
     probes.push(Box::new(alloc, StepTally::new())?)?;
     probes.push(Box::new(alloc, Coverage::new(alloc, MOST_COVERED)?)?)?;

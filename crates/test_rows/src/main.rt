@@ -3,6 +3,7 @@
 #![tactic(auto)]
 
 mod answers;
+mod fault;
 mod files;
 mod names;
 mod printed;

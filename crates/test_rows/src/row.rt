@@ -1,14 +1,14 @@
 // A row: files, commands, and what they print, answer and leave.
 use crate::answers::Answer;
+use crate::fault::{Fault, ensure};
 use crate::files;
 use crate::printed::Numbers;
 use crate::texts::{is_word, words};
-use anyhow::{Context, Result, bail, ensure};
 use rpp_ports::MemoryShelf;
 use std::alloc::Global;
 
 /// Runs a row, and says how it differs from what its lines expect.
-pub fn run_row(alloc: Global, lines: &[String]) -> Result<()> {
+pub fn run_row(alloc: Global, lines: &[String]) -> Result<(), Fault> {
     let mut row = Row {
         alloc,
         shelf: MemoryShelf::new(alloc, Vec::new(alloc), Vec::new(alloc)),
@@ -20,8 +20,7 @@ pub fn run_row(alloc: Global, lines: &[String]) -> Result<()> {
         row.take(line.as_str())?;
     }
     row.settle()?;
-    ensure!(row.has_run, "it has no command");
-    Ok(())
+    ensure(row.has_run, "it has no command")
 }
 
 // A row as it runs: its files, the numbers that were printed, and the last answer.
@@ -36,7 +35,7 @@ struct Row {
 
 impl Row {
     // Does what a line says.
-    fn take(&mut self, line: &str) -> Result<()> {
+    fn take(&mut self, line: &str) -> Result<(), Fault> {
         if line == "$" {
             return self.run("", false);
         }
@@ -54,7 +53,7 @@ impl Row {
     }
 
     // Does what a line on files says.
-    fn take_files(&mut self, line: &str) -> Result<()> {
+    fn take_files(&mut self, line: &str) -> Result<(), Fault> {
         if let Some((name, other, changes)) = files::copying(line) {
             self.settle()?;
             return files::copy(self.alloc, &mut self.shelf, name, other, changes);
@@ -75,11 +74,11 @@ impl Row {
     }
 
     // Writes a file, or compares one that a command has left.
-    fn take_text(&mut self, how: &str, line: &str) -> Result<()> {
-        let (name, text) = line
-            .split_once(':')
-            .context("a line that is none of a row")?;
-        ensure!(is_word(name), "{name} is no name of a file");
+    fn take_text(&mut self, how: &str, line: &str) -> Result<(), Fault> {
+        let Some((name, text)) = line.split_once(':') else {
+            return Err(Fault::Differs("a line is none of a row"));
+        };
+        ensure(is_word(name), "a line has no name of a file")?;
         let text = text.strip_prefix(' ').unwrap_or(text);
         if how == "file" {
             return files::write(self.alloc, &mut self.shelf, name, text);
@@ -89,34 +88,34 @@ impl Row {
     }
 
     // Runs a command.
-    fn run(&mut self, text: &str, has_words: bool) -> Result<()> {
+    fn run(&mut self, text: &str, has_words: bool) -> Result<(), Fault> {
         self.settle()?;
         let text = self.with_numbers(text)?;
         let mut words = words(self.alloc, text.as_str())?;
         if !has_words {
             words.clear();
         }
-        self.answer = Some(Answer::new(self.alloc, text.as_str(), &words, &mut self.shelf)?);
+        self.answer = Some(Answer::new(self.alloc, &words, &mut self.shelf)?);
         self.has_run = true;
         Ok(())
     }
 
     // Wants what a line says of the last answer.
-    fn want(&mut self, line: &str) -> Result<()> {
+    fn want(&mut self, line: &str) -> Result<(), Fault> {
         let Some(answer) = &mut self.answer else {
-            bail!("no command stands before {line}");
+            return Err(Fault::Differs("a line has no command before it"));
         };
         if let Some(statuses) = line.strip_prefix("= ") {
-            return answer.end_with(self.alloc, statuses);
+            return Ok(answer.end_with(self.alloc, statuses)?);
         }
         if let Some(text) = line.strip_prefix("unlike ") {
-            return answer.refuse(self.alloc, text);
+            return Ok(answer.refuse(self.alloc, text)?);
         }
-        answer.want(line.strip_prefix("> ").unwrap_or(""))
+        Ok(answer.want(line.strip_prefix("> ").unwrap_or(""))?)
     }
 
     // Compares the last result with what is expected of it.
-    fn settle(&mut self) -> Result<()> {
+    fn settle(&mut self) -> Result<(), Fault> {
         match self.answer.take() {
             Some(answer) => answer.settle(&mut self.numbers),
             None => Ok(()),
@@ -124,50 +123,59 @@ impl Row {
     }
 
     // The text with its <NAME>s, <NAME+1>s and <NAME-1>s.
-    fn with_numbers(&self, text: &str) -> Result<String> {
+    fn with_numbers(&self, text: &str) -> Result<String, Fault> {
         let mut made = String::new(self.alloc);
         for (at, piece) in text.split('<').enumerate() {
             if at == 0 {
                 made.push_str(piece)?;
                 continue;
             }
-            match piece.split_once('>') {
-                Some((name, rest)) => {
-                    let value = self
-                        .numbers
-                        .value(name)
-                        .context(format_args!("no number {name} was printed"))?;
-                    write!(made, "{value}{rest}")?;
-                }
-                None => write!(made, "<{piece}")?,
-            }
+            self.add_number(&mut made, piece)?;
         }
         Ok(made)
     }
 
-    // Compares sums of numbers that were printed.
-    fn compare_numbers(&self, text: &str) -> Result<()> {
-        let text = self.with_numbers(text)?;
-        let text = text.as_str();
-        let holds = if let Some((left, right)) = text.split_once(" = ") {
-            sum(left)? == sum(right)?
-        } else if let Some((left, right)) = text.split_once(" <= ") {
-            sum(left)? <= sum(right)?
-        } else {
-            let (left, right) = text.split_once(" < ").context("two sums")?;
-            sum(left)? < sum(right)?
-        };
-        ensure!(holds, "{text} does not hold");
+    // Adds the piece after a <.
+    fn add_number(&self, made: &mut String, piece: &str) -> Result<(), Fault> {
+        match piece.split_once('>') {
+            Some((name, rest)) => {
+                let Some(value) = self.numbers.value(name) else {
+                    return Err(Fault::Differs("a number was not printed"));
+                };
+                write!(made, "{value}{rest}")?;
+            }
+            None => write!(made, "<{piece}")?,
+        }
         Ok(())
+    }
+
+    // Compares sums of numbers that were printed.
+    fn compare_numbers(&self, text: &str) -> Result<(), Fault> {
+        let text = self.with_numbers(text)?;
+        ensure(
+            holds(text.as_str()) == Some(true),
+            "a relation does not hold",
+        )
     }
 }
 
+// Whether a relation of two sums holds, if it is one.
+fn holds(text: &str) -> Option<bool> {
+    if let Some((left, right)) = text.split_once(" = ") {
+        return Some(sum(left)? == sum(right)?);
+    }
+    if let Some((left, right)) = text.split_once(" <= ") {
+        return Some(sum(left)? <= sum(right)?);
+    }
+    let (left, right) = text.split_once(" < ")?;
+    Some(sum(left)? < sum(right)?)
+}
+
 // The sum of numbers with + between them.
-fn sum(text: &str) -> Result<i64> {
+fn sum(text: &str) -> Option<i64> {
     let mut sum: i64 = 0;
     for number in text.split(" + ") {
-        let number = number.parse::<i64>().context("a number")?;
-        sum = sum.checked_add(number).context("a sum")?;
+        sum = sum.checked_add(number.parse::<i64>().ok()?)?;
     }
-    Ok(sum)
+    Some(sum)
 }

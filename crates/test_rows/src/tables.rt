@@ -147,6 +147,7 @@ impl Tables {
         self.rows = self.rows.saturating_add(1);
         if let Err(why) = run_row(self.alloc, &filled) {
             self.differing = self.differing.saturating_add(1);
+            let why = why.text();
             write!(self.lines, "{file}:{number}: {why}\n")?;
         }
         Ok(())
