@@ -1,5 +1,5 @@
-//! The tests of syntax trees that no command shows: copies and comparisons. It holds only tests: no
-//! layer uses it.
+//! The tests of syntax trees that no command shows: copies, comparisons and inverses. It holds only
+//! tests: no layer uses it.
 #![tactic(auto)]
 
 #[cfg(test)]

@@ -1,4 +1,4 @@
-// Trees that are copied, compared and counted.
+// Trees that are copied, compared, counted and inverted.
 ghost use Rattle.std.specs.Prelude.{◌≡◌, IfOk};
 ghost use Rattle.rpp_tree.specs.Tree.{nodes as node_count, statement_nodes, statement_depth};
 ghost use Rattle.rpp_tree.specs.Views.{expression_of, statement_of};
@@ -6,8 +6,10 @@ ghost use Rattle.rpp_tree.specs.Views.{expression_of, statement_of};
 use rpp_tree::{
     BinOp, Block, Class, Expr, Ident, Method, Place, Program, Stmt, Text, UpdateOp, Var, VarType,
 };
+use rpp_words::NoMemory;
 use std::alloc::{AllocError, Global};
 use std::test::Fail;
+use stmt_inverter::{invert_block, invert_stmt};
 use tree_walks::{alike, copy_program, depth, nodes};
 
 fn ident(alloc: Global, at: u32, text: &str) -> Result<Ident, AllocError> {
@@ -76,15 +78,52 @@ fn program(alloc: Global, at: u32, word: u32) -> Result<Program, AllocError> {
     Ok(Program { classes })
 }
 
+/// Whether such a program, and its copy, are as the first one.
+fn compare(alloc: Global, first: &Program, at: u32, word: u32) -> Result<(bool, bool), AllocError> {
+    let other = program(alloc, at, word)?;
+    let copied = copy_program(alloc, &other)?;
+    Ok((alike(first, &other), alike(first, &copied)))
+}
+
 #[test]
 fn compares_and_copies(rt: HostRuntime) -> Result<(), Fail> {
     let first = program(rt.alloc(), 5, 1)?;
     for (at, word, same) in [(5, 1, true), (9, 1, true), (5, 2, false)] {
-        let other = program(rt.alloc(), at, word)?;
-        assert_eq!(rt; alike(&first, &other), same, "at {at} with {word}");
-        let copied = copy_program(rt.alloc(), &other)?;
-        assert_eq!(rt; alike(&first, &copied), same, "a copy, at {at} with {word}");
+        let found = compare(rt.alloc(), &first, at, word)?;
+        assert_eq!(rt; found, (same, same), "at {at} with {word}");
     }
+    Ok(())
+}
+
+/// The operator of an update.
+fn operator_of(statement: &Stmt) -> Option<UpdateOp> {
+    match statement {
+        Stmt::Update { op, .. } => Some(*op),
+        _ => None,
+    }
+}
+
+/// The operator of the inverse of an update, and that of the inverse of its inverse in a block.
+fn inverse_operators(
+    alloc: Global,
+    there: &Stmt,
+) -> Result<(Option<UpdateOp>, Option<UpdateOp>), NoMemory> {
+    let back = invert_stmt(alloc, there)?;
+    let operator = operator_of(&back);
+    let list = vec![in alloc; back]?;
+    let again = invert_block(alloc, &Block { list })?;
+    match again.list.first() {
+        Some(statement) => Ok((operator, operator_of(statement))),
+        None => Ok((operator, None)),
+    }
+}
+
+#[test]
+fn inverts(rt: HostRuntime) -> Result<(), Fail> {
+    let there = update(rt.alloc(), 5, 1)?;
+    let (back, again) = inverse_operators(rt.alloc(), &there)?;
+    assert_eq!(rt; back, Some(UpdateOp::Sub), "the inverse");
+    assert_eq!(rt; again, Some(UpdateOp::Add), "the inverse of the inverse");
     Ok(())
 }
 
