@@ -8,8 +8,8 @@ ghost use Rattle.class_rules.specs.Chains.{lines as lines_of};
 ghost use Rattle.class_rules.specs.Members.{class_at, field_name, fields_of, taken_field, duplicate_field_at, too_many_fields_at, inherited, fields_along as all_fields, names_along as all_names, fields as fields_of_all, duplicate_field, too_many_fields};
 
 use crate::chains::line_at;
-use class_rules::ClassError;
 use crate::names::add_name;
+use class_rules::ClassError;
 use indexmap::IndexSet;
 use rpp_tree::Text;
 use rpp_tree::limits::{LimitKind, MOST_FIELDS};

@@ -7,10 +7,9 @@ ghost use Rattle.class_rules.specs.Chains.{lines as lines_of};
 ghost use Rattle.class_rules.specs.Overrides.{method_name, method_taken, duplicate_method_in, duplicate_method, same_type, same_types as equal_types, parameters_of, override_differs, inherited_slots, override_differs_at, differing_override};
 
 use crate::chains::line_at;
-use class_rules::ClassError;
-use class_rules::MethodId;
 use crate::names::add_name;
 use crate::slots::{methods_at, runs_at, slots_along};
+use class_rules::{ClassError, MethodId};
 use indexmap::{IndexMap, IndexSet};
 use rpp_tree::Text;
 use rpp_tree::tree::{Class, Method, Program, Var, VarType};

@@ -4,8 +4,8 @@ ghost use Rattle.rpp_tree.specs.Views.{source_of, class_text_of, procedure_of};
 ghost use Rattle.class_rules.specs.Rules.{IsFirst, class_names, duplicate_class, unknown_class, unknown_in_class, unknown_params, unknown_var, unknown_type, unknown_name, unknown_parent};
 ghost use Rattle.class_rules.specs.First.{first_in};
 
-use class_rules::ClassError;
 use crate::names::add_name;
+use class_rules::ClassError;
 use indexmap::IndexSet;
 use rpp_tree::Text;
 use rpp_tree::tree::{Class, Ident, Method, Program, Var, VarType};

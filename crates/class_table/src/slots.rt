@@ -8,8 +8,7 @@ ghost use Rattle.class_rules.specs.Overrides.{run_at};
 ghost use Rattle.class_rules.specs.Members.{class_at, with_methods, slots_along as all_slots, slots_of, slots as slots_of_all, too_many_slots_at, too_many_slots};
 
 use crate::chains::line_at;
-use class_rules::ClassError;
-use class_rules::MethodId;
+use class_rules::{ClassError, MethodId};
 use indexmap::IndexMap;
 use rpp_tree::Text;
 use rpp_tree::limits::{LimitKind, MOST_METHODS};

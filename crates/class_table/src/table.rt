@@ -5,13 +5,12 @@ ghost use Rattle.class_rules.specs.Rules.{IsFirst};
 ghost use Rattle.class_rules.specs.Table.{table_of, first_class_refusal, HasClassTable, class_of, fields_in, field_in, slots_in, slot_in, dispatch_in, inherits_in};
 
 use crate::chains::{line_at, lines, number_of, parents};
-use class_rules::ClassError;
 use crate::fields::{ClassFields, check_fields, fields};
 use crate::mains::the_main;
-use class_rules::MethodId;
 use crate::overrides::{check_methods, check_overrides};
 use crate::phases::{know_classes, name_classes};
 use crate::slots::{MethodSlots, slots};
+use class_rules::{ClassError, MethodId};
 use indexmap::IndexSet;
 use rpp_tree::Text;
 use rpp_tree::limits::{MOST_CLASSES, MOST_METHODS};

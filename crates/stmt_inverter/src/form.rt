@@ -4,8 +4,8 @@ ghost use Rattle.rpp_tree.specs.Tree.{Update, If, From as FromLoop, Construct, L
 ghost use Rattle.rpp_tree.specs.Views.{expression_of, lvalue_of, creation_of, optional_lvalue_of, statement_of, block_of};
 ghost use Rattle.inverse_rules.specs.Inverse.{inverse_operator};
 
-use rpp_tree::tree::{Block, Expr, Ident, Made, Place, Stmt, UpdateOp, Var, VarType};
 use rpp_tree::copy_names;
+use rpp_tree::tree::{Block, Expr, Ident, Made, Place, Stmt, UpdateOp, Var, VarType};
 use rpp_words::NoMemory;
 use std::alloc::Global;
 use tree_walks::{copy_expr, copy_made, copy_place, copy_receiver};
