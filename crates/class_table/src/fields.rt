@@ -108,7 +108,7 @@ fn check_own_fields(alloc: Global, mut names: IndexSet<Text>, own: &[Var]) -> Re
 }
 
 /// Whether each field of a class has a name of its own.
-#[tactic(auto, using(crate::proofs::Numbers::by_number, crate::proofs::FieldNames::taken_field_inherited))]
+#[tactic(auto, using(class_rules::proofs::Numbers::by_number, class_rules::proofs::FieldNames::taken_field_inherited))]
 fn check_fields_of(
     alloc: Global,
     program: &Program,
@@ -181,7 +181,7 @@ fn names_of(alloc: Global, vars: &[Var]) -> Result<IndexSet<Text>, ClassError>
 }
 
 /// The fields of a class, if they are not too many.
-#[tactic(auto, using(crate::proofs::Numbers::by_number))]
+#[tactic(auto, using(class_rules::proofs::Numbers::by_number))]
 fn class_fields(
     alloc: Global,
     program: &Program,
@@ -208,7 +208,7 @@ fn class_fields(
 }
 
 /// The fields of each class, if they are not too many.
-#[tactic(auto, using(crate::proofs::FreshFields::fresh))]
+#[tactic(auto, using(class_rules::proofs::FreshFields::fresh))]
 pub fn fields(
     alloc: Global,
     program: &Program,

@@ -112,7 +112,7 @@ fn method_overrides(
     None
 }
 
-#[tactic(auto, using(crate::proofs::Numbers::by_number))]
+#[tactic(auto, using(class_rules::proofs::Numbers::by_number))]
 fn slots_above(
     alloc: Global,
     program: &Program,

@@ -135,7 +135,7 @@ pub fn slots_along(
 }
 
 /// The slots of a class, if they are not too many.
-#[tactic(auto, using(crate::proofs::Numbers::by_number))]
+#[tactic(auto, using(class_rules::proofs::Numbers::by_number))]
 fn class_slots(
     alloc: Global,
     program: &Program,
