@@ -325,13 +325,9 @@ fn free(
         (state_of setting.now scope.now heap.old values.old.items)) (λ why. why ≡ Stop.NoMemory) }
     ensures framed { OnOk result (IsFramed setting.now scope.now heap.new values.new.items) }
 {
-    match heap.give(name) {
-        Err(_full) => Err(Stop::NoMemory),
-        Ok(()) => {
-            write_cell(setting, scope, heap, values, cell, Value::Nil);
-            Ok(())
-        }
-    }
+    heap.give(name)?;
+    write_cell(setting, scope, heap, values, cell, Value::Nil);
+    Ok(())
 }
 
 /// After the checks of a `delete` but the last: the object goes at this cost, if it is empty.

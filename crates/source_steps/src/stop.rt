@@ -3,6 +3,7 @@ ghost use Rattle.std.specs.Prelude.{◌≡◌};
 ghost use Rattle.source_steps.specs.declared.stop.Stop.TheVariants.{NoMemory as WantsMemory};
 
 use rpp_words::NoMemory;
+use source_store::Lack;
 use std::alloc::{AllocError, AllocFailed};
 
 /// Why a run stops before its end.
@@ -21,6 +22,14 @@ impl From<NoMemory> for Stop {
 
     fn from(_: NoMemory) -> Self {
         Stop::NoMemory
+    }
+}
+
+impl From<Lack> for Stop {
+    ghost from_gives = { λ _ e. e ≡ WantsMemory };
+
+    fn from(lack: Lack) -> Self {
+        Stop::from(lack.as_no_memory())
     }
 }
 

@@ -1,12 +1,12 @@
 -- The table of objects as a store.
-use Rattle.std.proofs.Common.{◌≡◌, ℕ, zero, suc, ◌+◌, ◌<◌, ◌≤◌, refl, sym, ap, ◌∙◌, arith, List, [], ◌∷◌, ◌++◌, length}
+use Rattle.std.proofs.Common.{◌≡◌, ℕ, zero, suc, ◌+◌, ◌<◌, ◌≤◌, refl, sym, ap, subst, ◌∙◌, arith, List, [], ◌∷◌, ◌++◌, length}
 use Rattle.std.proofs.Common.{length-set}
 use Rattle.std.proofs.Common.{Some, None, eq-eqb, Bool, true, false, if◌then◌else◌, map}
 use Rattle.std.proofs.lemmas.Bool.{eqb-true, eqb-false, ltb-true, ltb-false, lt-ltb, le-ltb}
 use Rattle.std.proofs.lemmas.Option.{slice_get_past}
 use Rattle.std.specs.Prelude.{Result, Ok, Err, OnOk, OnErr, Option, slice_get, slice_set, nat_eq, nat_lt}
-use Rattle.std.specs.Option.{option_map}
-use Rattle.meaning_machine.specs.roopl_semantics.Store.{Object, Store, object_named, changed_at, without}
+use Rattle.std.specs.Option.{option_map, unwrap_or}
+use Rattle.meaning_machine.specs.roopl_semantics.Store.{Object, Store, object_named, object_at, no_object, changed_at, without}
 use Rattle.meaning_machine.specs.Reversed.{put_back}
 use Rattle.source_store.specs.declared.object.Object.{Object as Live}
 use Rattle.source_store.specs.ValueView.{object_of}
@@ -316,6 +316,28 @@ pub stays_if : {E : Type 0} (table : List (Option Live)) (name : ℕ) (old slot 
     → OnErr r (slice_set table name slot ≡ table)
 stays_if table name old slot (Ok u) at e = tt
 stays_if table name old slot (Err why) at e = ap (slice_set table name) e ∙ set_same table name old at
+
+-- the count of an object, where a call failed
+pub most_if : {E F : Type 0} (table : List (Option Live)) (name : ℕ) (old : Option Live) (n : ℕ) (r : Result E F)
+    → slice_get table name ≡ Some old → OnErr r (option_map (λ (o : Object). o.count) (live_in (Some old)) ≡ Some n)
+    → OnErr r (option_map (λ (o : Object). o.count) (live_in (slice_get table name)) ≡ Some n)
+most_if table name old n r at most =
+    subst (λ (s : Option (Option Live)). OnErr r (option_map (λ (o : Object). o.count) (live_in s) ≡ Some n))
+    (sym at) most
+
+count_is : (x : Option Object) (n : ℕ) → option_map (λ (o : Object). o.count) x ≡ Some n
+    → (unwrap_or x no_object).count ≡ n
+count_is None n e = cc
+count_is (Some o) n e = cc
+
+pub most_named : {E F : Type 0} (table : List (Option Live)) (name n : ℕ) (store : Store) (r : Result E F)
+    → store_of table ≡ store → OnErr r (option_map (λ (o : Object). o.count) (live_in (slice_get table name)) ≡ Some n)
+    → OnErr r ((object_at store name).count ≡ n)
+most_named table name n store (Ok u) view most = tt
+most_named table name n store (Err why) view most =
+    count_is (object_named store name) n
+    (ap (λ (s : Store). option_map (λ (o : Object). o.count) (object_named s name)) (sym view)
+    ∙ ap (option_map (λ (o : Object). o.count)) (object_named_store table name) ∙ most)
 
 -- ---- how many live
 

@@ -1,33 +1,34 @@
 // The requests to a heap undone.
-ghost use Rattle.std.specs.Prelude.{◌≡◌, ◌-◌, ◌<◌, ◌^◌, IfOk, OnErr, length, Some, None, slice_get, take, if◌then◌else◌};
+ghost use Rattle.std.specs.Prelude.{◌≡◌, ◌-◌, ◌<◌, ◌^◌, IfOk, IfErr, OnErr, length, Some, None, slice_get, take, if◌then◌else◌};
 ghost use Rattle.std.specs.Option.{option_map};
 ghost use Rattle.source_store.specs.ValueView.{values_of, head_of};
 ghost use Rattle.source_store.specs.HeapView.{before_take, before_give, is_free_slot};
 
 use crate::changes::block_of;
 use crate::heap::{Heap, order_of};
+use crate::lack::Lack;
 use crate::object::{Head, Object};
 use crate::requests::Request;
 use crate::value::Value;
-use rpp_words::NoMemory;
 
 impl Heap {
     /// The newest request is undone, if it was for a new object: the object goes, and its block
-    /// goes back. It returns whether it was. It is refused, as `NoMemory`, if that object is not
-    /// the last of the table, with a block of the order that was asked for.
-    pub fn untake(&mut self) -> Result<bool, NoMemory>
+    /// goes back. It returns whether it was. It is refused if that object is not the last of the
+    /// table, with a block of the order that was asked for.
+    pub fn untake(&mut self) -> Result<bool, Lack>
         ensures untaken { IfOk result (λ was. before_take self.old self.old.log
             ≡ (if was then Some self.new else None)) }
         ensures stays { OnErr result (self.new ≡ self.old) }
+        ensures full { IfErr result (λ why. why ≡ Lack.Full) }
     {
         match newest(&self.log) {
             None => Ok(false),
             Some(Request::Given { .. }) => Ok(false),
             Some(Request::Taken { name, order }) => match block_of(&self.objects, name as usize) {
-                None => Err(NoMemory),
+                None => Err(Lack::Full),
                 Some((block, size)) => {
                     if name as usize + 1 != self.objects.len() || order != order_of(size as u32) {
-                        return Err(NoMemory);
+                        return Err(Lack::Full);
                     }
                     self.book.give(order, block);
                     shorten(&mut self.objects);
@@ -39,23 +40,24 @@ impl Heap {
     }
 
     /// The newest request is undone, if it gave an object back: the object lives again under its
-    /// name, with one variable and these cells, in its block. It returns the name. It is refused,
-    /// as `NoMemory`, if something lives under the object id, or the cells are of another order.
-    pub fn ungive(&mut self, head: Head, cells: Vec<Value>) -> Result<Option<u32>, NoMemory>
+    /// name, with one variable and these cells, in its block. It returns the name. It is refused if
+    /// something lives under the object id, or the cells are of another order.
+    pub fn ungive(&mut self, head: Head, cells: Vec<Value>) -> Result<Option<u32>, Lack>
         requires small { length cells.items < 2 ^ 31 }
         ensures ungiven { IfOk result (λ name. before_give self.old (head_of head)
             (values_of cells.items) self.old.log ≡ option_map (λ n. (n, self.new)) name) }
         ensures stays { OnErr result (self.new ≡ self.old) }
+        ensures full { IfErr result (λ why. why ≡ Lack.Full) }
     {
         match newest(&self.log) {
             None => Ok(None),
             Some(Request::Taken { .. }) => Ok(None),
             Some(Request::Given { name, order }) => {
                 if !is_free(&self.objects, name as usize) || order != order_of(cells.len() as u32) {
-                    return Err(NoMemory);
+                    return Err(Lack::Full);
                 }
                 match self.book.take(order) {
-                    None => Err(NoMemory),
+                    None => Err(Lack::Full),
                     Some(block) => {
                         let object = Object {
                             head,

@@ -1,17 +1,17 @@
 // The changes of a heap.
-ghost use Rattle.std.specs.Prelude.{◌≡◌, ◌≤◌, ◌<◌, ◌^◌, ◌∷◌, suc, None, IfOk, OnOk, OnErr, length, Some};
+ghost use Rattle.std.specs.Prelude.{◌≡◌, ◌+◌, ◌-◌, ◌≤◌, ◌<◌, ◌^◌, ◌∷◌, suc, None, IfOk, IfErr, OnOk, OnErr, length, slice_get, Some};
 ghost use Rattle.std.specs.Option.{option_map};
-ghost use Rattle.meaning_machine.specs.buddy_book.Place.{Given};
+ghost use Rattle.meaning_machine.specs.buddy_book.Place.{Given, count_taken};
 ghost use Rattle.meaning_machine.specs.roopl_semantics.Store.{changed_at, object_at, without};
 ghost use Rattle.meaning_machine.specs.roopl_semantics.Execution.{order_of_cells, one_less};
 ghost use Rattle.source_store.specs.ValueView.{value_of, values_of, head_of, object_of, with_part, with_count};
 ghost use Rattle.source_store.specs.HeapView.{live_in, store_of, block_in, block_at, SameBlocks, Took};
 
 use crate::heap::{Heap, order_of};
+use crate::lack::Lack;
 use crate::object::{Head, Object, put_value};
 use crate::requests::Request;
 use crate::value::Value;
-use rpp_words::NoMemory;
 
 impl Heap {
     /// Another value in a field or element.
@@ -23,11 +23,13 @@ impl Heap {
     }
 
     /// One more variable refers to the object of a name. If its reference count is as high as
-    /// counts go, that is refused, as `NoMemory`.
-    pub fn raise(&mut self, name: u32) -> Result<(), NoMemory>
+    /// counts go, that is refused.
+    pub fn raise(&mut self, name: u32) -> Result<(), Lack>
         ensures raised { OnOk result (self.new ≡ record self.old
             { store = changed_at self.old.store name (with_count suc) }) }
         ensures stays { OnErr result (self.new ≡ self.old) }
+        ensures full { IfErr result (λ why. why ≡ Lack.Full) }
+        ensures most { OnErr result ((object_at self.old.store name).count ≡ 2 ^ 64 - 1) }
     {
         raise_at(&mut self.objects, name)
     }
@@ -41,16 +43,18 @@ impl Heap {
     }
 
     /// A new object or array with these cells and the next name, if the heap has a block for it.
-    /// If no object id is left, that is refused, as `NoMemory`.
-    pub fn take(&mut self, head: Head, cells: Vec<Value>) -> Result<Option<u32>, NoMemory>
+    /// If no object id is left, that is refused as `Full`.
+    pub fn take(&mut self, head: Head, cells: Vec<Value>) -> Result<Option<u32>, Lack>
         requires small { length cells.items < 2 ^ 31 }
         ensures took { IfOk result (λ name. Took name self.old self.new (head_of head)
             (values_of cells.items)) }
         ensures stays { OnErr result (self.new ≡ self.old) }
+        ensures full { IfErr result (λ why. why ≡ Lack.Full
+            → 2 ^ 32 ≤ 3 + count_taken self.old.log) }
     {
         let name = self.objects.len();
         if name >= u32::MAX as usize {
-            return Err(NoMemory);
+            return Err(Lack::Full);
         }
         let order = order_of(cells.len() as u32);
         self.objects.reserve(1)?;
@@ -73,9 +77,9 @@ impl Heap {
         }
     }
 
-    /// The object of a name goes, and its block goes back. It is refused, as `NoMemory`, for an
-    /// object id without a block.
-    pub fn give(&mut self, name: u32) -> Result<(), NoMemory>
+    /// The object of a name goes, and its block goes back. It is refused as `Full` for an object id
+    /// without a block.
+    pub fn give(&mut self, name: u32) -> Result<(), Lack>
         ensures given { OnOk result (self.new ≡ record self.old {
           store = without self.old.store name;
           log = Given name (order_of_cells (length (object_at self.old.store name).cells))
@@ -85,7 +89,7 @@ impl Heap {
     {
         self.log.reserve(1)?;
         match block_of(&self.objects, name as usize) {
-            None => Err(NoMemory),
+            None => Err(Lack::Full),
             Some((block, size)) => {
                 let order = order_of(size as u32);
                 self.book.give(order, block);
@@ -154,22 +158,27 @@ fn set_part(objects: &mut Vec<Option<Object>>, name: u32, index: usize, value: V
     }
 }
 
-fn raise(object: &mut Object) -> Result<(), NoMemory>
+fn raise(object: &mut Object) -> Result<(), Lack>
     ensures object { OnOk result (object_of object.new ≡ with_count suc (object_of object.old)) }
     ensures stays { OnErr result (object.new ≡ object.old) }
+    ensures full { IfErr result (λ why. why ≡ Lack.Full) }
+    ensures most { OnErr result (object.old.count ≡ 2 ^ 64 - 1) }
     ensures block { block_in (Some (Some object.new)) ≡ block_in (Some (Some object.old)) }
 {
     if object.count == u64::MAX {
-        return Err(NoMemory);
+        return Err(Lack::Full);
     }
     object.count += 1;
     Ok(())
 }
 
-fn raise_in_slot(slot: &mut Option<Object>) -> Result<(), NoMemory>
+fn raise_in_slot(slot: &mut Option<Object>) -> Result<(), Lack>
     ensures object { OnOk result (live_in (Some slot.new)
         ≡ option_map (with_count suc) (live_in (Some slot.old))) }
     ensures stays { OnErr result (slot.new ≡ slot.old) }
+    ensures full { IfErr result (λ why. why ≡ Lack.Full) }
+    ensures most { OnErr result (option_map (λ o. o.count) (live_in (Some slot.old))
+        ≡ Some (2 ^ 64 - 1)) }
     ensures block { block_in (Some slot.new) ≡ block_in (Some slot.old) }
 {
     match slot {
@@ -179,10 +188,13 @@ fn raise_in_slot(slot: &mut Option<Object>) -> Result<(), NoMemory>
 }
 
 /// One more variable refers to the object of a name.
-fn raise_at(objects: &mut Vec<Option<Object>>, name: u32) -> Result<(), NoMemory>
+fn raise_at(objects: &mut Vec<Option<Object>>, name: u32) -> Result<(), Lack>
     ensures store { OnOk result (store_of objects.new.items
         ≡ changed_at (store_of objects.old.items) name (with_count suc)) }
     ensures stays { OnErr result (objects.new.items ≡ objects.old.items) }
+    ensures full { IfErr result (λ why. why ≡ Lack.Full) }
+    ensures most { OnErr result (option_map (λ o. o.count)
+        (live_in (slice_get objects.old.items name)) ≡ Some (2 ^ 64 - 1)) }
     ensures blocks { SameBlocks objects.old.items objects.new.items }
 {
     if (name as usize) >= objects.len() {

@@ -7,10 +7,12 @@
 mod back;
 mod changes;
 mod heap;
+mod lack;
 mod object;
 mod requests;
 mod value;
 
 pub use heap::Heap;
+pub use lack::Lack;
 pub use object::{Head, Object};
 pub use value::Value;

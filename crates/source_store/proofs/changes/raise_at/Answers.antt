@@ -1,6 +1,6 @@
 use Rattle.std.proofs.Common.{arith, refl, ◌<◌, length}
 use Rattle.std.proofs.lemmas.Option.{slice_get_read}
-use Rattle.source_store.proofs.Tables.{changed_past, same_blocks, changed_if, stays_if}
+use Rattle.source_store.proofs.Tables.{changed_past, same_blocks, changed_if, stays_if, most_if}
 use Rattle.source_store.proofs.changes.raise_at.Goals as goal
 
 pub returns-then-name-len-clause-store : goal.returns-then-name-len-clause-store
@@ -29,3 +29,11 @@ returns-clause-blocks c =
     same_blocks table c.args.name c.index_mut.result.now c.raise_in_slot.new.slot
     (slice_get_read table (length table) c.args.name c.index_mut.result.now refl inside c.index_mut.ensures.value)
     c.raise_in_slot.ensures.block inside
+
+pub returns-clause-most : goal.returns-clause-most
+returns-clause-most c =
+    let table = c.args.objects.now.items in
+    let inside : c.args.name < length table = omega arith in
+    most_if table c.args.name c.index_mut.result.now _ c.raise_in_slot.result
+    (slice_get_read table (length table) c.args.name c.index_mut.result.now refl inside c.index_mut.ensures.value)
+    c.raise_in_slot.ensures.most
