@@ -2,14 +2,16 @@
 use Rattle.std.proofs.Common.{◌≡◌, ℕ, zero, suc, ◌+◌, ◌-◌, ◌<◌, ◌≤◌, refl, sym, ap, subst, ◌∙◌, arith, Bool, true}
 use Rattle.std.proofs.Common.{false, Some, None, if◌then◌else◌}
 use Rattle.std.proofs.lemmas.Bool.{leb-true, leb-false, le-leb}
-use Rattle.std.specs.Prelude.{nat_le, Option, Result, Ok, Err}
+use Rattle.std.specs.Prelude.{nat_le, Option, Result, Ok, Err, IfErr}
 use Rattle.std.specs.Result.{IsErrAnd}
 use Rattle.source_store.specs.roopl_semantics.Store.{State}
 use Rattle.source_store.specs.roopl_semantics.Run.{Run, Done, Fault, More, after_cost, ◌>>=◌, give}
+use Rattle.source_store.specs.declared.lack.Lack.{Lack}
+use Rattle.source_store.specs.declared.lack.Lack.TheVariants as lacking
 use Rattle.source_steps.specs.declared.stop.Stop.{Stop}
 use Rattle.source_steps.specs.declared.stop.Stop.TheVariants as stop
 use Rattle.source_steps.specs.Metered.{Metered, Went, Out, left_of, went, stopped, metered, chain, Failed}
-use Rattle.source_steps.specs.Metered.{Gives}
+use Rattle.source_steps.specs.Metered.{Gives, IsOwn, IsOwnOrFull}
 
 pub left_yes : (fuel cost : ℕ) → cost ≤ fuel → left_of fuel cost ≡ Some (fuel - cost)
 left_yes fuel cost h = ap (λ b. if b then Some (fuel - cost) else None) (le-leb cost fuel h)
@@ -105,7 +107,17 @@ pub fails : {A B : Type 0} (fuel left : ℕ) (run : Run A) (next : A → Run B) 
 fails fuel left run next (stop.Fault code) e = metered_then fuel run next
     ∙ ap (λ m. chain m (λ b l. metered l (next b))) e
 fails fuel left run next stop.More e = metered_then fuel run next ∙ ap (λ m. chain m (λ b l. metered l (next b))) e
-fails fuel left run next stop.NoMemory e = tt
+fails fuel left run next (stop.Lacks lack) e = tt
+
+-- a run that stopped by itself did so with no allocation refused
+pub either : (why : Stop) → IsOwn why → IsOwnOrFull why
+either (stop.Fault code) own = tt
+either stop.More own = tt
+either (stop.Lacks lack) own = absurd own
+
+pub so_either : {E : Type 0} (result : Result E Stop) → IfErr result IsOwn → IfErr result IsOwnOrFull
+so_either (Ok e) own = tt
+so_either (Err why) own = either why own
 
 -- gives at no cost
 pub gives : {A : Type 0} (fuel : ℕ) (a : A) → metered fuel (give a) ≡ Went a fuel
@@ -142,3 +154,13 @@ pub handed : {E : Type 0} (result : Result E Stop) (why : Stop) (g : E → State
     → IsErrAnd result (λ e. e ≡ why) → Failed why left run → Gives g result left run
 handed (Ok x) why g left run e k = absurd e
 handed (Err e) why g left run same k = subst (λ w. Failed w left run) (sym same) k
+
+pub handed_own : {E : Type 0} (result : Result E Stop) (why : Stop) → IsErrAnd result (λ e. e ≡ why) → IsOwn why
+    → IfErr result IsOwnOrFull
+handed_own (Ok x) why e own = absurd e
+handed_own (Err e) why same own = either e (subst IsOwn (sym same) own)
+
+pub handed_full : {E : Type 0} (result : Result E Stop) (why : Lack) → IsErrAnd result (λ e. e ≡ stop.Lacks why)
+    → why ≡ lacking.Full → IfErr result IsOwnOrFull
+handed_full (Ok x) why e full = absurd e
+handed_full (Err e) why same full = subst IsOwnOrFull (sym same) full

@@ -3,6 +3,7 @@ use Rattle.std.specs.Prelude.{◌≡◌, ℕ, ◌-◌, nat_le, Option, Some, Non
 use Rattle.std.specs.Prelude.{Result, Ok, Err}
 use Rattle.source_steps.specs.declared.stop.Stop.{Stop}
 use Rattle.source_steps.specs.declared.stop.Stop.TheVariants as stop
+use Rattle.source_store.specs.declared.lack.Lack.TheVariants as lacking
 use Rattle.source_store.specs.roopl_semantics.Run.{Run, Done, Fault, More}
 
 -- a result or a fault with the fuel that is left, or no fuel is left
@@ -39,7 +40,19 @@ chain Out next = Out
 abbrev pub Failed : {B : Type 0} → Stop → ℕ → Metered B → Type 0
 Failed (stop.Fault code) left run = run ≡ Stopped code left
 Failed stop.More left run = run ≡ Out
-Failed stop.NoMemory left run = Unit {0}
+Failed (stop.Lacks lack) left run = Unit {0}
+
+-- a run that stopped with a fault, or because its cost passes the fuel
+abbrev pub IsOwn : Stop → Type 0
+IsOwn (stop.Fault code) = Unit {0}
+IsOwn stop.More = Unit {0}
+IsOwn (stop.Lacks lack) = ⊥
+
+-- or because a number is as high as it can be, but with no allocation refused
+abbrev pub IsOwnOrFull : Stop → Type 0
+IsOwnOrFull (stop.Fault code) = Unit {0}
+IsOwnOrFull stop.More = Unit {0}
+IsOwnOrFull (stop.Lacks why) = why ≡ lacking.Full
 
 -- what a call that returned so gave: its value, or why it stopped
 abbrev pub Gives : {A B : Type 0} → (A → B) → Result A Stop → ℕ → Metered B → Type 0

@@ -1,12 +1,12 @@
 // The check that a statement changes no element of an array that it reads.
-ghost use Rattle.std.specs.Prelude.{◌≡◌, ◌≤◌, ◌++◌, ◌||◌, ◌∷◌, [], length, OnOk, IfSome};
+ghost use Rattle.std.specs.Prelude.{◌≡◌, ◌≤◌, ◌++◌, ◌||◌, ◌∷◌, [], length, OnOk, IfSome, IfErr};
 ghost use Rattle.std.specs.Option.{option_map};
 ghost use Rattle.rpp_tree.specs.Views.{expression_of, lvalue_of};
 ghost use Rattle.source_store.specs.roopl_semantics.Run.{spend as spending};
 ghost use Rattle.source_store.specs.roopl_semantics.Elements.{elements, index_elements, own_element, is_among, kept_apart};
 ghost use Rattle.source_store.specs.ValueView.{value_of};
 ghost use Rattle.source_steps.specs.Apart.{count_elements, meets as meets_in, reads_of};
-ghost use Rattle.source_steps.specs.Metered.{left_of, Gives, metered};
+ghost use Rattle.source_steps.specs.Metered.{left_of, Gives, metered, IsOwn};
 ghost use Rattle.source_steps.specs.StateView.{IsFramed, state_of, setting_of};
 
 use crate::cell::variable;
@@ -64,6 +64,7 @@ fn spend_elements(fuel: &mut u64, first: Option<&Expr>, second: &Expr) -> Result
         (spending (length (reads_of (option_map (λ e. expression_of e.now) first.entry)
         ++ elements (expression_of second.now))))) }
     ensures less { fuel.new ≤ fuel.old }
+    ensures own { IfErr result IsOwn }
 {
     match pay_both(*fuel, first, second) {
         None => Err(Stop::More),
@@ -157,6 +158,7 @@ fn reads_apart(
         ++ elements (expression_of second.now))
         (state_of setting.now scope.now heap.now values.now.items))) }
     ensures less { fuel.new ≤ fuel.old }
+    ensures own { IfErr result IsOwn }
 {
     spend_elements(fuel, first, second)?;
     refuse(
@@ -184,6 +186,7 @@ fn both_apart(
         (elements (expression_of first.now) ++ elements (expression_of second.now))
         (state_of setting.now scope.now heap.now values.now.items))) }
     ensures less { fuel.new ≤ fuel.old }
+    ensures own { IfErr result IsOwn }
 {
     spend_elements(fuel, Some(first), second)?;
     let shared = shares(setting, scope, heap, values, name, Some(first), second)
@@ -219,6 +222,7 @@ pub fn update_apart(
         (index_elements (lvalue_of place.now) ++ elements (expression_of e.now))
         (state_of setting.now scope.now heap.now values.now.items))) }
     ensures less { fuel.new ≤ fuel.old }
+    ensures own { IfErr result IsOwn }
 {
     match &place.index {
         None => Ok(()),
@@ -250,6 +254,7 @@ pub fn place_apart(
         (own_element (lvalue_of place.now)) (index_elements (lvalue_of place.now))
         (state_of setting.now scope.now heap.now values.now.items))) }
     ensures less { fuel.new ≤ fuel.old }
+    ensures own { IfErr result IsOwn }
 {
     match &place.index {
         None => Ok(()),
@@ -274,6 +279,7 @@ pub fn copy_apart(
         (index_elements (lvalue_of source.now) ++ index_elements (lvalue_of target.now))
         (state_of setting.now scope.now heap.now values.now.items))) }
     ensures less { fuel.new ≤ fuel.old }
+    ensures own { IfErr result IsOwn }
 {
     match &target.index {
         None => Ok(()),
@@ -310,6 +316,7 @@ pub fn swap_apart(
         (index_elements (lvalue_of left.now) ++ index_elements (lvalue_of right.now))
         (state_of setting.now scope.now heap.now values.now.items))) }
     ensures less { fuel.new ≤ fuel.old }
+    ensures own { IfErr result IsOwn }
 {
     match &left.index {
         None => place_apart(setting, scope, heap, values, fuel, right),

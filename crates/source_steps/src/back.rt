@@ -17,7 +17,7 @@ use crate::steps::{evaluate, locate};
 use crate::stop::Stop;
 use rpp_tree::Text;
 use rpp_tree::tree::{Expr, Ident, Made, Place};
-use source_store::{Head, Heap, Value};
+use source_store::{Head, Heap, Lack, Value};
 
 /// What a cell names goes, with the newest request, if that was for a new object.
 fn untake(
@@ -143,7 +143,7 @@ pub fn undelete_object(
 }
 
 /// After the place and the length of a `delete` of an array that is undone. More elements than a
-/// heap has words are refused, as `NoMemory`.
+/// heap has words are refused as `Full`.
 fn put_array(
     setting: &Setting,
     scope: &Scope,
@@ -163,7 +163,7 @@ fn put_array(
 {
     let count = size.number();
     if count >= 1 << 31 {
-        return Err(Stop::NoMemory);
+        return Err(Stop::Lacks(Lack::Full));
     }
     let cells = elements(setting.alloc, count, element_of(kind))?;
     ungive(

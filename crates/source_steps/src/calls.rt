@@ -1,10 +1,10 @@
 // The values that move into a call and back.
-ghost use Rattle.std.specs.Prelude.{◌≡◌, ◌≤◌, ◌++◌, IfOk, OnOk, OnErr, MatchResult, length, map, not};
+ghost use Rattle.std.specs.Prelude.{◌≡◌, ◌≤◌, ◌++◌, IfOk, OnOk, OnErr, MatchResult, length, map, not, IfErr};
 ghost use Rattle.source_store.specs.roopl_semantics.Value.{read};
 ghost use Rattle.source_store.specs.roopl_semantics.Execution.{cells_named, moved_out, moved_back};
 ghost use Rattle.source_store.specs.ValueView.{value_of, values_of};
 ghost use Rattle.source_steps.specs.CellView.{cell_of};
-ghost use Rattle.source_steps.specs.Metered.{metered};
+ghost use Rattle.source_steps.specs.Metered.{metered, IsOwn};
 ghost use Rattle.source_steps.specs.Ends.{Ends};
 ghost use Rattle.source_steps.specs.StateView.{IsFramed, state_of, setting_of};
 
@@ -15,7 +15,7 @@ use crate::steps::refuse;
 use crate::stop::Stop;
 use rpp_tree::tree::Ident;
 use rpp_words::NoMemory;
-use source_store::{Heap, Value};
+use source_store::{Heap, Lack, Value};
 use std::alloc::Global;
 
 /// The cells of these names, after some others.
@@ -97,6 +97,7 @@ pub fn move_back(
         ≡ state_of setting.now scope.now heap.old values.old.items) }
     ensures framed { IsFramed setting.now scope.now heap.new values.new.items }
     ensures same { fuel.new ≡ fuel.old }
+    ensures own { IfErr result IsOwn }
 {
     match cells {
         [] => Ok(()),
@@ -131,11 +132,11 @@ pub fn cells_of(
     ensures { MatchResult result (λ cells. map cell_of cells.items
         ≡ cells_named (setting_of setting.now)
         (state_of setting.now scope.now heap.now values.now.items) names.now)
-        (λ why. why ≡ Stop.NoMemory) }
+        (λ why. why ≡ Stop.Lacks Lack.NoMemory) }
 {
     let mut cells = Vec::new(setting.alloc);
     match name_cells(setting, scope, heap, values, &mut cells, names) {
-        Err(_full) => Err(Stop::NoMemory),
+        Err(_full) => Err(Stop::Lacks(Lack::NoMemory)),
         Ok(()) => Ok(cells),
     }
 }
@@ -163,6 +164,7 @@ pub fn return_values(
         ≡ state_of setting.now scope.now heap.old values.old.items) }
     ensures framed { IsFramed setting.now scope.now heap.new values.new.items }
     ensures same { fuel.new ≡ fuel.old }
+    ensures own { IfErr result IsOwn }
 {
     match receiver {
         [] => move_back(setting, scope, heap, values, fuel, args, inside),

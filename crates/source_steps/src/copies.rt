@@ -1,11 +1,11 @@
 // Copies of references.
-ghost use Rattle.std.specs.Prelude.{◌≡◌, ◌≤◌, OnOk, not};
+ghost use Rattle.std.specs.Prelude.{◌≡◌, ◌≤◌, OnOk, not, IfErr};
 ghost use Rattle.rpp_tree.specs.Tree.{Copy as CopyTo, Uncopy};
 ghost use Rattle.rpp_tree.specs.Views.{lvalue_of};
 ghost use Rattle.source_store.specs.roopl_semantics.Execution.{same_cell};
 ghost use Rattle.source_steps.specs.CellView.{cell_of};
 ghost use Rattle.source_steps.specs.Ends.{Ends, does_simply, copied, uncopied};
-ghost use Rattle.source_steps.specs.Metered.{metered};
+ghost use Rattle.source_steps.specs.Metered.{metered, IsOwn, IsOwnOrFull};
 ghost use Rattle.source_steps.specs.StateView.{IsFramed, state_of, setting_of};
 
 use crate::apart::copy_apart;
@@ -30,6 +30,7 @@ fn is_same_cell(a: Cell, b: Cell) -> bool
 }
 
 /// After the places of a `copy`: the second of two cells refers to what the first does.
+#[tactic(auto, using(crate::proofs::Fuelled::either))]
 fn refer(
     setting: &Setting,
     scope: &Scope,
@@ -45,6 +46,7 @@ fn refer(
         (state_of setting.now scope.now heap.old values.old.items))) }
     ensures framed { OnOk result (IsFramed setting.now scope.now heap.new values.new.items) }
     ensures less { fuel.new ≤ fuel.old }
+    ensures own { IfErr result IsOwnOrFull }
 {
     let first = read_cell(setting, scope, heap, values, a);
     let second = read_cell(setting, scope, heap, values, b);
@@ -56,6 +58,7 @@ fn refer(
 }
 
 /// A `copy`.
+#[tactic(auto, using(crate::proofs::Fuelled::either))]
 pub fn copy(
     setting: &Setting,
     scope: &Scope,
@@ -74,6 +77,7 @@ pub fn copy(
         (state_of setting.now scope.now heap.old values.old.items)) }
     ensures framed { OnOk result (IsFramed setting.now scope.now heap.new values.new.items) }
     ensures less { fuel.new ≤ fuel.old }
+    ensures own { IfErr result IsOwnOrFull }
 {
     let a = locate(setting, scope, heap, values, fuel, source)?;
     let b = locate(setting, scope, heap, values, fuel, target)?;
@@ -97,6 +101,7 @@ fn take_back(
         (state_of setting.now scope.now heap.old values.old.items))) }
     ensures framed { OnOk result (IsFramed setting.now scope.now heap.new values.new.items) }
     ensures less { fuel.new ≤ fuel.old }
+    ensures own { IfErr result IsOwn }
 {
     let first = read_cell(setting, scope, heap, values, a);
     let second = read_cell(setting, scope, heap, values, b);
@@ -126,6 +131,7 @@ pub fn uncopy(
         (state_of setting.now scope.now heap.old values.old.items)) }
     ensures framed { OnOk result (IsFramed setting.now scope.now heap.new values.new.items) }
     ensures less { fuel.new ≤ fuel.old }
+    ensures own { IfErr result IsOwn }
 {
     let a = locate(setting, scope, heap, values, fuel, source)?;
     let b = locate(setting, scope, heap, values, fuel, target)?;

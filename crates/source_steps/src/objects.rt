@@ -1,5 +1,5 @@
 // Objects and arrays that are made and deleted.
-ghost use Rattle.std.specs.Prelude.{◌≡◌, ◌+◌, ◌≤◌, ◌<◌, ◌^◌, IfOk, OnOk, MatchResult, length, replicate};
+ghost use Rattle.std.specs.Prelude.{◌≡◌, ◌+◌, ◌≤◌, ◌<◌, ◌^◌, IfOk, OnOk, length, replicate};
 ghost use Rattle.std.specs.Option.{unwrap_or};
 ghost use Rattle.rpp_tree.specs.Tree.{New, Delete, Object as AnObject};
 ghost use Rattle.rpp_tree.specs.Views.{source_of, creation_of, expression_of, lvalue_of};
@@ -21,7 +21,7 @@ use crate::stop::Stop;
 use rpp_tree::Text;
 use rpp_tree::tree::{Expr, Ident, Made, Place, Var, VarType};
 use rpp_words::{NoMemory, less};
-use source_store::{Head, Heap, Value};
+use source_store::{Head, Heap, Lack, Value};
 use std::alloc::Global;
 
 fn zero(kind: &VarType) -> Value
@@ -317,12 +317,11 @@ fn free(
     values: &mut Vec<Value>,
     cell: Cell,
     name: u32,
-) -> Result<(), Stop>
+) -> Result<(), Lack>
     requires framed { IsFramed setting.now scope.now heap.old values.old.items }
-    ensures freed { MatchResult result
-        (λ u. state_of setting.now scope.now heap.new values.new.items
+    ensures freed { OnOk result (state_of setting.now scope.now heap.new values.new.items
         ≡ freed (setting_of setting.now) (cell_of cell) name
-        (state_of setting.now scope.now heap.old values.old.items)) (λ why. why ≡ Stop.NoMemory) }
+        (state_of setting.now scope.now heap.old values.old.items)) }
     ensures framed { OnOk result (IsFramed setting.now scope.now heap.new values.new.items) }
 {
     heap.give(name)?;
@@ -351,7 +350,8 @@ fn empty_out(
 {
     spend(fuel, setting.limits.heap as u64 + 1 + cells as u64)?;
     refuse(fuel, 7, !heap.is_empty(name))?;
-    free(setting, scope, heap, values, cell, name)
+    free(setting, scope, heap, values, cell, name)?;
+    Ok(())
 }
 
 /// After the place and the check of a `delete` of an object.

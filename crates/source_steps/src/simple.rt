@@ -1,10 +1,11 @@
 // Statements that hold no others, except for calls and the heap.
-ghost use Rattle.std.specs.Prelude.{◌≡◌, ◌≤◌, OnOk};
+ghost use Rattle.std.specs.Prelude.{◌≡◌, ◌≤◌, OnOk, IfErr};
 ghost use Rattle.rpp_tree.specs.Tree.{Update, Swap};
 ghost use Rattle.rpp_tree.specs.Views.{expression_of, lvalue_of};
 ghost use Rattle.source_store.specs.inverse_rules.Inverse.{inverse_operator};
 ghost use Rattle.source_store.specs.roopl_semantics.Operators.{updated};
 ghost use Rattle.source_steps.specs.Ends.{Ends, does_simply, call_turned};
+ghost use Rattle.source_steps.specs.Metered.{IsOwn};
 ghost use Rattle.source_steps.specs.StateView.{IsFramed, state_of, setting_of};
 
 use crate::apart::{swap_apart, update_apart};
@@ -45,6 +46,7 @@ pub fn update(
         (state_of setting.now scope.now heap.old values.old.items)) }
     ensures framed { OnOk result (IsFramed setting.now scope.now heap.new values.new.items) }
     ensures less { fuel.new ≤ fuel.old }
+    ensures own { IfErr result IsOwn }
 {
     let cell = locate(setting, scope, heap, values, fuel, place)?;
     let value = evaluate(setting, scope, heap, values, fuel, e)?;
@@ -72,6 +74,7 @@ pub fn swap(
         (state_of setting.now scope.now heap.old values.old.items)) }
     ensures framed { OnOk result (IsFramed setting.now scope.now heap.new values.new.items) }
     ensures less { fuel.new ≤ fuel.old }
+    ensures own { IfErr result IsOwn }
 {
     let a = locate(setting, scope, heap, values, fuel, left)?;
     let b = locate(setting, scope, heap, values, fuel, right)?;

@@ -1,12 +1,12 @@
 // The steps that statements are made of, each with its cost.
-ghost use Rattle.std.specs.Prelude.{◌≡◌, ◌+◌, ◌<◌, ◌≤◌, IfOk, OnOk};
+ghost use Rattle.std.specs.Prelude.{◌≡◌, ◌+◌, ◌<◌, ◌≤◌, IfOk, OnOk, IfErr};
 ghost use Rattle.rpp_tree.specs.Views.{expression_of, lvalue_of};
 ghost use Rattle.source_store.specs.roopl_semantics.Execution.{holds};
 ghost use Rattle.source_store.specs.roopl_semantics.Value.{evaluated as evaluated_in, found as found_in};
 ghost use Rattle.source_store.specs.roopl_semantics.Run.{spend as spending, fault_if};
 ghost use Rattle.source_store.specs.ValueView.{value_of};
 ghost use Rattle.source_steps.specs.CellView.{cell_of};
-ghost use Rattle.source_steps.specs.Metered.{Gives, metered};
+ghost use Rattle.source_steps.specs.Metered.{Gives, metered, IsOwn};
 ghost use Rattle.source_steps.specs.StateView.{IsFramed, state_of, setting_of};
 
 use crate::cell::Cell;
@@ -14,13 +14,14 @@ use crate::expressions::{Setting, find, pay, pay_place, value};
 use crate::scope::Scope;
 use crate::stop::Stop;
 use rpp_tree::tree::{Expr, Place};
-use source_store::{Heap, Value};
+use source_store::{Heap, Lack, Value};
 
 /// Counts.
 pub fn spend(fuel: &mut u64, cost: u64) -> Result<(), Stop>
     ensures gives { Gives (λ u. tt) result fuel.new (metered fuel.old (spending cost)) }
     ensures less { fuel.new ≤ fuel.old }
     ensures paid { OnOk result (fuel.new + cost ≡ fuel.old) }
+    ensures own { IfErr result IsOwn }
 {
     if *fuel < cost {
         return Err(Stop::More);
@@ -33,6 +34,7 @@ pub fn spend(fuel: &mut u64, cost: u64) -> Result<(), Stop>
 pub fn refuse(fuel: &mut u64, code: u32, test: bool) -> Result<(), Stop>
     ensures gives { Gives (λ u. tt) result fuel.new (metered fuel.old (fault_if code test)) }
     ensures same { fuel.new ≡ fuel.old }
+    ensures own { IfErr result IsOwn }
 {
     if test {
         return Err(Stop::Fault(code));
@@ -55,6 +57,7 @@ pub fn evaluate(
         (state_of setting.now scope.now heap.now values.now.items))) }
     ensures less { fuel.new ≤ fuel.old }
     ensures some { IfOk result (λ value. fuel.new < fuel.old) }
+    ensures own { IfErr result IsOwn }
 {
     match pay(*fuel, e) {
         None => Err(Stop::More),
@@ -82,6 +85,7 @@ pub fn locate(
         (metered fuel.old (found_in (setting_of setting.now).program (lvalue_of place.now)
         (state_of setting.now scope.now heap.now values.now.items))) }
     ensures less { fuel.new ≤ fuel.old }
+    ensures own { IfErr result IsOwn }
 {
     match pay_place(*fuel, place) {
         None => Err(Stop::More),

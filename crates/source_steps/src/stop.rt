@@ -1,6 +1,7 @@
 // Why a run stops.
 ghost use Rattle.std.specs.Prelude.{◌≡◌};
-ghost use Rattle.source_steps.specs.declared.stop.Stop.TheVariants.{NoMemory as WantsMemory};
+ghost use Rattle.source_store.specs.declared.lack.Lack.TheVariants.{NoMemory as WantsMemory};
+ghost use Rattle.source_steps.specs.declared.stop.Stop.TheVariants.{Lacks};
 
 use rpp_words::NoMemory;
 use source_store::Lack;
@@ -13,38 +14,38 @@ pub enum Stop {
     Fault(u32),
     /// The cost passes the fuel.
     More,
-    /// There is not enough memory.
-    NoMemory,
-}
-
-impl From<NoMemory> for Stop {
-    ghost from_gives = { λ _ e. e ≡ WantsMemory };
-
-    fn from(_: NoMemory) -> Self {
-        Stop::NoMemory
-    }
+    /// It cannot go on: an allocation was refused, or a number is as high as it can be.
+    Lacks(Lack),
 }
 
 impl From<Lack> for Stop {
-    ghost from_gives = { λ _ e. e ≡ WantsMemory };
+    ghost from_gives = { λ lack e. e ≡ Lacks lack };
 
     fn from(lack: Lack) -> Self {
-        Stop::from(lack.as_no_memory())
+        Stop::Lacks(lack)
+    }
+}
+
+impl From<NoMemory> for Stop {
+    ghost from_gives = { λ _ e. e ≡ Lacks WantsMemory };
+
+    fn from(_: NoMemory) -> Self {
+        Stop::Lacks(Lack::NoMemory)
     }
 }
 
 impl From<AllocError> for Stop {
-    ghost from_gives = { λ _ e. e ≡ WantsMemory };
+    ghost from_gives = { λ _ e. e ≡ Lacks WantsMemory };
 
     fn from(_: AllocError) -> Self {
-        Stop::NoMemory
+        Stop::Lacks(Lack::NoMemory)
     }
 }
 
 impl<T: Drop> From<AllocFailed<T>> for Stop {
-    ghost from_gives = { λ _ e. e ≡ WantsMemory };
+    ghost from_gives = { λ _ e. e ≡ Lacks WantsMemory };
 
     fn from(_: AllocFailed<T>) -> Self {
-        Stop::NoMemory
+        Stop::Lacks(Lack::NoMemory)
     }
 }
