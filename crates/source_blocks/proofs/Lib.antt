@@ -9,3 +9,4 @@ pub mod TurnedKinds
 pub mod Around
 pub mod Opened
 pub mod Scoped
+pub mod Stopping

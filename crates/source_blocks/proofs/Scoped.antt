@@ -12,6 +12,7 @@ use Rattle.source_steps.specs.source_store.ValueView.{value_of, values_of}
 use Rattle.source_steps.specs.declared.scope.Scope.{Scope as Chain}
 use Rattle.source_steps.specs.declared.stop.Stop.{Stop}
 use Rattle.source_steps.specs.declared.stop.Stop.TheVariants as stop
+use Rattle.source_steps.specs.source_store.declared.lack.Lack.TheVariants as lacking
 use Rattle.source_steps.specs.Metered.{Metered, Gives}
 use Rattle.source_steps.specs.StateView.{IsFramed, names_of, bindings, state_of}
 use Rattle.source_blocks.specs.declared.run.Run.{Run}
@@ -135,10 +136,11 @@ inside_same run mid same part body st e =
     ∙ ap (λ (r : Run). inside (config_of r) (here_in r) (rest_in r) part body st) same
 
 pub inside_as : {E : Type 0} (result : Result E Stop) (y a b : Config) → a ≡ b
-    → MatchResult result (λ u. y ≡ a) (λ why. why ≡ stop.NoMemory)
-    → MatchResult result (λ u. y ≡ b) (λ why. why ≡ stop.NoMemory)
+    → MatchResult result (λ u. y ≡ a) (λ why. why ≡ stop.Lacks lacking.NoMemory)
+    → MatchResult result (λ u. y ≡ b) (λ why. why ≡ stop.Lacks lacking.NoMemory)
 inside_as {E = E} result y a b e m =
-    let comes : Config → Type 0 = λ z. MatchResult result (λ (u : E). y ≡ z) (λ why. why ≡ stop.NoMemory) in
+    let comes : Config → Type 0 = λ z. MatchResult result (λ (u : E). y ≡ z) (λ why. why ≡ stop.Lacks lacking.NoMemory)
+    in
     subst comes e m
 
 -- the first of a list goes

@@ -12,3 +12,4 @@ pub mod Tasks
 pub mod Opens
 pub mod Runs
 pub mod Requests
+pub mod Stops

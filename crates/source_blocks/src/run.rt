@@ -12,7 +12,7 @@ use crate::frames::{Frame, Part, turn_frames};
 use crate::task::{Task, count_in, undone_task};
 use rpp_tree::tree::Var;
 use source_steps::{Scope, Setting, Stop};
-use source_store::{Heap, Value};
+use source_store::{Heap, Lack, Value};
 
 /// A run: the method that is open last with its variables, the heap, the block that runs there, how
 /// many statements of it are past, and what is open around it, the innermost last.
@@ -56,7 +56,7 @@ pub fn open_block<'a>(run: &mut Run<'a>, part: Part<'a>, task: Task<'a>) -> Resu
     requires part { IsCaller part }
     ensures opened { MatchResult result (λ u. config_of run.new
         ≡ inside (config_of run.old) (here_in run.old) (rest_in run.old) (part_of part.entry)
-        (task_of task.entry) (state_in run.old)) (λ why. why ≡ Stop.NoMemory) }
+        (task_of task.entry) (state_in run.old)) (λ why. why ≡ Stop.Lacks Lack.NoMemory) }
     ensures opens { OnOk result (length run.new.frames.items ≡ 1 + length run.old.frames.items) }
     ensures sound { OnOk result (IsSound run.new) }
     ensures setting { run.new.setting ≡ run.old.setting }
@@ -90,28 +90,27 @@ pub fn close_block(run: &mut Run)
 }
 
 /// The innermost open statement goes on in this part.
-pub fn turn_to<'a>(run: &mut Run<'a>, part: Part<'a>, task: Task<'a>) -> Result<(), Stop>
+pub fn turn_to<'a>(run: &mut Run<'a>, part: Part<'a>, task: Task<'a>)
     requires sound { IsSound run.old }
     requires part { IsCaller part }
-    ensures turned { MatchResult result (λ u. config_of run.new ≡ going_on (config_of run.old)
-        (part_of part.entry) (task_of task.entry) (config_of run.old).around) (λ why. why ≡ Stop.NoMemory) }
-    ensures sound { OnOk result (IsSound run.new) }
-    ensures opens { OnOk result (length run.new.frames.items ≡ length run.old.frames.items) }
+    ensures turned { config_of run.new ≡ going_on (config_of run.old) (part_of part.entry)
+        (task_of task.entry) (config_of run.old).around }
+    ensures sound { IsSound run.new }
+    ensures opens { length run.new.frames.items ≡ length run.old.frames.items }
     ensures setting { run.new.setting ≡ run.old.setting }
 {
     match run.frames.pop() {
         None => {}
         Some(frame) => {
-            run.frames.push(Frame {
+            run.frames.push_reserved(Frame {
                 task: frame.task,
                 at: frame.at,
                 part,
-            })?;
+            });
             run.task = task;
             run.at = 0;
         }
     }
-    Ok(())
 }
 
 /// The run turns round: what is past is to come, undone.

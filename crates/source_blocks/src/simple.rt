@@ -1,5 +1,5 @@
 // Statements that hold no block, and are no calls.
-ghost use Rattle.std.specs.Prelude.{◌≡◌, ◌≤◌, OnOk, true};
+ghost use Rattle.std.specs.Prelude.{◌≡◌, ◌≤◌, OnOk, true, IfErr};
 ghost use Rattle.rpp_tree.specs.Tree.{New, Delete, Whole, Object as AnObject};
 ghost use Rattle.rpp_tree.specs.Views.{statement_of, lvalue_of};
 ghost use Rattle.source_steps.specs.Ends.{Ends, turned, does_simply};
@@ -7,6 +7,7 @@ ghost use Rattle.source_steps.specs.Metered.{Gives};
 ghost use Rattle.source_steps.specs.StateView.{IsFramed, state_of};
 ghost use Rattle.source_blocks.specs.Tasks.{exchange, line_of};
 ghost use Rattle.source_blocks.specs.Runs.{IsSound, IsSimple, state_in};
+ghost use Rattle.source_blocks.specs.Stops.{MayStop};
 
 use crate::run::{Run, scope_of};
 use crate::task::Line;
@@ -33,6 +34,7 @@ fn do_statement(
         (state_of setting.now scope.now heap.old values.old.items)) }
     ensures framed { OnOk result (IsFramed setting.now scope.now heap.new values.new.items) }
     ensures less { fuel.new ≤ fuel.old }
+    ensures stops { IfErr result (λ why. MayStop (statement_of s.now) why) }
 {
     match s {
         Stmt::Update {
@@ -91,6 +93,7 @@ fn undo_statement(
         (state_of setting.now scope.now heap.old values.old.items)) }
     ensures framed { OnOk result (IsFramed setting.now scope.now heap.new values.new.items) }
     ensures less { fuel.new ≤ fuel.old }
+    ensures stops { IfErr result (λ why. MayStop (turned true (statement_of s.now)) why) }
 {
     match s {
         Stmt::Update {
@@ -153,6 +156,7 @@ fn carry_out(run: &mut Run, fuel: &mut u64, s: &Stmt, back: bool) -> Result<(), 
     ensures sound { OnOk result (IsSound run.new) }
     ensures same { run.new ≡ record run.old { heap = run.new.heap; values = run.new.values } }
     ensures less { fuel.new ≤ fuel.old }
+    ensures stops { IfErr result (λ why. MayStop (turned back (statement_of s.now)) why) }
 {
     let scope = scope_of(&run.locals, run.params);
     if back {
@@ -242,6 +246,7 @@ fn hold(run: &mut Run, fuel: &mut u64, at: u32, element: &Place) -> Result<(), S
     ensures sound { OnOk result (IsSound run.new) }
     ensures same { run.new ≡ record run.old { heap = run.new.heap; values = run.new.values } }
     ensures less { fuel.new ≤ fuel.old }
+    ensures stops { IfErr result (λ why. MayStop (exchange at (lvalue_of element.now)) why) }
 {
     match element_place(run.setting.alloc, at) {
         Err(why) => Err(why),
@@ -271,6 +276,7 @@ pub fn carry_line(run: &mut Run, fuel: &mut u64, line: &Line) -> Result<(), Stop
     ensures sound { OnOk result (IsSound run.new) }
     ensures same { run.new ≡ record run.old { heap = run.new.heap; values = run.new.values } }
     ensures less { fuel.new ≤ fuel.old }
+    ensures stops { IfErr result (λ why. MayStop (line_of line.now) why) }
 {
     match line {
         Line::Text { stmt, back } => carry_out(run, fuel, stmt, *back),

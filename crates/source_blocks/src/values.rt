@@ -1,9 +1,9 @@
 // The values that are read at the position of a run.
-ghost use Rattle.std.specs.Prelude.{◌<◌, ◌≤◌, IfOk};
+ghost use Rattle.std.specs.Prelude.{◌<◌, ◌≤◌, IfOk, IfErr};
 ghost use Rattle.rpp_tree.specs.Views.{expression_of};
 ghost use Rattle.source_steps.specs.roopl_semantics.Value.{evaluated};
 ghost use Rattle.source_steps.specs.source_store.ValueView.{value_of};
-ghost use Rattle.source_steps.specs.Metered.{Gives, metered};
+ghost use Rattle.source_steps.specs.Metered.{Gives, metered, IsOwn};
 ghost use Rattle.source_steps.specs.StateView.{setting_of};
 ghost use Rattle.source_blocks.specs.Opens.{closing_of};
 ghost use Rattle.source_blocks.specs.Runs.{IsSound, state_in};
@@ -22,6 +22,7 @@ pub fn value_in(run: &Run, fuel: &mut u64, e: &Expr) -> Result<Value, Stop>
         (state_in run.now))) }
     ensures less { fuel.new ≤ fuel.old }
     ensures some { IfOk result (λ value. fuel.new < fuel.old) }
+    ensures own { IfErr result IsOwn }
 {
     let scope = scope_of(&run.locals, run.params);
     evaluate(&run.setting, &scope, &run.heap, &run.values, fuel, e)
@@ -35,6 +36,7 @@ pub fn closing_value(run: &Run, fuel: &mut u64, closing: &Closing) -> Result<Val
         (state_in run.now))) }
     ensures less { fuel.new ≤ fuel.old }
     ensures some { IfOk result (λ value. fuel.new < fuel.old) }
+    ensures own { IfErr result IsOwn }
 {
     match closing {
         Closing::Nil(_at) => match spend(fuel, 1) {

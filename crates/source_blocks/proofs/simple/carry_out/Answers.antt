@@ -1,7 +1,9 @@
 use Rattle.std.proofs.Common.{Bool, refl, sym, subst}
+use Rattle.std.specs.Prelude.{IfErr}
 use Rattle.rpp_tree.specs.Views.{statement_of}
 use Rattle.source_steps.specs.Ends.{Ends, does_simply, turned}
 use Rattle.source_steps.specs.StateView.{state_of}
+use Rattle.source_blocks.specs.Stops.{MayStop}
 use Rattle.source_blocks.proofs.TurnedKinds.{simple_before}
 use Rattle.source_blocks.proofs.Scoped.{framed_in, changed_gives, sound_after}
 use Rattle.source_blocks.proofs.simple.carry_out.Goals as goal
@@ -59,3 +61,13 @@ undo_statement-requires-clause-simple c = simple_before c.args.back (statement_o
 
 pub do_statement-requires-clause-simple : goal.do_statement-requires-clause-simple
 do_statement-requires-clause-simple c = simple_before c.args.back (statement_of c.args.s.now) c.requires.simple
+
+pub returns-then-back-clause-stops : goal.returns-then-back-clause-stops
+returns-then-back-clause-stops c =
+    subst (λ (b : Bool). IfErr c.undo_statement.result (λ why. MayStop (turned b (statement_of c.args.s.now)) why))
+    (sym c.if-back.true) c.undo_statement.ensures.stops
+
+pub returns-clause-stops : goal.returns-clause-stops
+returns-clause-stops c =
+    subst (λ (b : Bool). IfErr c.do_statement.result (λ why. MayStop (turned b (statement_of c.args.s.now)) why))
+    (sym c.if-back.false) c.do_statement.ensures.stops

@@ -5,6 +5,8 @@ use Rattle.source_steps.specs.roopl_semantics.Execution.{element_name}
 use Rattle.source_steps.specs.Ends.{Ends, does_simply}
 use Rattle.source_steps.specs.StateView.{state_of}
 use Rattle.source_blocks.proofs.Scoped.{framed_in, changed_gives, sound_after}
+use Rattle.source_blocks.specs.Tasks.{exchange}
+use Rattle.source_blocks.proofs.Stopping.{own_so}
 use Rattle.source_blocks.proofs.simple.hold.Goals as goal
 
 pub swap-requires : goal.swap-requires
@@ -27,3 +29,10 @@ returns-in-Ok-clause-sound c =
     sound_after c.args.run.now c.scope_of-scope.result c.scope_of-scope.ensures
     (record c.args.run.now { heap = c.swap.new.heap; values = c.swap.new.values }) refl c.swap.result c.requires.sound
     c.swap.ensures.framed
+
+pub returns-in-Err-clause-stops : goal.returns-in-Err-clause-stops
+returns-in-Err-clause-stops c = λ named. absurd (named refl)
+
+pub returns-in-Ok-clause-stops : goal.returns-in-Ok-clause-stops
+returns-in-Ok-clause-stops c = own_so c.swap.result (exchange c.args.at (lvalue_of c.args.element.now))
+    c.swap.ensures.own
