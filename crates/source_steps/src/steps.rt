@@ -14,7 +14,7 @@ use crate::expressions::{Setting, find, pay, pay_place, value};
 use crate::scope::Scope;
 use crate::stop::Stop;
 use rpp_tree::tree::{Expr, Place};
-use source_store::{Heap, Lack, Value};
+use source_store::{Heap, Value};
 
 /// Counts.
 pub fn spend(fuel: &mut u64, cost: u64) -> Result<(), Stop>
