@@ -168,7 +168,8 @@ REFUSALS = (
         '`{name}` must not occur in its own initial or final value.'),
         'Rename the local if its values read a field of the same name.'),
     Rule(23, 'NotClassType', 'A receiver must be an object, and `copy` and `uncopy` must name a class or an array.', (
-        '`{form}` must name a class or an array, not `{written}`: an `int` is copied by adding it to a variable that is 0.',
+        ('`{form}` must name a class or an array, not `{written}`: an `int` is copied by adding it to a variable that is 0.',
+         'Write `y += x` for `copy int x y`, and `y -= x` for `uncopy int x y`.'),
         '`{receiver}` must be an object to receive a call, and its type is `{type}`.'),
         'Numbers and arrays have no methods. Call a method of an element, `call a[i]::m(..)`, not of the array.'),
     Rule(24, 'BadLine', 'A line of an assembly text must be an instruction, a static word, a source-map entry or a name.', page=FORMATS),

@@ -652,7 +652,9 @@ def of_statement_begin(it: Place) -> Optional[Hint]:
         return Hint(f'There is no `{it.word()}{it.word()}`: write `{it.word(2) or "x"} {it.word()}= 1`.')
     if it.word() in ('inherits', 'nil'):
         return Hint(f'`{it.word()}` must not begin a statement.')
-    if it.word() in OPERATORS or it.word() in UPDATES or it.word() in ('<=>', '::', ',', '(', '['):
+    if it.word() == ',':
+        return Hint('A statement must not begin with `,`: a `local` declares one variable, and a statement changes one.')
+    if it.word() in OPERATORS or it.word() in UPDATES or it.word() in ('<=>', '::', '(', '['):
         return Hint(f'A statement must not begin with `{it.word()}`: the variable that it changes comes first.')
     return None
 
@@ -668,7 +670,8 @@ def of_end(it: Place) -> Optional[Hint]:
 def of_word_behind_statement(it: Place) -> Optional[Hint]:
     """After the last statement of a class comes a method or a class."""
     if it.inside in ('', 'class') and it.expects('class') and it.word():
-        return Hint(f'`{it.word()}` must be in a method, or declare one: a class has its fields first and then its methods.')
+        said = f'`{it.word()}` must be in a method, or declare one: a class has its fields first and then its methods.'
+        return of_comment(it) or Hint(said)
     return None
 
 
