@@ -56,7 +56,7 @@ def package(tree, day):
                ('data.tar.xz', tar_xz(files, './', day))], day)
 
 
-def program_in(data):
-    """The program in the bytes of a package, which needs no tool to unpack."""
+def program_in(data, command='rooplpp'):
+    """A program in the bytes of a package, which needs no tool to unpack."""
     with tarfile.open(fileobj=io.BytesIO(lzma.decompress(part_of_ar(data, 'data.tar.xz')))) as archive:
-        return archive.extractfile('./usr/bin/rooplpp').read()
+        return archive.extractfile(f'./usr/bin/{command}').read()

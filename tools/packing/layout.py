@@ -54,9 +54,10 @@ def completions():
                 yield f'{target}/{base[:-len(".bash")] if base.endswith(".bash") else base}', (FILE, read_bytes(name))
 
 
-def tree(program, proved):
-    """All files of an installation of the program; `proved` is the text of PROVED.txt."""
-    found = {'bin/rooplpp': (PROGRAM, program), 'bin/rpp': (PROGRAM, command_rpp()), **companion(COMPANION, proved), **dict(completions())}
+def tree(programs, proved):
+    """All files of an installation. The programs are given by their commands; `proved` is the text of PROVED.txt."""
+    commands = {**programs, 'rpp': command_rpp()}
+    found = {**{f'bin/{command}': (PROGRAM, data) for command, data in commands.items()}, **companion(COMPANION, proved), **dict(completions())}
     for name in names_below(MANUALS):
         found[f'share/man/man1/{os.path.basename(name)}.gz'] = (FILE, zipped(read_bytes(name)))
     for folder, target in FOLDERS.items():

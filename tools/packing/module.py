@@ -1,13 +1,17 @@
-"""The WebAssembly module of the program, as the page carries it, and lowered to addresses of 32 bits."""
+"""The WebAssembly modules of the programs, lowered to addresses of 32 bits. The page carries that of rooplpp. That of rooplpp-live
+is a file, which says in a custom section what it is made of."""
 import base64
 import gzip
 import importlib.util
+import json
 import os
 import re
 
-from .repository import TOP, CannotRelease, path_of, read_text, sources, sum_of
+from .repository import TOP, CannotRelease, path_of, read_bytes, read_text, sources, sum_of
 
 PAGE = 'release/playground.html'
+LIVE = 'release/rooplpp-live.wasm'
+SECTION = b'made'
 OF_SOURCES = re.compile(r'"sources": "([0-9a-f]+)"')
 MODULE = re.compile(r'"module": "([A-Za-z0-9+/=]+)"')
 LINKED = re.compile(r'"linked": "([0-9a-f]+)"')
@@ -53,3 +57,45 @@ def lowered(module):
     """The module with addresses of 32 bits; one that has such addresses already stays as it is."""
     tool = lower()
     return module if tool.has_small_addresses(module) else tool.lowered(module)
+
+
+def with_origin(module, origin):
+    """The module with a last section, which no engine looks at: what it is made of, as JSON."""
+    tool = lower()
+    content = tool.number_bytes(len(SECTION)) + SECTION + json.dumps(origin).encode()
+    return module + bytes([tool.CUSTOM]) + tool.number_bytes(len(content)) + content
+
+
+def parted(module):
+    """A module without its section of `with_origin`, and what that says; nothing if there is none."""
+    tool = lower()
+    reader, at = tool.Reader(module), len(tool.HEAD)
+    if module[:at] != tool.HEAD:
+        raise CannotRelease(f'{LIVE} is no module')
+    reader.bytes(at)
+    while reader.has_more():
+        at, number, content = reader.at, reader.byte(), tool.Reader(reader.bytes(reader.number()))
+        if number == tool.CUSTOM and not reader.has_more() and content.bytes(content.number()) == SECTION:
+            return module[:at], json.loads(content.rest())
+    return module, {}
+
+
+def origin_of(module):
+    return parted(module)[1]
+
+
+def without_origin(module):
+    return parted(module)[0]
+
+
+def live(program):
+    """The module of rooplpp-live, which must be of the current sources and of the program of these bytes."""
+    if not os.path.isfile(path_of(LIVE)):
+        raise CannotRelease(f'there is no {LIVE}: tools/live_module makes it')
+    module = read_bytes(LIVE)
+    origin = origin_of(module)
+    if origin.get('sources') != sources():
+        raise CannotRelease(f'{LIVE} is made of other sources than the current ones: run tools/live_module')
+    if origin.get('program') != sum_of(program):
+        raise CannotRelease(f'{LIVE} is not of the build that gave the proved program: run tools/live_module')
+    return module

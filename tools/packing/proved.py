@@ -1,36 +1,40 @@
 """PROVED.txt: the checksums and the gate of a release, the tests that were run, and what each file holds."""
-from .record import lines_of, said_by_suite
+from .record import PROGRAMS, file_of, lines_of, said_by_suite
 from .repository import sum_of, version
 
 # What the suite says, by the name that PROVED.txt has for it.
 RUNS = (
     ('wrong bodies', 'wrong bodies'), ('rows in memory', 'rows in memory'), ('rows on files', 'test-cases'), ('sessions', 'test-sessions'),
-    ('random programs compared', 'agree'), ('package for node', 'test-node'), ('playground', 'test-playground'),
+    ('live sessions', 'test-live'), ('random programs compared', 'agree'), ('package for node', 'test-node'), ('playground', 'test-playground'),
 )
 NOT_RUN = 'not run'
 
 TEXT = '''rooplpp {version}
-commit   {commit}
-sources  {sources}   (tools/made_of)
-kit      {kit}
-program  {program}
-module   {module}
-lowered  {lowered}
-gate     {gate}
-date     {date}
-epoch    {day}   (the second that every file of the release bears)
+commit         {commit}
+sources        {sources}   (tools/made_of)
+kit            {kit}
+program        {program}
+module         {module}
+lowered        {lowered}
+live           {live}
+live-module    {live_module}
+live-lowered   {live_lowered}
+gate           {gate}
+date           {date}
+epoch          {day}   (the second that every file of the release bears)
 
 `program` is the SHA-256 of rooplpp for Linux on x86-64. `module` is that of the WebAssembly module from the same build.
-`lowered` is that of the same module with addresses of 32 bits (tools/lower.py), which node runs.
+`lowered` is that of the same module with addresses of 32 bits (tools/lower.py), which node runs. The lines that begin with
+`live` are the same of rooplpp-live, which the same run of the gate built.
 
-docs/proof/theorems.md of the commit says what is proved about the program, and what is not.
+docs/proof/theorems.md of the commit says what is proved about the programs, and what is not.
 
-Tests of the program, as tests/run counted them:
+Tests of the programs, as tests/run counted them:
 {runs}
 What each file holds:
 {files}
-To build the program again, with the kit: git checkout {commit} && .ci/run && sha256sum crates/rooplpp/out/rooplpp
-The same kit gives the same checksum. If you do not build it again, you trust whoever made this file.
+To build the programs again, with the kit: git checkout {commit} && .ci/run && sha256sum {built}
+The same kit gives the same checksums. If you do not build it again, you trust whoever made this file.
 '''
 
 
@@ -40,13 +44,16 @@ def rows(named):
     return ''.join(f'  {name:<{width}}  {said}\n' for name, said in named)
 
 
-def text(commit, day, program, modules, files):
-    """The text of PROVED.txt. `modules` are the checksums of the module and of the lowered one, `files` what each file holds."""
-    record, said = lines_of('record'), said_by_suite(program)
+def text(commit, day, programs, modules, files):
+    """The text of PROVED.txt. The programs, and the checksums of the module and of the lowered module of each, are given by their
+    commands; `files` says what each file holds."""
+    record, said = lines_of('record'), said_by_suite(programs['rooplpp'])
+    (module, lowered), (live_module, live_lowered) = (modules[command] for command in PROGRAMS)
     return TEXT.format(
-        version=version(), commit=commit, day=day, sources=record['sources'], kit=record['kit'], program=sum_of(program), module=modules[0],
-        lowered=modules[1], gate=record.get('gate', NOT_RUN), date=record.get('date', ''),
-        runs=rows([(name, said.get(part, NOT_RUN)) for name, part in RUNS]), files=rows(files),
+        version=version(), commit=commit, day=day, sources=record['sources'], kit=record['kit'], gate=record.get('gate', NOT_RUN),
+        date=record.get('date', ''), program=sum_of(programs['rooplpp']), module=module, lowered=lowered,
+        live=sum_of(programs['rooplpp-live']), live_module=live_module, live_lowered=live_lowered,
+        runs=rows([(name, said.get(part, NOT_RUN)) for name, part in RUNS]), files=rows(files), built=' '.join(map(file_of, PROGRAMS)),
     )
 
 
