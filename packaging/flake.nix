@@ -30,7 +30,7 @@
         installPhase = ''
           mkdir -p $out/bin $out/lib
           tar -xzf release/rooplpp-${version}-node.tgz -C $out/lib
-          for name in rooplpp rpp; do ln -s $out/lib/package/$name.mjs $out/bin/$name; done
+          for name in rooplpp rooplpp-live rpp; do ln -s $out/lib/package/$name.mjs $out/bin/$name; done
         '';
       };
 

@@ -14,7 +14,7 @@ class Rooplpp < Formula
 
   def install
     libexec.install Dir["*"]
-    %w[rooplpp rpp].each { |name| bin.install_symlink libexec/"#{name}.mjs" => name }
+    %w[rooplpp rooplpp-live rpp].each { |name| bin.install_symlink libexec/"#{name}.mjs" => name }
   end
 
   test do

@@ -112,6 +112,22 @@ const TESTS = {
     };
     assert.equal(instead('writeSync', closed, () => outside.write(1, BigInt(AT), 4n)), -5n);
   },
+  'an empty pipe or terminal is waited for': () => {
+    const answers = [failing('EAGAIN', -11, 'read'), failing('EAGAIN', -11, 'read'), 3];
+    const reads = () => {
+      const answer = answers.shift();
+      if (typeof answer !== 'number') throw answer;
+      return answer;
+    };
+    assert.equal(instead('readSync', reads, () => outside.read(0, BigInt(AT), 4n)), 3n);
+    assert.equal(answers.length, 0);
+  },
+  'the end of a pipe is an end on Windows too': () => {
+    const ended = () => {
+      throw failing('EOF', -4095, 'read');
+    };
+    assert.equal(instead('readSync', ended, () => outside.read(0, BigInt(AT), 4n)), 0n);
+  },
 };
 
 for (const [name, test] of Object.entries(TESTS)) {

@@ -1,12 +1,11 @@
 #!/usr/bin/env node
-// Runs the program rooplpp, the WebAssembly module rooplpp.wasm next to this file. This file gives it arguments, files, standard output
-// and the exit status. Bytes pass as they are, so line ends do not change.
+// Runs the program rooplpp, the WebAssembly module rooplpp.wasm next to this file. This file gives it arguments, files, standard input,
+// standard output and the exit status. Bytes pass as they are, so line ends do not change. rooplpp-live.mjs runs another program so.
 import fs from 'node:fs';
 import { fileURLToPath } from 'node:url';
 import { isMainThread, Worker, workerData } from 'node:worker_threads';
 
 const HERE = fileURLToPath(import.meta.url);
-const MODULE = fileURLToPath(new URL('rooplpp.wasm', import.meta.url));
 // The program runs on a thread of its own, which may have a larger stack than the first thread has on some systems.
 const STACK_MEGABYTES = 32;
 // The status of a call that the engine had to end, for example because the stack is full. The program itself never has it.
@@ -42,15 +41,29 @@ function answerOf(call) {
   }
 }
 
-// Writes, and waits while a pipe that does not block is full.
-export function written(file, bytes) {
+// Calls again while a pipe or a terminal that does not block is full, or has nothing yet.
+function answerInTime(call) {
   for (;;) {
     try {
-      return fs.writeSync(file, bytes);
+      return call();
     } catch (error) {
       if (error.code !== 'EAGAIN') throw error;
       Atomics.wait(new Int32Array(new SharedArrayBuffer(4)), 0, 0, MILLISECONDS_TO_RETRY);
     }
+  }
+}
+
+export function written(file, bytes) {
+  return answerInTime(() => fs.writeSync(file, bytes));
+}
+
+// Windows says of the end of a pipe that it is an error.
+export function readInto(file, bytes) {
+  try {
+    return answerInTime(() => fs.readSync(file, bytes));
+  } catch (error) {
+    if (error.code === 'EOF') return 0;
+    throw error;
   }
 }
 
@@ -67,7 +80,7 @@ export function imports(words, memory) {
     },
     // A name stays as its bytes are: `C:\folder\file` and `folder/file` reach the system as they were written.
     open: (at, length, flags) => answerOf(() => fs.openSync(Buffer.from(bytes(at, length)), flagsHere(flags), MODE)),
-    read: (file, at, length) => BigInt(answerOf(() => fs.readSync(file, bytes(at, length)))),
+    read: (file, at, length) => BigInt(answerOf(() => readInto(file, bytes(at, length)))),
     write: (file, at, length) => BigInt(answerOf(() => written(file, bytes(at, length)))),
     close: file => answerOf(() => (fs.closeSync(file), 0)),
   };
@@ -81,33 +94,35 @@ export function wordsGiven(given = process.argv.slice(2), file = '/proc/self/cmd
   return all.slice(all.length - given.length).map(word => Buffer.from(word, 'latin1'));
 }
 
-// Runs the program in this thread; its status.
-export function run(words) {
-  const instance = new WebAssembly.Instance(new WebAssembly.Module(fs.readFileSync(MODULE)), {
-    page: imports([Buffer.from('rooplpp'), ...words], () => instance.exports.memory),
+// Runs a program in this thread; its status.
+export function run(words, program = 'rooplpp') {
+  const file = fileURLToPath(new URL(`${program}.wasm`, import.meta.url));
+  const instance = new WebAssembly.Instance(new WebAssembly.Module(fs.readFileSync(file)), {
+    page: imports([Buffer.from(program), ...words], () => instance.exports.memory),
   });
   return instance.exports.program_main();
 }
 
-function runHere() {
+function runHere({ program, words }) {
   try {
-    process.exit(run(workerData.words.map(word => Buffer.from(word))));
+    process.exit(run(words.map(word => Buffer.from(word)), program));
   } catch (error) {
     if (!(error instanceof RangeError || error instanceof WebAssembly.RuntimeError)) throw error;
-    written(2, Buffer.from(`rooplpp: the engine ended the call: ${error.message}\n`));
+    written(2, Buffer.from(`${program}: the engine ended the call: ${error.message}\n`));
     process.exit(ABORTED);
   }
 }
 
-function start() {
+// Runs a program with the arguments of this process, which ends with its status.
+export function start(program) {
   const limits = { stackSizeMb: STACK_MEGABYTES };
-  const worker = new Worker(HERE, { workerData: { words: wordsGiven() }, resourceLimits: limits });
+  const worker = new Worker(HERE, { workerData: { program, words: wordsGiven() }, resourceLimits: limits });
   worker.on('exit', status => process.exit(status));
   worker.on('error', error => {
-    written(2, Buffer.from(`rooplpp: ${error.message}\n`));
+    written(2, Buffer.from(`${program}: ${error.message}\n`));
     process.exit(ABORTED);
   });
 }
 
-if (!isMainThread && workerData?.words) runHere();
-else if (process.argv[1] && fs.realpathSync(process.argv[1]) === fs.realpathSync(HERE)) start();
+if (!isMainThread && workerData?.words) runHere(workerData);
+else if (process.argv[1] && fs.realpathSync(process.argv[1]) === fs.realpathSync(HERE)) start('rooplpp');
