@@ -21,14 +21,18 @@ SHELLS = {
              'set -g argv_before $argv[2..-2]; set -g argv_last $argv[-1]; source $argv[1]/editors/fish/rpp.fish; __rpp_complete', TOP,
              COMMAND],
 }
-# The same of `rooplpp`, whose completions are by what its commands take.
-SHELLS_OF_PROGRAM = {
-    'bash': ['-c', 'source "$0/editors/bash/rooplpp.bash"; COMP_WORDS=(rooplpp "$@"); COMP_CWORD=$#; _rooplpp; '
-             'printf "%s\\n" "${COMPREPLY[@]}"', TOP],
-    'zsh': ['-c', 'compadd() { local each; for each in "${@:2}"; do [[ $each != $words[CURRENT]* ]] || print -r -- $each; done }; '
-            '_files() { print -rl -- $words[CURRENT]*(N) }; words=(rooplpp "$@"); CURRENT=$#words; source "$0/editors/zsh/_rooplpp"', TOP],
-    'fish': ['-c', 'source $argv[1]/editors/fish/rooplpp.fish; complete -C "rooplpp $argv[2..-1]" | string replace -r "\\t.*" ""', TOP],
-}
+
+
+def shells_of_program(name):
+    """The same of a program whose completions are by what its commands take."""
+    function = '_' + name.replace('-', '_')
+    return {
+        'bash': ['-c', f'source "$0/editors/bash/{name}.bash"; COMP_WORDS=({name} "$@"); COMP_CWORD=$#; {function}; '
+                 'printf "%s\\n" "${COMPREPLY[@]}"', TOP],
+        'zsh': ['-c', 'compadd() { local each; for each in "${@:2}"; do [[ $each != $words[CURRENT]* ]] || print -r -- $each; done }; '
+                '_files() { print -rl -- $words[CURRENT]*(N) }; ' f'words=({name} "$@"); CURRENT=$#words; source "$0/editors/zsh/_{name}"', TOP],
+        'fish': ['-c', f'source $argv[1]/editors/fish/{name}.fish; complete -C "{name} $argv[2..-1]" | string replace -r "\\t.*" ""', TOP],
+    }
 
 
 class Layout(Case):
@@ -220,10 +224,16 @@ class Completion(Case):
         self.complete_by(SHELLS, self.ROWS[:3])
 
     def test_the_program(self):
-        self.complete_by(SHELLS_OF_PROGRAM, [
+        self.complete_by(shells_of_program('rooplpp'), [
             (['che'], ['check']), (['f'], ['flip']), (['check', 'count'], ['counter.rpp']), (['check', 'counter.rpp', 'count'], []),
             (['go', 'count'], ['counter.rpp']), (['go', 'counter.rpp', 'count'], []), (['go', 'counter.rpp', '1', '1', '9', 'count'], ['counter.rpp']),
             (['cluster', 's', '9', 'a', 'b', 'c', 'count'], ['counter.rpp']), (['nothing', 'count'], [])])
+
+    def test_live_sessions(self):
+        self.complete_by(shells_of_program('rooplpp-live'), [
+            (['s'], ['source']), (['source', 'count'], ['counter.rpp']), (['source', 'counter.rpp', 'count'], []),
+            (['source', 'counter.rpp', '1', '1', 'count'], ['counter.rpp']), (['source', 'counter.rpp', '1', '1', 'in', 'count'], []),
+            (['nothing', 'count'], [])])
 
     def complete_by(self, shells, rows):
         for shell, words in shells.items():
