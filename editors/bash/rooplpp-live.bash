@@ -1,4 +1,4 @@
-# Completion of `rooplpp-live` for bash, as that of `rooplpp`: what a session is of, and files. tools/map writes the forms.
+# Completion of `rooplpp-live` for bash, as that of `rooplpp`. tools/map writes the forms.
 _rooplpp_live() {
     local word=${COMP_WORDS[COMP_CWORD]} forms=() form=() at=$((COMP_CWORD - 1))
 # <!-- forms -->

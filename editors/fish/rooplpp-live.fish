@@ -1,4 +1,4 @@
-# Completion of `rooplpp-live` for fish, as that of `rooplpp`: what a session is of, and files. tools/map writes the forms.
+# Completion of `rooplpp-live` for fish, as that of `rooplpp`. tools/map writes the forms.
 set -g __rooplpp_live_forms
 # <!-- forms -->
 set -a __rooplpp_live_forms 'source F - - F -'

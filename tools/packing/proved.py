@@ -8,21 +8,11 @@ RUNS = (
     ('live sessions', 'test-live'), ('random programs compared', 'agree'), ('package for node', 'test-node'), ('playground', 'test-playground'),
 )
 NOT_RUN = 'not run'
+# The lines with the checksums of a program, of its module, and of its lowered module.
+NAMES = {'rooplpp': ('program', 'module', 'lowered'), 'rooplpp-live': ('live', 'live-module', 'live-lowered')}
 
 TEXT = '''rooplpp {version}
-commit         {commit}
-sources        {sources}   (tools/made_of)
-kit            {kit}
-program        {program}
-module         {module}
-lowered        {lowered}
-live           {live}
-live-module    {live_module}
-live-lowered   {live_lowered}
-gate           {gate}
-date           {date}
-epoch          {day}   (the second that every file of the release bears)
-
+{head}
 `program` is the SHA-256 of rooplpp for Linux on x86-64. `module` is that of the WebAssembly module from the same build.
 `lowered` is that of the same module with addresses of 32 bits (tools/lower.py), which node runs. The lines that begin with
 `live` are the same of rooplpp-live, which the same run of the gate built.
@@ -48,11 +38,13 @@ def text(commit, day, programs, modules, files):
     """The text of PROVED.txt. The programs, and the checksums of the module and of the lowered module of each, are given by their
     commands; `files` says what each file holds."""
     record, said = lines_of('record'), said_by_suite(programs['rooplpp'])
-    (module, lowered), (live_module, live_lowered) = (modules[command] for command in PROGRAMS)
+    head = {'commit': commit, 'sources': f'{record["sources"]}   (tools/made_of)', 'kit': record['kit']}
+    for command, names in NAMES.items():
+        head.update(zip(names, (sum_of(programs[command]), *modules[command])))
+    head.update({'gate': record.get('gate', NOT_RUN), 'date': record.get('date', ''),
+                 'epoch': f'{day}   (the second that every file of the release bears)'})
     return TEXT.format(
-        version=version(), commit=commit, day=day, sources=record['sources'], kit=record['kit'], gate=record.get('gate', NOT_RUN),
-        date=record.get('date', ''), program=sum_of(programs['rooplpp']), module=module, lowered=lowered,
-        live=sum_of(programs['rooplpp-live']), live_module=live_module, live_lowered=live_lowered,
+        version=version(), commit=commit, head=''.join(f'{name:<12} {value}\n' for name, value in head.items()),
         runs=rows([(name, said.get(part, NOT_RUN)) for name, part in RUNS]), files=rows(files), built=' '.join(map(file_of, PROGRAMS)),
     )
 
