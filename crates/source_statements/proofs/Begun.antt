@@ -17,12 +17,13 @@ use Rattle.source_blocks.specs.declared.run.Run.{Run}
 use Rattle.source_blocks.specs.Runs.{IsSimple, config_of, state_in, here_in, rest_in}
 use Rattle.source_blocks.specs.source_steps.declared.stop.Stop.{Stop}
 use Rattle.source_blocks.specs.source_steps.declared.stop.Stop.TheVariants as stop
+use Rattle.source_blocks.specs.source_store.declared.lack.Lack.TheVariants as lacking
 use Rattle.source_blocks.specs.source_steps.Metered.{Went, metered, Failed, Gives}
 use Rattle.source_blocks.proofs.source_steps_laws.Fuelled.{goes, fails, gives}
 
 -- a call whose only error is `NoMemory` leads to what is given
 pub given_as : {E : Type 0} (result : Result E Stop) (left : ℕ) (x y : Config)
-    → MatchResult result (λ u. x ≡ y) (λ why. why ≡ stop.NoMemory)
+    → MatchResult result (λ u. x ≡ y) (λ why. why ≡ stop.Lacks lacking.NoMemory)
     → Gives (λ (e : E). x) result left (metered left (give y))
 given_as (Ok e) left x y m = gives left y ∙ ap (λ z. Went z left) (sym m)
 given_as (Err why) left x y m = subst (λ w. Failed w left (metered left (give y))) (sym m) tt
@@ -55,11 +56,11 @@ module _ (setting : Setting) (x : Config) (s : Statement) (rest : Statements) (f
       pub choice_goes : {E : Type 0} (result : Result E Stop) (g : ℕ) (v : Value) (side : Bool) (y : Config)
           → metered fuel (evaluated setting.program test x.state) ≡ Went v g → side ≡ holds v
           → MatchResult result (λ u. y ≡ inside x s rest (Chosen side test after)
-          (if side then taken else other) x.state) (λ why. why ≡ stop.NoMemory)
+          (if side then taken else other) x.state) (λ why. why ≡ stop.Lacks lacking.NoMemory)
           → Gives (λ (e : E). y) result g (metered fuel (begun setting x s rest))
       choice_goes {E = E} result g v side y e which m =
           let opens : Bool → Type 0 = λ b. MatchResult result (λ (u : E). y ≡ inside x s rest (Chosen b test after)
-          (if b then taken else other) x.state) (λ why. why ≡ stop.NoMemory) in
+          (if b then taken else other) x.state) (λ why. why ≡ stop.Lacks lacking.NoMemory) in
           subst (λ r. Gives (λ e. y) result g (metered fuel r)) (sym choice_is)
           (through (λ e. y) result fuel g g (evaluated setting.program test x.state) v _ e
           (given_as result g y _ (subst opens which m)))
@@ -97,7 +98,7 @@ module _ (setting : Setting) (x : Config) (s : Statement) (rest : Statements) (f
         → metered fuel (evaluated setting.program entry x.state) ≡ Went v g → t ≡ not (holds v)
         → metered g (fault_if 2 t) ≡ Went tt left
         → MatchResult result (λ u. y ≡ inside x s rest (First entry first again exit) first x.state)
-        (λ why. why ≡ stop.NoMemory)
+        (λ why. why ≡ stop.Lacks lacking.NoMemory)
         → Gives (λ (e : E). y) result left (metered fuel (begun setting x s rest))
     loop_goes result g left v t y e is f m = subst (λ r. Gives (λ e. y) result left (metered fuel r)) (sym loop_is)
         (through (λ e. y) result fuel g left (evaluated setting.program entry x.state) v (after_entry s) e
@@ -114,7 +115,7 @@ module _ (setting : Setting) (x : Config) (s : Statement) (rest : Statements) (f
     pub local_goes : {E : Type 0} (result : Result E Stop) (g : ℕ) (v : Value) (y : Config)
         → metered fuel (evaluated setting.program value x.state) ≡ Went v g
         → MatchResult result (λ u. y ≡ inside x s rest (Holding name value end_value) body (opened name v x.state))
-        (λ why. why ≡ stop.NoMemory)
+        (λ why. why ≡ stop.Lacks lacking.NoMemory)
         → Gives (λ (e : E). y) result g (metered fuel (held_local setting x s rest name value body end_value))
     local_goes result g v y e m =
         through (λ e. y) result fuel g g (evaluated setting.program value x.state) v _ e (given_as result g y _ m)

@@ -15,6 +15,7 @@ use Rattle.source_blocks.specs.source_store.declared.value.Value.{Value as Held}
 use Rattle.source_blocks.specs.source_store.ValueView.{value_of, values_of}
 use Rattle.source_blocks.specs.source_steps.declared.stop.Stop.{Stop}
 use Rattle.source_blocks.specs.source_steps.declared.stop.Stop.TheVariants as stop
+use Rattle.source_blocks.specs.source_store.declared.lack.Lack.TheVariants as lacking
 use Rattle.source_blocks.specs.source_steps.CellView.{cell_of}
 use Rattle.source_blocks.specs.source_steps.StateView.{bindings, setting_of}
 use Rattle.source_blocks.proofs.source_steps_laws.Moves.{bound_cut}
@@ -201,9 +202,9 @@ module _ (run mid callee : Run) (same : mid ≡ record run { heap = mid.heap; va
 
       pub entered_result : {E : Type 0} (result : Result E Stop) (y : Config) (body : Statements)
           → MatchResult result (λ u. y ≡ opens_at callee (part_of (runs.Calling caller)) body (state_in callee))
-          (λ why. why ≡ stop.NoMemory)
+          (λ why. why ≡ stop.Lacks lacking.NoMemory)
           → body ≡ in_direction back method.body
           → MatchResult result (λ u. y ≡ entered (setting_of run.setting) (config_of run) (here_in run) (rest_in run)
-          back method object cell args) (λ why. why ≡ stop.NoMemory)
+          back method object cell args) (λ why. why ≡ stop.Lacks lacking.NoMemory)
       entered_result (Ok e) y body m b = entered_by y body m b
       entered_result (Err why) y body m b = m

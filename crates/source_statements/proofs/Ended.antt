@@ -1,7 +1,7 @@
 -- Blocks that end, with so much fuel.
 use Rattle.std.proofs.Common.{◌≡◌, ℕ, refl, sym, ap, subst, ◌∙◌, arith, List, [], ◌∷◌, ◌++◌, map, length, Bool, true}
 use Rattle.std.proofs.Common.{false, if◌then◌else◌}
-use Rattle.std.specs.Prelude.{not, Result, MatchResult}
+use Rattle.std.specs.Prelude.{not}
 use Rattle.rpp_tree.specs.Tree.{Expression, Statements}
 use Rattle.source_blocks.specs.roopl_semantics.Run.{Run, ◌>>=◌, give, fault_if}
 use Rattle.source_blocks.specs.roopl_semantics.Store.{Value, State, same_value}
@@ -10,13 +10,11 @@ use Rattle.source_blocks.specs.roopl_semantics.Execution.{Setting, holds, fi_fau
 use Rattle.source_blocks.specs.meaning_machine.Machine.{Config, Part, Chosen, First, Again, Holding, Calling, closing, ended, left}
 use Rattle.source_blocks.specs.meaning_machine.Machine.{Caller as From, turned_to, turned_first}
 use Rattle.source_blocks.specs.source_steps.declared.stop.Stop.{Stop}
-use Rattle.source_blocks.specs.source_steps.declared.stop.Stop.TheVariants as stop
-use Rattle.source_blocks.specs.source_steps.Metered.{Went, metered, Failed, Gives}
+use Rattle.source_blocks.specs.source_steps.Metered.{Went, metered, Failed}
 use Rattle.source_blocks.specs.source_steps.StateView.{bindings}
 use Rattle.source_blocks.proofs.source_steps_laws.Fuelled.{goes, fails, gives}
 use Rattle.source_blocks.specs.Runs.{leaving, going_on}
 use Rattle.source_blocks.specs.Opens.{HasPart}
-use Rattle.source_statements.proofs.Begun.{given_as, through}
 
 module _ (setting : Setting) (x : Config) (fuel : ℕ) where
   closing_is : (part : Part) (in_part : HasPart x.around part)
@@ -116,21 +114,18 @@ module _ (setting : Setting) (x : Config) (fuel : ℕ) where
         ∙ gives g (left in_part.inmost in_part.others x.params x.state)
         ∙ ap (λ z. Went z g) (sym (m ∙ ap (leaving x) in_part.is))
 
-    pub first_again : {E : Type 0} (result : Result E Stop) (g : ℕ) (v : Value) (y : Config)
+    pub first_again : (g : ℕ) (v : Value) (y : Config)
         (in_part : HasPart x.around (First entry first again exit))
         → metered fuel (evaluated setting.program exit x.state) ≡ Went v g → false ≡ holds v
-        → MatchResult result (λ u. y ≡ going_on x (Again entry first again exit) again x.around)
-        (λ why. why ≡ stop.NoMemory)
-        → Gives (λ (e : E). y) result g (metered fuel (closing setting x x.around))
-    first_again {E = E} result g v y in_part e t m =
-        let comes : Config → Type 0 = λ z. MatchResult result (λ (u : E). y ≡ z) (λ why. why ≡ stop.NoMemory) in
-        let to : going_on x (Again entry first again exit) again x.around ≡ turned_first setting x in_part.inmost
-        in_part.others (Again entry first again exit) again (holds v) =
-        ap (going_on x (Again entry first again exit) again) in_part.is
-        ∙ ap (turned_first setting x in_part.inmost in_part.others (Again entry first again exit) again) t in
-        subst (λ r. Gives (λ e. y) result g (metered fuel r)) (sym (closing_is _ in_part))
-        (through (λ e. y) result fuel g g (evaluated setting.program exit x.state) v (first_then in_part) e
-        (given_as result g y _ (subst comes to m)))
+        → y ≡ going_on x (Again entry first again exit) again x.around
+        → metered fuel (closing setting x x.around) ≡ Went y g
+    first_again g v y in_part e t m =
+        ap (metered fuel) (closing_is _ in_part)
+        ∙ goes fuel g (evaluated setting.program exit x.state) v (first_then in_part) e
+        ∙ ap (λ b. metered g (give (turned_first setting x in_part.inmost in_part.others
+        (Again entry first again exit) again b))) (sym t)
+        ∙ gives g (turned_to x in_part.inmost in_part.others (Again entry first again exit) again)
+        ∙ ap (λ z. Went z g) (sym (m ∙ ap (going_on x (Again entry first again exit) again) in_part.is))
 
     abbrev again_then : HasPart x.around (Again entry first again exit) → Value → Run Config
     again_then in_part v = fault_if loop_fault (holds v) >>= (λ u. give (turned_to x in_part.inmost in_part.others
@@ -151,21 +146,19 @@ module _ (setting : Setting) (x : Config) (fuel : ℕ) where
         (sym (goes fuel g (evaluated setting.program entry x.state) v (again_then in_part) e))
         (fails g l (fault_if loop_fault (holds v)) _ why (subst (λ b. Failed why l (metered g (fault_if 2 b))) d f)))
 
-    pub again_goes : {E : Type 0} (result : Result E Stop) (g l : ℕ) (v : Value) (t : Bool) (y : Config)
+    pub again_goes : (g l : ℕ) (v : Value) (t : Bool) (y : Config)
         (in_part : HasPart x.around (Again entry first again exit))
         → metered fuel (evaluated setting.program entry x.state) ≡ Went v g → t ≡ holds v
         → metered g (fault_if 2 t) ≡ Went tt l
-        → MatchResult result (λ u. y ≡ going_on x (First entry first again exit) first x.around)
-        (λ why. why ≡ stop.NoMemory)
-        → Gives (λ (e : E). y) result l (metered fuel (closing setting x x.around))
-    again_goes {E = E} result g l v t y in_part e d f m =
-        let comes : Config → Type 0 = λ z. MatchResult result (λ (u : E). y ≡ z) (λ why. why ≡ stop.NoMemory) in
-        let to : going_on x (First entry first again exit) first x.around ≡ turned_to x in_part.inmost in_part.others
-        (First entry first again exit) first = ap (going_on x (First entry first again exit) first) in_part.is in
-        subst (λ r. Gives (λ e. y) result l (metered fuel r)) (sym (closing_is _ in_part))
-        (through (λ e. y) result fuel g l (evaluated setting.program entry x.state) v (again_then in_part) e
-        (through (λ e. y) result g l l (fault_if loop_fault (holds v)) tt _
-        (ap (λ b. metered g (fault_if 2 b)) (sym d) ∙ f) (given_as result l y _ (subst comes to m))))
+        → y ≡ going_on x (First entry first again exit) first x.around
+        → metered fuel (closing setting x x.around) ≡ Went y l
+    again_goes g l v t y in_part e d f m =
+        ap (metered fuel) (closing_is _ in_part)
+        ∙ goes fuel g (evaluated setting.program entry x.state) v (again_then in_part) e
+        ∙ goes g l (fault_if loop_fault (holds v)) tt (λ u. give (turned_to x in_part.inmost in_part.others
+        (First entry first again exit) first)) (ap (λ b. metered g (fault_if 2 b)) (sym d) ∙ f)
+        ∙ gives l (turned_to x in_part.inmost in_part.others (First entry first again exit) first)
+        ∙ ap (λ z. Went z l) (sym (m ∙ ap (going_on x (First entry first again exit) first) in_part.is))
 
   -- a call
   module _ (caller : From) (receiver args : List Cell) (held : List Value)

@@ -12,3 +12,4 @@ pub mod Last
 pub mod Returned
 pub mod Dispatched
 pub mod Stepped
+pub mod Stopped

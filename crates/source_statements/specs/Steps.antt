@@ -5,6 +5,9 @@ use Rattle.source_blocks.specs.roopl_semantics.Run.{Run}
 use Rattle.source_blocks.specs.roopl_semantics.Execution.{Setting}
 use Rattle.source_blocks.specs.meaning_machine.Machine.{Config, Open, begun, next}
 use Rattle.source_blocks.specs.meaning_machine.Reversed.{begun_back, back}
+use Rattle.source_blocks.specs.source_steps.declared.stop.Stop.{Stop}
+use Rattle.source_blocks.specs.source_steps.Metered.{IsOwnOrFull}
+use Rattle.source_blocks.specs.Stops.{MayStop}
 use Rattle.source_statements.specs.Endings.{Falls}
 
 -- a statement that begins, and a step, whether the run is reversed or not
@@ -23,3 +26,8 @@ FallsBehind (Then s rest) around after first = after < first
 
 abbrev pub StepFalls : Config → ℕ → ℕ → Type 0
 StepFalls x after first = FallsBehind x.rest x.around after first
+
+-- where a step may run out of memory: not at the end of a block
+abbrev pub MayStopAt : Statements → Stop → Type 0
+MayStopAt End why = IsOwnOrFull why
+MayStopAt (Then s rest) why = MayStop s why

@@ -1,5 +1,5 @@
 // A statement that begins.
-ghost use Rattle.std.specs.Prelude.{◌≡◌, ◌+◌, ◌<◌, ◌≤◌, ◌^◌, OnOk, MatchResult, length, true, if◌then◌else◌};
+ghost use Rattle.std.specs.Prelude.{◌≡◌, ◌+◌, ◌<◌, ◌≤◌, ◌^◌, OnOk, MatchResult, length, true, if◌then◌else◌, IfErr};
 ghost use Rattle.rpp_tree.specs.Tree.{If, From as Repeat, Null};
 ghost use Rattle.rpp_tree.specs.Views.{expression_of, block_of, statement_of};
 ghost use Rattle.source_blocks.specs.roopl_semantics.Execution.{in_direction, opened};
@@ -12,6 +12,7 @@ ghost use Rattle.source_blocks.specs.Blocks.{count_of};
 ghost use Rattle.source_blocks.specs.Tasks.{task_of, line_of};
 ghost use Rattle.source_blocks.specs.Opens.{closing_of};
 ghost use Rattle.source_blocks.specs.Runs.{IsSound, IsSimple, config_of, state_in, here_in, rest_in};
+ghost use Rattle.source_blocks.specs.Stops.{MayStop};
 
 use crate::calls::{call, call_on};
 use rpp_tree::tree::{Block, Expr, Stmt};
@@ -20,7 +21,7 @@ use source_blocks::{
     open_block, pass, value_in,
 };
 use source_steps::{Stop, element_place, is_true, refuse, turned_call};
-use source_store::Value;
+use source_store::{Lack, Value};
 
 /// A choice, in its direction.
 #[derive(Clone, Copy)]
@@ -63,7 +64,7 @@ fn open_side<'a>(run: &mut Run<'a>, side: bool, choice: &Choice<'a>) -> Result<(
         (Chosen side (expression_of choice.now.test.now) (expression_of choice.now.after.now))
         (if side then in_direction choice.now.back (block_of choice.now.taken.now)
         else in_direction choice.now.back (block_of choice.now.other.now)) (state_in run.old))
-        (λ why. why ≡ Stop.NoMemory) }
+        (λ why. why ≡ Stop.Lacks Lack.NoMemory) }
     ensures sound { OnOk result (IsSound run.new) }
     ensures opens { OnOk result (length run.new.frames.items ≤ 1 + length run.old.frames.items) }
     ensures setting { run.new.setting ≡ run.old.setting }
@@ -123,7 +124,7 @@ fn repeat<'a>(run: &mut Run<'a>, fuel: &mut u64, at: u32, turns: &Loop<'a>) -> R
 fn open_variable<'a>(run: &mut Run<'a>, name: &'a [u8], value: Value) -> Result<(), Stop>
     requires sound { IsSound run.old }
     ensures opened { MatchResult result (λ u. state_in run.new
-        ≡ opened name.now (value_of value) (state_in run.old)) (λ why. why ≡ Stop.NoMemory) }
+        ≡ opened name.now (value_of value) (state_in run.old)) (λ why. why ≡ Stop.Lacks Lack.NoMemory) }
     ensures sound { OnOk result (IsSound run.new) }
     ensures same { run.new
         ≡ record run.old { locals = run.new.locals; values = run.new.values } }
@@ -170,7 +171,7 @@ fn open_holding<'a>(
         ≡ inside (config_of run.old) (here_in run.old) (rest_in run.old)
         (Holding local.now.name.now (closing_of local.now.value) (closing_of local.now.end_value))
         (task_of task.entry) (opened local.now.name.now (value_of value) (state_in run.old)))
-        (λ why. why ≡ Stop.NoMemory) }
+        (λ why. why ≡ Stop.Lacks Lack.NoMemory) }
     ensures sound { OnOk result (IsSound run.new) }
     ensures opens { OnOk result (length run.new.frames.items ≤ 1 + length run.old.frames.items) }
     ensures setting { run.new.setting ≡ run.old.setting }
@@ -194,6 +195,7 @@ fn begin_simple<'a>(run: &mut Run<'a>, fuel: &mut u64, line: &Line<'a>) -> Resul
     ensures opens { OnOk result (length run.new.frames.items ≤ 1 + length run.old.frames.items) }
     ensures setting { setting_of run.new.setting ≡ setting_of run.old.setting }
     ensures less { fuel.new ≤ fuel.old }
+    ensures stops { IfErr result (λ why. MayStop (line_of line.now) why) }
 {
     match carry_line(run, fuel, line) {
         Err(why) => Err(why),
@@ -216,6 +218,7 @@ fn begin_forward<'a>(run: &mut Run<'a>, fuel: &mut u64, s: &'a Stmt) -> Result<(
     ensures opens { OnOk result (length run.new.frames.items ≤ 1 + length run.old.frames.items) }
     ensures setting { setting_of run.new.setting ≡ setting_of run.old.setting }
     ensures less { fuel.new ≤ fuel.old }
+    ensures stops { IfErr result (λ why. MayStop (statement_of s.now) why) }
 {
     match s {
         Stmt::If {
@@ -339,6 +342,7 @@ fn begin_backward<'a>(run: &mut Run<'a>, fuel: &mut u64, s: &'a Stmt) -> Result<
     ensures opens { OnOk result (length run.new.frames.items ≤ 1 + length run.old.frames.items) }
     ensures setting { setting_of run.new.setting ≡ setting_of run.old.setting }
     ensures less { fuel.new ≤ fuel.old }
+    ensures stops { IfErr result (λ why. MayStop (turned true (statement_of s.now)) why) }
 {
     match s {
         Stmt::If {
@@ -487,6 +491,7 @@ pub fn begin<'a>(run: &mut Run<'a>, fuel: &mut u64, line: &Line<'a>) -> Result<(
     ensures opens { OnOk result (length run.new.frames.items ≤ 1 + length run.old.frames.items) }
     ensures setting { setting_of run.new.setting ≡ setting_of run.old.setting }
     ensures less { fuel.new ≤ fuel.old }
+    ensures stops { IfErr result (λ why. MayStop (line_of line.now) why) }
 {
     match line {
         Line::Text { stmt, back } => {

@@ -27,7 +27,7 @@ use source_blocks::{
 use source_steps::{
     Cell, Stop, cell_of_name, cells_of, move_out, read_cell, read_cells, refuse, spend,
 };
-use source_store::Value;
+use source_store::{Lack, Value};
 use std::mem::replace;
 use std::slice::from_ref;
 
@@ -182,7 +182,7 @@ fn enter<'a>(
         (class_of (setting_of run.old.setting) (state_in run.old) object) calls.now.method.now.text)
         object (only_cell cell)
         (cells_named (setting_of run.old.setting) (state_in run.old) calls.now.args.now))
-        (λ why. why ≡ Stop.NoMemory) }
+        (λ why. why ≡ Stop.Lacks Lack.NoMemory) }
     ensures sound { OnOk result (IsSound run.new) }
     ensures opens { OnOk result (length run.new.frames.items ≤ 1 + length run.old.frames.items) }
     ensures setting { setting_of run.new.setting ≡ setting_of run.old.setting }
@@ -219,7 +219,7 @@ fn enter_with<'a>(
         (class_of (setting_of run.old.setting) (state_in run.old) object) calls.now.method.now.text)
         object (only_cell cell)
         (cells_named (setting_of run.old.setting) (state_in run.old) calls.now.args.now))
-        (λ why. why ≡ Stop.NoMemory) }
+        (λ why. why ≡ Stop.Lacks Lack.NoMemory) }
     ensures sound { OnOk result (IsSound run.new) }
     ensures opens { OnOk result (length run.new.frames.items ≤ 1 + length run.old.frames.items) }
     ensures setting { setting_of run.new.setting ≡ setting_of run.old.setting }
@@ -240,7 +240,7 @@ fn cells_in_order(run: &Run, calls: &Calls) -> Result<Vec<Cell>, Stop>
     requires sound { IsSound run.now }
     ensures { MatchResult result (λ cells. map cell_of cells.items
         ≡ cells_named (setting_of run.now.setting) (state_in run.now) calls.now.args.now)
-        (λ why. why ≡ Stop.NoMemory) }
+        (λ why. why ≡ Stop.Lacks Lack.NoMemory) }
 {
     let scope = scope_of(&run.locals, run.params);
     cells_of(&run.setting, &scope, &run.heap, &run.values, calls.args)
@@ -250,7 +250,7 @@ fn cells_in_order(run: &Run, calls: &Calls) -> Result<Vec<Cell>, Stop>
 fn values_in_order(run: &Run, cells: &Vec<Cell>) -> Result<Vec<Value>, Stop>
     requires sound { IsSound run.now }
     ensures { MatchResult result (λ values. values_of values.items
-        ≡ map (read (state_in run.now)) (map cell_of cells.now.items)) (λ why. why ≡ Stop.NoMemory) }
+        ≡ map (read (state_in run.now)) (map cell_of cells.now.items)) (λ why. why ≡ Stop.Lacks Lack.NoMemory) }
 {
     let scope = scope_of(&run.locals, run.params);
     match read_cells(
@@ -262,7 +262,7 @@ fn values_in_order(run: &Run, cells: &Vec<Cell>) -> Result<Vec<Value>, Stop>
         cells,
     ) {
         Ok(values) => Ok(values),
-        Err(_full) => Err(Stop::NoMemory),
+        Err(_full) => Err(Stop::Lacks(Lack::NoMemory)),
     }
 }
 

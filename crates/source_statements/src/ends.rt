@@ -1,12 +1,12 @@
 // The end of a block.
-ghost use Rattle.std.specs.Prelude.{◌≡◌, ◌+◌, ◌*◌, ◌<◌, ◌≤◌, ◌^◌, ◌++◌, [], suc, not, if◌then◌else◌, OnOk, OnErr, length, map, reverse};
+ghost use Rattle.std.specs.Prelude.{◌≡◌, ◌+◌, ◌*◌, ◌<◌, ◌≤◌, ◌^◌, ◌++◌, [], suc, not, if◌then◌else◌, OnOk, OnErr, length, map, reverse, IfErr};
 ghost use Rattle.rpp_tree.specs.Views.{expression_of};
 ghost use Rattle.source_blocks.specs.roopl_semantics.Value.{Slot, read};
 ghost use Rattle.source_blocks.specs.roopl_semantics.Execution.{closed, moved_back};
 ghost use Rattle.source_blocks.specs.meaning_machine.Machine.{closing};
 ghost use Rattle.source_blocks.specs.source_store.ValueView.{value_of, values_of};
 ghost use Rattle.source_blocks.specs.source_steps.CellView.{cell_of};
-ghost use Rattle.source_blocks.specs.source_steps.Metered.{Gives, metered};
+ghost use Rattle.source_blocks.specs.source_steps.Metered.{Gives, metered, IsOwn, IsOwnOrFull};
 ghost use Rattle.source_blocks.specs.source_steps.StateView.{setting_of};
 ghost use Rattle.source_blocks.specs.Blocks.{past_at, rest_at, count_of};
 ghost use Rattle.source_blocks.specs.Tasks.{task_of};
@@ -20,7 +20,7 @@ use source_blocks::{
     value_in,
 };
 use source_steps::{Cell, Setting, Stop, is_true, read_cell, refuse, return_values};
-use source_store::{Heap, Value};
+use source_store::{Heap, Lack, Value};
 use std::slice::from_ref;
 
 /// What a block ends in.
@@ -82,6 +82,7 @@ fn end_side(run: &mut Run, fuel: &mut u64, side: bool, after: &Expr) -> Result<(
     ensures opens { OnOk result (length run.new.frames.items < length run.old.frames.items) }
     ensures setting { setting_of run.new.setting ≡ setting_of run.old.setting }
     ensures less { fuel.new ≤ fuel.old }
+    ensures own { IfErr result IsOwn }
 {
     match value_in(run, fuel, after) {
         Err(why) => Err(why),
@@ -107,6 +108,7 @@ fn end_first<'a>(run: &mut Run<'a>, fuel: &mut u64, turns: &Loop<'a>) -> Result<
     ensures setting { setting_of run.new.setting ≡ setting_of run.old.setting }
     ensures some { OnOk result (fuel.new < fuel.old) }
     ensures less { fuel.new ≤ fuel.old }
+    ensures own { IfErr result IsOwn }
 {
     match value_in(run, fuel, turns.exit) {
         Err(why) => Err(why),
@@ -119,7 +121,8 @@ fn end_first<'a>(run: &mut Run<'a>, fuel: &mut u64, turns: &Loop<'a>) -> Result<
                 block: turns.again,
                 back: turns.back,
             };
-            turn_to(run, Part::Again(*turns), task)
+            turn_to(run, Part::Again(*turns), task);
+            Ok(())
         }
     }
 }
@@ -137,6 +140,7 @@ fn end_again<'a>(run: &mut Run<'a>, fuel: &mut u64, turns: &Loop<'a>) -> Result<
     ensures setting { setting_of run.new.setting ≡ setting_of run.old.setting }
     ensures some { OnOk result (fuel.new < fuel.old) }
     ensures less { fuel.new ≤ fuel.old }
+    ensures own { IfErr result IsOwn }
 {
     match value_in(run, fuel, turns.entry) {
         Err(why) => Err(why),
@@ -147,7 +151,8 @@ fn end_again<'a>(run: &mut Run<'a>, fuel: &mut u64, turns: &Loop<'a>) -> Result<
                     block: turns.first,
                     back: turns.back,
                 };
-                turn_to(run, Part::First(*turns), task)
+                turn_to(run, Part::First(*turns), task);
+                Ok(())
             }
         },
     }
@@ -176,7 +181,7 @@ fn innermost(run: &Run) -> Value
 }
 
 /// The block of a local variable ends: its value is compared with the closing one, and it goes. If
-/// no local variable is in scope, that is refused, as `NoMemory`.
+/// no local variable is in scope, that is refused as `Full`.
 fn end_local(run: &mut Run, fuel: &mut u64, local: &Local) -> Result<(), Stop>
     requires sound { IsSound run.old }
     requires within { HasPart (config_of run.old).around (part_of (Part.Holding local.now)) }
@@ -187,6 +192,7 @@ fn end_local(run: &mut Run, fuel: &mut u64, local: &Local) -> Result<(), Stop>
     ensures opens { OnOk result (length run.new.frames.items < length run.old.frames.items) }
     ensures setting { setting_of run.new.setting ≡ setting_of run.old.setting }
     ensures less { fuel.new ≤ fuel.old }
+    ensures own { IfErr result IsOwnOrFull }
 {
     match closing_value(run, fuel, &local.end_value) {
         Err(why) => Err(why),
@@ -194,7 +200,7 @@ fn end_local(run: &mut Run, fuel: &mut u64, local: &Local) -> Result<(), Stop>
             Err(why) => Err(why),
             Ok(()) => {
                 if run.locals.is_empty() {
-                    return Err(Stop::NoMemory);
+                    return Err(Stop::Lacks(Lack::Full));
                 }
                 close_variable(run);
                 close_block(run);
@@ -223,6 +229,7 @@ fn give_back(
     ensures room { HasRoom setting.now caller.new heap.new }
     ensures same { caller.new ≡ record caller.old { values = caller.new.values } }
     ensures fuel { fuel.new ≡ fuel.old }
+    ensures own { IfErr result IsOwn }
 {
     let scope = scope_of(&caller.locals, caller.params);
     let values = &mut caller.values;
@@ -310,6 +317,7 @@ fn end_call(run: &mut Run, fuel: &mut u64) -> Result<(), Stop>
     ensures opens { OnOk result (length run.new.frames.items < length run.old.frames.items) }
     ensures setting { setting_of run.new.setting ≡ setting_of run.old.setting }
     ensures less { fuel.new ≤ fuel.old }
+    ensures own { IfErr result IsOwn }
 {
     match run.frames.pop() {
         None => Ok(()),
@@ -341,6 +349,7 @@ pub fn end(run: &mut Run, fuel: &mut u64) -> Result<(), Stop>
         (2 * fuel.old + length run.old.frames.items)) }
     ensures setting { setting_of run.new.setting ≡ setting_of run.old.setting }
     ensures less { fuel.new ≤ fuel.old }
+    ensures own { IfErr result IsOwnOrFull }
 {
     match block_ending(&run.frames) {
         Ending::Over => Ok(()),

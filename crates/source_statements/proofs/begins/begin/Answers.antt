@@ -1,12 +1,14 @@
-use Rattle.std.proofs.Common.{◌∙◌, ap, Some}
+use Rattle.std.proofs.Common.{◌∙◌, sym, subst, ap, Some}
 use Rattle.rpp_tree.specs.declared.tree.Ident.{Ident}
-use Rattle.rpp_tree.specs.Tree.{Whole}
+use Rattle.rpp_tree.specs.Tree.{Statement, Whole}
 use Rattle.source_blocks.specs.roopl_semantics.Execution.{element_name}
 use Rattle.source_blocks.specs.meaning_machine.Machine.{called}
 use Rattle.source_blocks.specs.source_steps.StateView.{setting_of}
 use Rattle.source_blocks.specs.Tasks.{line_of}
 use Rattle.source_blocks.specs.Runs.{config_of, here_in, rest_in}
+use Rattle.source_blocks.specs.Stops.{MayStop}
 use Rattle.source_statements.proofs.Begun.{call_begun, same_gives}
+use Rattle.source_blocks.proofs.Stopping.{anyhow}
 use Rattle.source_statements.proofs.begins.begin.Goals as goal
 
 pub returns-in-Ok-clause-gives : goal.returns-in-Ok-clause-gives
@@ -19,3 +21,11 @@ returns-in-Ok-clause-gives c =
     (rest_in c.args.run.now) c.in-Call.calls.at c.in-Call.calls.back
     (Some (Whole (element_name c.in-Call.calls.at))) c.in-Call.calls.method.now c.in-Call.calls.args.now
     (c.requires.here ∙ ap line_of c.in-Call.is)) c.call_on.ensures.gives
+
+pub returns-in-Ok-clause-stops : goal.returns-in-Ok-clause-stops
+returns-in-Ok-clause-stops c =
+    anyhow c.call_on.result (line_of c.args.line.now) _ (ap line_of c.in-Call.is) (λ why. tt)
+
+pub returns-in-Err-clause-stops : goal.returns-in-Err-clause-stops
+returns-in-Err-clause-stops c =
+    subst (λ (s : Statement). MayStop s c.in-Err.why) (sym (ap line_of c.in-Call.is)) tt

@@ -8,6 +8,7 @@ use Rattle.source_blocks.specs.meaning_machine.Machine.{held_local, called}
 use Rattle.source_blocks.specs.source_steps.StateView.{setting_of}
 use Rattle.source_blocks.specs.Runs.{config_of, here_in, rest_in}
 use Rattle.source_statements.proofs.Begun.{local_begun, construct_begun, call_begun, same_gives}
+use Rattle.source_blocks.proofs.Stopping.{anyhow}
 use Rattle.source_statements.proofs.begins.begin_forward.Goals as goal
 
 pub choose-requires-clause-here : goal.choose-requires-clause-here
@@ -46,3 +47,28 @@ returns-in-Call-clause-gives c =
     ∙ call_begun (setting_of c.args.run.now.setting) (config_of c.args.run.now) (here_in c.args.run.now)
     (rest_in c.args.run.now) _ _ _ _ _
     (c.requires.here ∙ ap statement_of c.in-Call.is ∙ statement_call _ _ _ _ _)) c.call.ensures.gives
+
+pub returns-in-If-clause-stops : goal.returns-in-If-clause-stops
+returns-in-If-clause-stops c =
+    anyhow c.choose.result (statement_of c.args.s.now) _ (ap statement_of c.in-If.is ∙ statement_if _ _ _ _ _)
+    (λ why. tt)
+
+pub returns-in-From-clause-stops : goal.returns-in-From-clause-stops
+returns-in-From-clause-stops c =
+    anyhow c.repeat.result (statement_of c.args.s.now) _ (ap statement_of c.in-From.is ∙ statement_from _ _ _ _ _)
+    (λ why. tt)
+
+pub returns-in-Local-clause-stops : goal.returns-in-Local-clause-stops
+returns-in-Local-clause-stops c =
+    anyhow c.open_local.result (statement_of c.args.s.now) _
+    (ap statement_of c.in-Local.is ∙ statement_local _ _ _ _ _ _) (λ why. tt)
+
+pub returns-in-Construct-clause-stops : goal.returns-in-Construct-clause-stops
+returns-in-Construct-clause-stops c =
+    anyhow c.construct.result (statement_of c.args.s.now) _
+    (ap statement_of c.in-Construct.is ∙ statement_construct _ _ _ _ _) (λ why. tt)
+
+pub returns-in-Call-clause-stops : goal.returns-in-Call-clause-stops
+returns-in-Call-clause-stops c =
+    anyhow c.call.result (statement_of c.args.s.now) _ (ap statement_of c.in-Call.is ∙ statement_call _ _ _ _ _)
+    (λ why. tt)

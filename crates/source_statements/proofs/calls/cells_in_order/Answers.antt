@@ -4,6 +4,7 @@ use Rattle.source_blocks.specs.roopl_semantics.Execution.{cells_named}
 use Rattle.source_blocks.specs.source_steps.CellView.{cell_of}
 use Rattle.source_blocks.specs.source_steps.StateView.{setting_of}
 use Rattle.source_blocks.specs.source_steps.declared.stop.Stop.TheVariants as stop
+use Rattle.source_blocks.specs.source_store.declared.lack.Lack.TheVariants as lacking
 use Rattle.source_blocks.proofs.Scoped.{framed_in, at_state}
 use Rattle.source_statements.proofs.calls.cells_in_order.Goals as goal
 
@@ -14,5 +15,6 @@ pub returns : goal.returns
 returns c =
     at_state c.args.run.now c.scope_of-scope.result c.scope_of-scope.ensures
     (λ st. MatchResult c.cells_of.result (λ cells. map cell_of cells.items
-    ≡ cells_named (setting_of c.args.run.now.setting) st c.args.calls.now.args.now) (λ why. why ≡ stop.NoMemory))
+    ≡ cells_named (setting_of c.args.run.now.setting) st c.args.calls.now.args.now)
+    (λ why. why ≡ stop.Lacks lacking.NoMemory))
     c.cells_of.ensures

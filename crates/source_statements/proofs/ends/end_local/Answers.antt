@@ -5,6 +5,7 @@ use Rattle.source_blocks.specs.roopl_semantics.Execution.{closed}
 use Rattle.source_blocks.specs.source_store.ValueView.{value_of}
 use Rattle.source_blocks.specs.source_steps.StateView.{setting_of}
 use Rattle.source_blocks.specs.Runs.{config_of, state_in}
+use Rattle.source_blocks.proofs.source_steps_laws.Fuelled.{either}
 use Rattle.source_blocks.proofs.Scoped.{state_config}
 use Rattle.source_statements.proofs.Ended.{close_fails, close_differs, close_goes}
 use Rattle.source_statements.proofs.ends.end_local.Goals as goal
@@ -31,3 +32,9 @@ returns-else-is_empty-clause-gives c =
     c.in-Ok-refuse.ensures.gives
     (state_config c.args.run.now c.close_variable.new.run c.close_variable.ensures.same
     (closed (state_in c.args.run.now)) c.close_variable.ensures.closed) c.close_block.ensures.closed
+
+pub returns-in-Err-clause-own : goal.returns-in-Err-clause-own
+returns-in-Err-clause-own c = either c.in-Err.why c.in-Err.ensures.own
+
+pub returns-in-Err-refuse-clause-own : goal.returns-in-Err-refuse-clause-own
+returns-in-Err-refuse-clause-own c = either c.in-Err-refuse.why c.in-Err-refuse.ensures.own

@@ -6,6 +6,7 @@ use Rattle.source_blocks.specs.Tasks.{task_of, line_of}
 use Rattle.source_blocks.specs.Runs.{config_of}
 use Rattle.source_statements.proofs.Begun.{alone_fails, alone_goes}
 use Rattle.source_statements.proofs.Asking.{request_is}
+use Rattle.source_statements.proofs.Stopped.{asked_may}
 use Rattle.source_statements.proofs.steps.begin_request.Goals as goal
 
 pub pass-requires-clause-within : goal.pass-requires-clause-within
@@ -38,3 +39,6 @@ returns-in-Ok-clause-opens c =
     ap (λ (r : Run). length r.frames.items) c.take_line_back.ensures.same in
     let same = c.pass.ensures.opens in
     omega arith
+
+pub returns-in-Err-clause-stops : goal.returns-in-Err-clause-stops
+returns-in-Err-clause-stops c = asked_may (line_of c.args.line.now) c.in-Err.why c.requires.asks

@@ -1,6 +1,8 @@
 use Rattle.std.proofs.Common.{◌+◌, ◌*◌, length, sym}
 use Rattle.source_blocks.specs.Runs.{config_of}
-use Rattle.source_statements.proofs.Stepped.{ended_gives, begins_unpaid, begins_gives, begins_falls, end_falls, paid_falls}
+use Rattle.source_statements.proofs.Stepped.{ended_gives, begins_unpaid, begins_gives, begins_falls, end_falls}
+use Rattle.source_statements.proofs.Stepped.{paid_falls}
+use Rattle.source_statements.proofs.Stopped.{ends_so, begins_so, unpaid_so}
 use Rattle.source_statements.proofs.steps.step.Goals as goal
 
 pub begin_line-requires-clause-here : goal.begin_line-requires-clause-here
@@ -35,3 +37,14 @@ returns-in-Ok-clause-falls c =
     (paid_falls c.begin_line.result c.args.fuel.now c.spend.new.fuel c.begin_line.new.fuel
     (length c.begin_line.new.run.frames.items)
     (length c.args.run.now.frames.items) c.in-Ok.ensures.paid c.begin_line.ensures.less c.begin_line.ensures.opens)
+
+pub returns-in-None-clause-stops : goal.returns-in-None-clause-stops
+returns-in-None-clause-stops c = ends_so c.args.run.now c.end.result c.in-None.ensures.past c.end.ensures.own
+
+pub returns-in-Err-clause-stops : goal.returns-in-Err-clause-stops
+returns-in-Err-clause-stops c = unpaid_so c.args.run.now c.in-Err.why c.in-Some.ensures.within c.in-Err.ensures.own
+
+pub returns-in-Ok-clause-stops : goal.returns-in-Ok-clause-stops
+returns-in-Ok-clause-stops c =
+    begins_so c.args.run.now c.begin_line.result _ c.in-Some.ensures.within (sym c.in-Some.ensures.statement)
+    c.begin_line.ensures.stops

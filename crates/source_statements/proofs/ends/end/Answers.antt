@@ -1,0 +1,14 @@
+use Rattle.source_blocks.proofs.source_steps_laws.Fuelled.{so_either}
+use Rattle.source_statements.proofs.ends.end.Goals as goal
+
+pub returns-in-Chosen-clause-own : goal.returns-in-Chosen-clause-own
+returns-in-Chosen-clause-own c = so_either c.end_side.result c.end_side.ensures.own
+
+pub returns-in-First-clause-own : goal.returns-in-First-clause-own
+returns-in-First-clause-own c = so_either c.end_first.result c.end_first.ensures.own
+
+pub returns-in-Again-clause-own : goal.returns-in-Again-clause-own
+returns-in-Again-clause-own c = so_either c.end_again.result c.end_again.ensures.own
+
+pub returns-in-Calling-clause-own : goal.returns-in-Calling-clause-own
+returns-in-Calling-clause-own c = so_either c.end_call.result c.end_call.ensures.own
