@@ -1,5 +1,5 @@
 // A run of the source, as a layer above sees it.
-ghost use Rattle.std.specs.Prelude.{◌≡◌, ◌+◌, ◌*◌, ◌≤◌, ◌↔◌, IsTrue, false, IfOk, OnOk, length, map, slice_set};
+ghost use Rattle.std.specs.Prelude.{◌≡◌, ◌+◌, ◌*◌, ◌≤◌, ◌↔◌, IsTrue, false, IfOk, OnOk, length, map, slice_set, IfErr};
 ghost use Rattle.source_statements.specs.rpp_words.Limits.{IsLimits};
 ghost use Rattle.rpp_tree.specs.Views.{source_of};
 ghost use Rattle.source_statements.specs.roopl_semantics.Store.{Word};
@@ -11,7 +11,7 @@ ghost use Rattle.source_statements.specs.meaning_machine.Reversed.{back as next_
 ghost use Rattle.source_statements.specs.source_store.ValueView.{values_of};
 ghost use Rattle.source_statements.specs.source_steps.Metered.{Gives, metered};
 ghost use Rattle.source_statements.specs.source_blocks.Tasks.{task_of};
-ghost use Rattle.source_statements.specs.Steps.{StepFalls, step_in};
+ghost use Rattle.source_statements.specs.Steps.{StepFalls, step_in, MayStopAt};
 ghost use Rattle.source_execution.specs.Variables.{binding_of};
 ghost use Rattle.source_execution.specs.Standing.{IsOver, Walks, config_at, setting_at, next_place, starting_heap};
 
@@ -159,6 +159,7 @@ impl<'a> Execution<'a> {
             (2 * fuel.new + length (config_at self.new).around)
             (2 * fuel.old + length (config_at self.old).around)) }
         ensures less { fuel.new ≤ fuel.old }
+        ensures stops { IfErr result (λ why. MayStopAt (config_at self.old).rest why) }
     {
         self.go(fuel, false)
     }
@@ -175,6 +176,7 @@ impl<'a> Execution<'a> {
             (2 * fuel.new + length (config_at self.new).around)
             (2 * fuel.old + length (config_at self.old).around)) }
         ensures less { fuel.new ≤ fuel.old }
+        ensures stops { IfErr result (λ why. MayStopAt (config_at self.old).rest why) }
     {
         self.go(fuel, true)
     }
@@ -190,6 +192,7 @@ impl<'a> Execution<'a> {
             (2 * fuel.new + length (config_at self.new).around)
             (2 * fuel.old + length (config_at self.old).around)) }
         ensures less { fuel.new ≤ fuel.old }
+        ensures stops { IfErr result (λ why. MayStopAt (config_at self.old).rest why) }
     {
         match step(&mut self.run, fuel, back) {
             Ok(()) => Ok(()),
