@@ -1,4 +1,5 @@
 """The repository: its files, its version, its commit, and the checksum of its sources."""
+import functools
 import hashlib
 import os
 import re
@@ -41,6 +42,7 @@ def version():
     return re.search(r'^## (\d[\w.]*)', read_text('CHANGELOG.md'), re.M).group(1)
 
 
+@functools.lru_cache(maxsize=None)
 def sources():
     """The checksum of the current sources."""
     return printed_by('bash', path_of('tools/made_of'))
