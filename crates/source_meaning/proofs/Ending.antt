@@ -150,7 +150,7 @@ module _ (program : Source) (limits : Limits) (input : List FieldWord) (fuel lef
           (walked_fault program limits input fuel left walks.steps code e)
       by stop.More e is = subst (λ o. IsOutcome o (source program limits input fuel)) (sym is)
           (walked_more program limits input fuel left walks.steps e)
-      by stop.NoMemory e is = absurd is
+      by (stop.Lacks lack) e is = absurd is
 
 pub done_as : {E : Type 0} (r : Result Outcome E) (x : Outcome) (P : Outcome → Type 0) → P x → IfOk r (λ o. o ≡ x)
     → IfOk r P

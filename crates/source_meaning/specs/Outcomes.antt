@@ -28,7 +28,7 @@ IsOutcome outcome.More run = run ≡ More
 abbrev pub IsStop : Stop → ℕ → Outcome → Type 0
 IsStop (stop.Fault code) cost answer = answer ≡ outcome.Fault code cost
 IsStop stop.More cost answer = answer ≡ outcome.More
-IsStop stop.NoMemory cost answer = ⊥
+IsStop (stop.Lacks lack) cost answer = ⊥
 
 -- if the run is over, more fuel gives the same answer
 abbrev pub StaysSo : Outcome → Source → Limits → List FieldWord → ℕ → Type 0

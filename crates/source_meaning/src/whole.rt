@@ -34,7 +34,7 @@ fn stopped(stop: Stop, cost: u64) -> Result<Outcome, NoMemory>
     match stop {
         Stop::Fault(code) => Ok(Outcome::Fault { code, cost }),
         Stop::More => Ok(Outcome::More),
-        Stop::NoMemory => Err(NoMemory),
+        Stop::Lacks(lack) => Err(lack.as_no_memory()),
     }
 }
 
