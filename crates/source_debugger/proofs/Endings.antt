@@ -354,7 +354,7 @@ module _ (program : Source) (limits : Limits) (input : List FieldWord) (n : ℕ)
         fault = end.0;
       })
   is_stopped (Ok e) heap stop.More left not failed is = absurd is
-  is_stopped (Ok e) heap stop.NoMemory left not failed is = absurd is
+  is_stopped (Ok e) heap (stop.Lacks lack) left not failed is = absurd is
 
 -- what is kept of an offset is the same if the store and the log are
 pub stand_as : (place : Place) (h k : Kept) → h.store ≡ k.store → h.log ≡ k.log → stand_of place h ≡ stand_of place k

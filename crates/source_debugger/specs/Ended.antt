@@ -61,7 +61,7 @@ pub record HasStopped (x : Config) (heap : Kept) (last : Watching) (fuel : ℕ) 
 abbrev pub IsStopped : Stop → Watching → Ended → Type 0
 IsStopped (stop.Fault code) last e = e ≡ ended.Fault code last
 IsStopped stop.More last e = ⊥
-IsStopped stop.NoMemory last e = ⊥
+IsStopped (stop.Lacks lack) last e = ⊥
 
 -- the watch as the run left it
 abbrev pub watching_of : Ended → Watching

@@ -14,6 +14,7 @@ use crate::shown::{cells_text, regs_text, walk_text};
 use class_table::Checked;
 use pisa_scripts::Command;
 use rpp_words::{Input, Limits, NoMemory};
+use source_store::Lack;
 use std::alloc::Global;
 use std::marker::Model;
 
@@ -62,7 +63,7 @@ struct Answer {
 }
 
 // The result of moves.
-fn walk_answer<'a>(run: &Run<'a>, course: &mut Course<'a>, walk: Walk) -> Result<Answer, NoMemory>
+fn walk_answer<'a>(run: &Run<'a>, course: &mut Course<'a>, walk: Walk) -> Result<Answer, Lack>
     requires run { IsValidRun (source_of run.now.checked.now) run.now.limits
         run.now.input.now.words.items }
     requires holds { Holds (source_of run.now.checked.now) run.now.limits
@@ -88,7 +89,7 @@ fn carry_out<'a>(
     course: &mut Course<'a>,
     command: Command,
     position: u64,
-) -> Result<Answer, NoMemory>
+) -> Result<Answer, Lack>
     requires run { IsValidRun (source_of run.now.checked.now) run.now.limits
         run.now.input.now.words.items }
     requires within { position ≤ LAST_POSITION }
@@ -127,6 +128,33 @@ fn carry_out<'a>(
             position,
             text: cells_text(run, course, position, from, count)?,
         }),
+    }
+}
+
+// Carries out a command at a position. A run whose cost, a count or a name is as high as it can be
+// counts as out of memory.
+fn answer_to<'a>(
+    run: &Run<'a>,
+    course: &mut Course<'a>,
+    command: Command,
+    position: u64,
+) -> Result<Answer, NoMemory>
+    requires run { IsValidRun (source_of run.now.checked.now) run.now.limits
+        run.now.input.now.words.items }
+    requires within { position ≤ LAST_POSITION }
+    requires holds { Holds (source_of run.now.checked.now) run.now.limits
+        run.now.input.now.words.items course.old }
+    ensures told { IfOk result (λ answer. told_by (source_of run.now.checked.now)
+        (trail (source_of run.now.checked.now) run.now.limits run.now.input.now.words.items
+        MOST_COST) command position
+        ≡ Some (record { position = answer.position; text = string_bytes answer.text })) }
+    ensures within { IfOk result (λ answer. answer.position ≤ LAST_POSITION) }
+    ensures holds { Holds (source_of run.now.checked.now) run.now.limits
+        run.now.input.now.words.items course.new }
+{
+    match carry_out(run, course, command, position) {
+        Ok(answer) => Ok(answer),
+        Err(lack) => Err(lack.as_no_memory()),
     }
 }
 
@@ -184,7 +212,7 @@ impl<'a> SourceDebugger<'a> {
             limits: self.limits,
             input: self.input,
         };
-        let answer = carry_out(&run, &mut self.course, *command, self.position)?;
+        let answer = answer_to(&run, &mut self.course, *command, self.position)?;
         out.push_str(answer.text.as_str())?;
         self.position = answer.position;
         Ok(())

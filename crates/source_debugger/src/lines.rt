@@ -13,9 +13,8 @@ ghost use Rattle.source_debugger.specs.Named.{value_named, name_line, fields_nam
 
 use class_table::Checked;
 use rpp_tree::tree::{Program, Var};
-use rpp_words::NoMemory;
 use source_execution::Variable;
-use source_store::{Head, Heap, Object, Value};
+use source_store::{Head, Heap, Lack, Object, Value};
 use std::alloc::AllocError;
 
 // A word in signed decimal.
@@ -41,18 +40,18 @@ fn add_value(out: &mut String, value: Value) -> Result<(), AllocError>
     }
 }
 
-// The bytes of a name. All names of a program are ASCII; another one would count as `NoMemory`.
-fn add_bytes(out: &mut String, bytes: &[u8]) -> Result<(), NoMemory>
+// The bytes of a name. All names of a program are ASCII; another one would be refused as `Full`.
+fn add_bytes(out: &mut String, bytes: &[u8]) -> Result<(), Lack>
     ensures { OnOk result (string_bytes out.new ≡ string_bytes out.old ++ bytes.now) }
 {
     match str::from_utf8(bytes) {
-        Err(_) => Err(NoMemory),
+        Err(_) => Err(Lack::Full),
         Ok(text) => Ok(out.push_str(text)?),
     }
 }
 
 // The line of a name with a value.
-fn add_name_line(out: &mut String, name: &[u8], value: Value) -> Result<(), NoMemory>
+fn add_name_line(out: &mut String, name: &[u8], value: Value) -> Result<(), Lack>
     ensures { OnOk result (string_bytes out.new
         ≡ string_bytes out.old ++ name_line name.now (value_of value)) }
 {
@@ -64,12 +63,7 @@ fn add_name_line(out: &mut String, name: &[u8], value: Value) -> Result<(), NoMe
 }
 
 // The lines of fields.
-fn add_fields(
-    out: &mut String,
-    indent: &str,
-    fields: &[Var],
-    values: &[Value],
-) -> Result<(), NoMemory>
+fn add_fields(out: &mut String, indent: &str, fields: &[Var], values: &[Value]) -> Result<(), Lack>
     ensures { OnOk result (string_bytes out.new
         ≡ string_bytes out.old ++ fields_named indent.now fields.now (values_of values.now)) }
 {
@@ -93,7 +87,7 @@ pub(crate) fn add_class_fields(
     checked: &Checked,
     class: u32,
     values: &[Value],
-) -> Result<(), NoMemory>
+) -> Result<(), Lack>
     ensures { OnOk result (string_bytes out.new
         ≡ string_bytes out.old ++ fields_named indent.now
         (class_fields (source_of checked.now) class) (values_of values.now)) }
@@ -125,12 +119,7 @@ fn add_elements(out: &mut String, values: &[Value]) -> Result<(), AllocError>
 }
 
 // The lines of the cells of an object or array.
-fn add_cells(
-    out: &mut String,
-    checked: &Checked,
-    head: Head,
-    values: &[Value],
-) -> Result<(), NoMemory>
+fn add_cells(out: &mut String, checked: &Checked, head: Head, values: &[Value]) -> Result<(), Lack>
     ensures { OnOk result (string_bytes out.new
         ≡ string_bytes out.old ++ cells_named (source_of checked.now) (head_of head)
         (values_of values.now)) }
@@ -152,7 +141,7 @@ fn class_name(program: &Program, class: u32) -> &[u8]
     }
 }
 
-fn add_head(out: &mut String, program: &Program, head: Head) -> Result<(), NoMemory>
+fn add_head(out: &mut String, program: &Program, head: Head) -> Result<(), Lack>
     ensures { OnOk result (string_bytes out.new
         ≡ string_bytes out.old ++ head_shown (source_of program.now) (head_of head)) }
 {
@@ -173,7 +162,7 @@ fn add_first(
     name: u32,
     head: Head,
     count: u64,
-) -> Result<(), NoMemory>
+) -> Result<(), Lack>
     ensures { OnOk result (string_bytes out.new
         ≡ string_bytes out.old ++ (codes "#" ++ decimal name ++ codes " "
         ++ head_shown (source_of checked.now) (head_of head) ++ codes " count " ++ decimal count
@@ -185,12 +174,7 @@ fn add_first(
     Ok(write!(out, " count {count}\n")?)
 }
 
-fn add_object(
-    out: &mut String,
-    checked: &Checked,
-    name: u32,
-    object: &Object,
-) -> Result<(), NoMemory>
+fn add_object(out: &mut String, checked: &Checked, name: u32, object: &Object) -> Result<(), Lack>
     ensures { OnOk result (string_bytes out.new
         ≡ string_bytes out.old ++ object_lines (source_of checked.now) name
         (Some (object_of object.now))) }
@@ -200,7 +184,7 @@ fn add_object(
 }
 
 // The lines of what lives at a name, if it does.
-fn add_named(out: &mut String, checked: &Checked, heap: &Heap, name: u64) -> Result<(), NoMemory>
+fn add_named(out: &mut String, checked: &Checked, heap: &Heap, name: u64) -> Result<(), Lack>
     ensures { OnOk result (string_bytes out.new
         ≡ string_bytes out.old ++ object_lines (source_of checked.now) name
         (object_named heap.now.store name)) }
@@ -222,7 +206,7 @@ pub(crate) fn add_objects(
     heap: &Heap,
     from: u32,
     count: u32,
-) -> Result<(), NoMemory>
+) -> Result<(), Lack>
     ensures { OnOk result (string_bytes out.new
         ≡ string_bytes out.old ++ objects_from (source_of checked.now) heap.now.store from count) }
 {
@@ -233,7 +217,7 @@ pub(crate) fn add_objects(
 }
 
 // The line of a variable; one with no name has none.
-fn add_variable(out: &mut String, variable: &Variable) -> Result<(), NoMemory>
+fn add_variable(out: &mut String, variable: &Variable) -> Result<(), Lack>
     ensures { OnOk result (string_bytes out.new
         ≡ string_bytes out.old ++ variable_line (binding_of variable.now)) }
 {
@@ -245,7 +229,7 @@ fn add_variable(out: &mut String, variable: &Variable) -> Result<(), NoMemory>
 }
 
 // The lines of parameters.
-fn add_params(out: &mut String, variables: &[Variable]) -> Result<(), NoMemory>
+fn add_params(out: &mut String, variables: &[Variable]) -> Result<(), Lack>
     ensures { OnOk result (string_bytes out.new
         ≡ string_bytes out.old ++ params_named (map binding_of variables.now)) }
 {
@@ -259,11 +243,7 @@ fn add_params(out: &mut String, variables: &[Variable]) -> Result<(), NoMemory>
 }
 
 /// The lines of the variables of a method with so many parameters.
-pub(crate) fn add_frame(
-    out: &mut String,
-    params: usize,
-    variables: &[Variable],
-) -> Result<(), NoMemory>
+pub(crate) fn add_frame(out: &mut String, params: usize, variables: &[Variable]) -> Result<(), Lack>
     ensures { OnOk result (string_bytes out.new
         ≡ string_bytes out.old ++ frame_named params (map binding_of variables.now)) }
 {

@@ -10,7 +10,7 @@ ghost use Rattle.source_debugger.specs.Ended.{watching_of, left_of, latest_of, r
 
 use crate::running::{Course, Ended, Run, run_to};
 use crate::watching::Watching;
-use rpp_words::NoMemory;
+use source_store::Lack;
 
 /// The last position that a debugger moves to.
 pub const LAST_POSITION: u64 = (1 << 63) - 1;
@@ -107,7 +107,7 @@ pub(crate) fn forward<'a>(
     place: Option<i64>,
     most: u64,
     from: u64,
-) -> Result<Walk, NoMemory>
+) -> Result<Walk, Lack>
     requires run { IsValidRun (source_of run.now.checked.now) run.now.limits
         run.now.input.now.words.items }
     requires within { from ≤ LAST_POSITION }
@@ -168,7 +168,7 @@ pub(crate) fn backward<'a>(
     place: Option<i64>,
     most: u64,
     from: u64,
-) -> Result<Walk, NoMemory>
+) -> Result<Walk, Lack>
     requires run { IsValidRun (source_of run.now.checked.now) run.now.limits
         run.now.input.now.words.items }
     requires within { from ≤ LAST_POSITION }

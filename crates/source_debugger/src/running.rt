@@ -1,5 +1,5 @@
 // Runs of a program under a watch.
-ghost use Rattle.std.specs.Prelude.{◌≡◌, ◌+◌, ◌*◌, ◌<◌, ◌≤◌, true, false, length, IfOk, IfErr, OnOk, OnErr};
+ghost use Rattle.std.specs.Prelude.{◌≡◌, ◌+◌, ◌-◌, ◌*◌, ◌<◌, ◌≤◌, ◌^◌, true, false, length, IfOk, IfErr, OnOk, OnErr};
 ghost use Rattle.source_meaning.specs.rpp_words.Limits.{IsLimits};
 ghost use Rattle.rpp_tree.specs.Views.{source_of};
 ghost use Rattle.source_meaning.specs.meaning_points.Trail.{trail};
@@ -11,7 +11,7 @@ ghost use Rattle.source_meaning.specs.source_statements.Steps.{StepFalls};
 ghost use Rattle.source_meaning.specs.source_execution.Standing.{config_at, setting_at, next_place};
 ghost use Rattle.source_debugger.specs.declared.running.TheConstants.{MOST_COST};
 ghost use Rattle.source_debugger.specs.Standing.{IsValidRun};
-ghost use Rattle.source_debugger.specs.Watched.{surely as surely_in, counted as counted_at};
+ghost use Rattle.source_debugger.specs.Watched.{surely as surely_in, counted as counted_at, wanted as wanted_at};
 ghost use Rattle.source_debugger.specs.Courses.{IsUnderWay, IsTurned, Holds, heap_of};
 ghost use Rattle.source_debugger.specs.Ended.{IsEnded, IsStopped, HasStopped};
 
@@ -21,10 +21,11 @@ use meaning_reversed::laws::steps_are_undone;
 use rpp_words::{Input, Limits, NoMemory};
 use source_execution::{Execution, Variable};
 use source_steps::Stop;
+use source_store::Lack;
 use std::alloc::Global;
 
-/// The highest cost of a run that is looked at: longer ones would take centuries, and count as
-/// `NoMemory`.
+/// The highest cost of a run that is looked at: longer ones would take centuries, and are refused
+/// as `Full`.
 pub const MOST_COST: u64 = u64::MAX;
 
 /// A program's run on an input.
@@ -82,6 +83,7 @@ pub(crate) fn begin<'a>(run: &Run<'a>) -> Result<Course<'a>, NoMemory>
     ensures starts { IfOk result (λ course. IsUnderWay (source_of run.now.checked.now)
         run.now.limits run.now.input.now.words.items MOST_COST course) }
     ensures first { IfOk result (λ course. course.passed ≡ 0) }
+    ensures fuel { IfOk result (λ course. course.fuel ≡ 2 ^ 64 - 1) }
 {
     let execution = Execution::start(run.alloc, run.checked, run.limits, run.input)?;
     Ok(Course {
@@ -93,15 +95,15 @@ pub(crate) fn begin<'a>(run: &Run<'a>) -> Result<Course<'a>, NoMemory>
 }
 
 // How many trace points are passed after the statement that begins, if one does. More than 2 ^ 64
-// count as `NoMemory`.
+// are refused as `Full`.
 fn counted(passed: u64, place: Option<u32>) -> Result<u64, Stop>
     ensures count { IfOk result (λ count. count ≡ counted_at passed place) }
-    ensures memory { IfErr result (λ why. why ≡ Stop.NoMemory) }
+    ensures memory { IfErr result (λ why. why ≡ Stop.Lacks Lack.Full) }
 {
     match place {
         None => Ok(passed),
         Some(_place) => match passed.checked_add(1) {
-            None => Err(Stop::NoMemory),
+            None => Err(Stop::Lacks(Lack::Full)),
             Some(more) => Ok(more),
         },
     }
@@ -235,11 +237,7 @@ fn rewind<'a>(run: &Run<'a>, course: &mut Course<'a>, most: u64)
 
 // A run that has gone too far for a watch steps back. A run that is aborted, or that a step back
 // aborts, begins again.
-fn make_ready<'a>(
-    run: &Run<'a>,
-    course: &mut Course<'a>,
-    watching: Watching,
-) -> Result<(), NoMemory>
+fn make_ready<'a>(run: &Run<'a>, course: &mut Course<'a>, watching: Watching) -> Result<(), Lack>
     requires run { IsValidRun (source_of run.now.checked.now) run.now.limits
         run.now.input.now.words.items }
     requires holds { Holds (source_of run.now.checked.now) run.now.limits
@@ -267,7 +265,7 @@ pub(crate) fn run_to<'a>(
     run: &Run<'a>,
     course: &mut Course<'a>,
     watching: Watching,
-) -> Result<Ended, NoMemory>
+) -> Result<Ended, Lack>
     requires run { IsValidRun (source_of run.now.checked.now) run.now.limits
         run.now.input.now.words.items }
     requires holds { Holds (source_of run.now.checked.now) run.now.limits
@@ -284,7 +282,7 @@ pub(crate) fn run_to<'a>(
 
 // Goes on to the trace point that the watch looks for. A watch passes all trace points that are
 // passed.
-fn go_on<'a>(run: &Run<'a>, course: &mut Course<'a>, watching: Watching) -> Result<Ended, NoMemory>
+fn go_on<'a>(run: &Run<'a>, course: &mut Course<'a>, watching: Watching) -> Result<Ended, Lack>
     requires run { IsValidRun (source_of run.now.checked.now) run.now.limits
         run.now.input.now.words.items }
     requires under_way { IsUnderWay (source_of run.now.checked.now) run.now.limits
@@ -311,16 +309,18 @@ fn go_on<'a>(run: &Run<'a>, course: &mut Course<'a>, watching: Watching) -> Resu
     Ok(Ended::Over { watching: watch })
 }
 
-// The end at the trace point of a run. One that has no fuel left counts as `NoMemory`.
-fn arrive(alloc: Global, course: &Course, watching: Watching) -> Result<Ended, NoMemory>
+// The end at the trace point of a run. One that has no fuel left is refused as
+// `Full`.
+fn arrive(alloc: Global, course: &Course, watching: Watching) -> Result<Ended, Lack>
+    requires { wanted_at watching (next_place (config_at course.now.execution).rest) ≡ true }
     ensures { IfOk result (λ ended. HasStopped (config_at course.now.execution)
         (heap_of course.now) watching course.now.fuel ended) }
 {
     if course.fuel == 0 {
-        return Err(NoMemory);
+        return Err(Lack::Full);
     }
     match course.execution.place() {
-        None => Err(NoMemory),
+        None => unreachable!(),
         Some(place) => {
             let arrival = Arrival {
                 place,
@@ -335,11 +335,12 @@ fn arrive(alloc: Global, course: &Course, watching: Watching) -> Result<Ended, N
 }
 
 // How a run ended that stopped before its end.
-fn broken(stop: Stop, watching: Watching) -> Result<Ended, NoMemory>
+fn broken(stop: Stop, watching: Watching) -> Result<Ended, Lack>
     ensures { IfOk result (λ ended. IsStopped stop watching ended) }
 {
     match stop {
         Stop::Fault(code) => Ok(Ended::Fault { code, watching }),
-        Stop::More | Stop::NoMemory => Err(NoMemory),
+        Stop::More => Err(Lack::Full),
+        Stop::Lacks(lack) => Err(lack),
     }
 }

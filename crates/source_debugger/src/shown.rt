@@ -22,9 +22,8 @@ use crate::watching::Watching;
 use class_table::Checked;
 use pisa_isa::Stop;
 use pisa_scripts::add_stop;
-use rpp_words::NoMemory;
 use source_execution::Variable;
-use source_store::{Heap, Value};
+use source_store::{Heap, Lack, Value};
 use std::alloc::{AllocError, Global};
 
 /// The position of a run: at a trace point, or at its end.
@@ -34,12 +33,12 @@ pub(crate) enum Place {
     End,
 }
 
-/// Where a position is. A position that the run does not have counts as `NoMemory`.
+/// Where a position is. A position that the run does not have is refused as `Full`.
 pub(crate) fn place_at<'a>(
     run: &Run<'a>,
     course: &mut Course<'a>,
     position: u64,
-) -> Result<Place, NoMemory>
+) -> Result<Place, Lack>
     requires run { IsValidRun (source_of run.now.checked.now) run.now.limits
         run.now.input.now.words.items }
     requires holds { Holds (source_of run.now.checked.now) run.now.limits
@@ -61,10 +60,10 @@ pub(crate) fn place_at<'a>(
             if left_in(watching) == 0 {
                 Ok(Place::End)
             } else {
-                Err(NoMemory)
+                Err(Lack::Full)
             }
         }
-        Ended::Fault { .. } => Err(NoMemory),
+        Ended::Fault { .. } => Err(Lack::Full),
     }
 }
 
@@ -106,7 +105,7 @@ pub(crate) fn walk_text<'a>(
     run: &Run<'a>,
     course: &mut Course<'a>,
     walk: Walk,
-) -> Result<String, NoMemory>
+) -> Result<String, Lack>
     requires run { IsValidRun (source_of run.now.checked.now) run.now.limits
         run.now.input.now.words.items }
     requires holds { Holds (source_of run.now.checked.now) run.now.limits
@@ -130,7 +129,7 @@ fn add_state(
     object: u32,
     params: usize,
     variables: &[Variable],
-) -> Result<(), NoMemory>
+) -> Result<(), Lack>
     ensures { OnOk result (string_bytes text.new
         ≡ string_bytes text.old
         ++ (fields_named [] (class_fields (source_of checked.now)
@@ -159,12 +158,7 @@ fn cells_of(heap: &Heap, name: u32) -> &[Value]
 }
 
 // The lines of fields and variables at an offset.
-fn place_regs(
-    alloc: Global,
-    checked: &Checked,
-    place: &Place,
-    heap: &Heap,
-) -> Result<String, NoMemory>
+fn place_regs(alloc: Global, checked: &Checked, place: &Place, heap: &Heap) -> Result<String, Lack>
     ensures { IfOk result (λ text. regs_at (source_of checked.now) (stand_of place.now heap.now)
         ≡ Some (string_bytes text)) }
 {
@@ -188,7 +182,7 @@ pub(crate) fn regs_text<'a>(
     run: &Run<'a>,
     course: &mut Course<'a>,
     position: u64,
-) -> Result<String, NoMemory>
+) -> Result<String, Lack>
     requires run { IsValidRun (source_of run.now.checked.now) run.now.limits
         run.now.input.now.words.items }
     requires holds { Holds (source_of run.now.checked.now) run.now.limits
@@ -211,7 +205,7 @@ fn place_cells(
     heap: &Heap,
     from: u32,
     count: u32,
-) -> Result<String, NoMemory>
+) -> Result<String, Lack>
     ensures { IfOk result (λ text. cells_at (source_of checked.now) from count
         (stand_of place.now heap.now)
         ≡ Some (string_bytes text)) }
@@ -231,7 +225,7 @@ pub(crate) fn cells_text<'a>(
     position: u64,
     from: u32,
     count: u32,
-) -> Result<String, NoMemory>
+) -> Result<String, Lack>
     requires run { IsValidRun (source_of run.now.checked.now) run.now.limits
         run.now.input.now.words.items }
     requires holds { Holds (source_of run.now.checked.now) run.now.limits

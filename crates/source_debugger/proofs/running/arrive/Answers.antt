@@ -1,12 +1,19 @@
-use Rattle.std.proofs.Common.{◌∙◌, refl, sym, arith}
+use Rattle.std.proofs.Common.{◌≡◌, ◌∙◌, refl, sym, ap, arith, true, false}
+use Rattle.std.proofs.lemmas.Bool.{false≢true}
 use Rattle.source_meaning.specs.source_execution.Standing.{config_at}
+use Rattle.source_debugger.specs.Watched.{wanted}
 use Rattle.source_debugger.specs.Courses.{heap_of}
 use Rattle.source_debugger.specs.declared.running.Arrival.{Arrival}
 use Rattle.source_debugger.proofs.Endings.{stands}
 use Rattle.source_debugger.proofs.running.arrive.Goals as goal
 
-pub returns-in_ok-variables-in-Some : goal.returns-in_ok-variables-in-Some
-returns-in_ok-variables-in-Some c =
+pub unreachable-requires : goal.unreachable-requires
+unreachable-requires c =
+    let none : true ≡ false = sym c.requires ∙ ap (wanted c.args.watching) (sym c.place.ensures ∙ c.in-None.is) in
+    false≢true (sym none)
+
+pub returns : goal.returns
+returns c =
     let arrival : Arrival = record {
       place = c.in-Some.place;
       params = c.params.result;

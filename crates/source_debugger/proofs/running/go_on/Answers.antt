@@ -18,6 +18,9 @@ loop-course-init c =
 pub step-requires : goal.step-requires
 step-requires c = record { whole = c.loop-course.invariant.way.whole }
 
+pub arrive-requires : goal.arrive-requires
+arrive-requires c = ap (wanted c.loop-course.watch) (sym c.place.ensures) ∙ sym c.wanted.ensures ∙ c.if-wanted.true
+
 pub returns-then-wanted-clause-ended : goal.returns-then-wanted-clause-ended
 returns-then-wanted-clause-ended c =
     is_at (source_of c.args.run.now.checked.now) c.args.run.now.limits c.args.run.now.input.now.words.items MOST_COST
