@@ -9,8 +9,8 @@ from .source import Method
 from .tokens import NAME
 
 HEAD = re.compile(rb"//[^\n]*|(?<![A-Za-z0-9_'])(?:class(?![A-Za-z0-9_'])|method\s+(?:" + NAME.encode() + rb")\s*\([^()/]*\))")
-CODE = re.compile(rb'(//[^\n]*)|[^\n/]+|/')
 COMMENT = re.compile(rb'//[^\n]*')
+BLANK = bytes(each if each == ord('\n') else ord(' ') for each in range(256))
 
 
 class Body(NamedTuple):
@@ -29,7 +29,21 @@ def bodies(text: bytes) -> List[Body]:
 
 def blank(code: bytes) -> bytes:
     """Spaces for all but comments and line feeds."""
-    return CODE.sub(lambda found: found[1] or b' ' * len(found[0]), code)
+    parts, end = [], 0
+    for comment in COMMENT.finditer(code):
+        parts += [code[end:comment.start()].translate(BLANK), comment.group()]
+        end = comment.end()
+    return b''.join([*parts, code[end:].translate(BLANK)])
+
+
+def code_length(text: bytes) -> int:
+    """How long a text is without the spaces, line feeds and comments at its end."""
+    while True:
+        text = text.rstrip()
+        comment = text.find(b'//', text.rfind(b'\n') + 1)
+        if comment < 0:
+            return len(text)
+        text = text[:comment]
 
 
 class Glance(Analysis):
@@ -59,5 +73,4 @@ class Glance(Analysis):
         body = self.bodies.get(begin)
         if body is None:
             return super().end_of(method)
-        code = COMMENT.sub(lambda found: b' ' * len(found[0]), self.whole[begin:body.end])
-        return begin + len(code.rstrip())
+        return begin + code_length(self.whole[begin:body.end])

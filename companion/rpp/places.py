@@ -35,6 +35,8 @@ class Text:
     def __init__(self, content: bytes):
         self.content = content
         self.starts: List[int] = [0] + [found.end() for found in re.finditer(b'\n', content)]
+        self.size = len(content)
+        self.is_ascii = content.isascii()
 
     @classmethod
     def read(cls, path: str) -> 'Text':
@@ -48,7 +50,7 @@ class Text:
 
     def within(self, offset: int) -> int:
         """The offset, brought into the text."""
-        return max(0, min(offset, len(self.content)))
+        return offset if 0 <= offset <= self.size else max(0, min(offset, self.size))
 
     def shown(self, offset: int) -> int:
         """The offset; for the end of the text the one after its last token, where there is a line to show."""
@@ -85,8 +87,8 @@ class Text:
     def position(self, offset: int) -> Position:
         offset = self.within(offset)
         row = bisect.bisect_right(self.starts, offset) - 1
-        before = self.content[self.starts[row]:offset]
-        return Position(row, len(before) if before.isascii() else utf16_length(decoded(before)))
+        begin = self.starts[row]
+        return Position(row, offset - begin if self.is_ascii else utf16_length(decoded(self.content[begin:offset])))
 
     def position_offset(self, line: int, character: int) -> int:
         """The byte of a place of the protocols."""

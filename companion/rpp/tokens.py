@@ -1,6 +1,6 @@
 """The tokens and comments of a source text with their places in bytes, as docs/reference/language.md, "Tokens", has them."""
 import re
-from typing import Iterator, List, NamedTuple, Tuple
+from typing import List, NamedTuple, Tuple
 
 KEYWORDS = frozenset(
     'class inherits method int nil skip if then else fi from do loop until local delocal construct destruct new delete '
@@ -12,9 +12,10 @@ UPDATES = frozenset('+= -= ^='.split())
 # The form of a name, as a part of patterns.
 NAME = r"[A-Za-z][A-Za-z0-9_']*"
 
+_BLANKS = ' \t\n\r'
 _PIECE = re.compile(
-    rb"(?P<blank>[ \t\n\r]+)|(?P<comment>//[^\n]*)|(?P<name>" + NAME.encode() + rb")|(?P<number>[0-9]+)"
-    rb'|(?P<sign><=>|[-+^]=|&&|\|\||[<>!]=|::|[-+^&|<>=*/%()\[\],])|(?P<bad>.)',
+    rf"[{_BLANKS}]*(?:(?P<comment>//[^\n]*)|(?P<name>{NAME})|(?P<number>[0-9]+)"
+    r'|(?P<sign><=>|[-+^]=|&&|\|\||[<>!]=|::|[-+^&|<>=*/%()\[\],])|(?P<bad>.))',
     re.S,
 )
 _NAME = re.compile(NAME + r'\Z')
@@ -36,26 +37,19 @@ class Token(NamedTuple):
 def cut(text: bytes) -> Tuple[List[Token], List[Token]]:
     """The tokens and the comments of a text. A byte with which no token begins is a token of the kind `bad`."""
     tokens, comments = [], []
-    for piece in _PIECE.finditer(text):
+    # (a character for each byte, so that lengths are in bytes; blanks at the end would be looked at again and again)
+    for piece in _PIECE.finditer(text.decode('latin-1').rstrip(_BLANKS)):
         kind = piece.lastgroup
-        if kind == 'blank':
-            continue
-        # (a character for each byte, so that lengths are in bytes)
-        word = piece.group().decode('latin-1')
+        word = piece[kind]
         if kind == 'name' and word in KEYWORDS:
             kind = 'keyword'
-        (comments if kind == 'comment' else tokens).append(Token(kind, word, piece.start()))
+        (comments if kind == 'comment' else tokens).append(Token(kind, word, piece.end() - len(word)))
     return tokens, comments
 
 
 def words(text: bytes) -> List[bytes]:
     """Only the texts of the tokens, which takes less time."""
     return [each.group() for each in _WORD.finditer(text) if each.lastindex is None]
-
-
-def spans(text: bytes) -> Iterator[Tuple[int, int]]:
-    """Where the tokens begin and end."""
-    return (each.span() for each in _WORD.finditer(text) if each.lastindex is None)
 
 
 def is_name(word: str) -> bool:

@@ -29,7 +29,7 @@ method two(int first, int[] rest)
 """
 TOKENS = 20_000
 # In loops of pace.py: twice what was measured. A loop takes some 17 ms on a machine where nothing else runs.
-FORMATTED, ANSWERED = 10, 3
+FORMATTED, ANSWERED = 5, 3
 
 WARNED = [
     ('class P int x int y method main() if x & 1 = 0 then y += 1 else skip fi y = 1', 'Order', 'this is `x & (1 = 0)`'),

@@ -222,6 +222,8 @@ method m(int k)
         self.assertEqual(formatted(b'class P method  main() x +='), b'class P method  main() x +=')
         self.assertEqual(formatted(b''), b'')
         self.assertEqual(formatted(b'class P\r\nmethod main()\r\nskip\r\n'), b'class P\r\n\r\nmethod main()\r\n  skip\r\n')
+        self.assertEqual(formatted(b'// one\nclass P\r\nmethod main()\r\nskip // two'),
+                         b'// one\r\nclass P\r\n\r\nmethod main()\r\n  skip  // two\r\n')
 
 
 class Completion(unittest.TestCase):
