@@ -250,7 +250,7 @@ def debug_source(program: Program, given, lines: List[str]) -> int:
     with program.folder() as folder:
         inputs = input_file(given, folder)
         try:
-            session = Session.begun(program, given.source, given.heap, given.depth, inputs)
+            session = Session.begun(program, given.source, given.heap, given.depth, inputs, is_held=True)
         except Refused as refused:
             for line in refused_lines(given, inputs, refused):
                 print(line)

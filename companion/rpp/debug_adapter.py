@@ -128,7 +128,7 @@ class Adapter:
         self.judge(source)
         program = Program.found()
         if not given.get('noDebug'):
-            self.session = Session.begun(program, source, *bounds, self.arguments.get('input'))
+            self.session = Session.begun(program, source, *bounds, self.arguments.get('input'), is_held=True)
             self.session.notify = self.heed
             self.statements = Statements(self.session.run.text.content)
         self.program = program

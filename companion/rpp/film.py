@@ -152,7 +152,7 @@ def read_film(given) -> Tuple[Dict[str, Any], str]:
     program = Program.found()
     with program.folder() as folder:
         inputs = input_file(given, folder)
-        with SourceRun(program, given.source, given.heap, given.depth, inputs) as run:
+        with SourceRun(program, given.source, given.heap, given.depth, inputs, is_held=True) as run:
             return film_data(run, given.most)
 
 

@@ -10,6 +10,7 @@
 A call that is interrupted (^C, or `stop` from another thread) raises Interrupted, one that passes its time OutOfTime, and
 one that a signal ended Killed. Nothing of it goes on running then.
 """
+import contextlib
 import os
 import shutil
 import subprocess
@@ -143,6 +144,22 @@ class Program:
             self._stopped = True
             if self._running is not None and self._running.poll() is None:
                 self._running.kill()
+
+    @contextlib.contextmanager
+    def waiting_for(self, process: subprocess.Popen):
+        """While this lasts, `stop` ends this process, which answers as a call does."""
+        with self._lock:
+            self._stopped, self._running = False, process
+        try:
+            yield
+        finally:
+            with self._lock:
+                self._running = None
+
+    @property
+    def is_stopped(self) -> bool:
+        """Whether `stop` ended what was under way last."""
+        return self._stopped
 
     @staticmethod
     def folder() -> Folder:

@@ -15,12 +15,14 @@ The moves (step, back, next, previous, finish, leave_back, until, run_on, run_ba
 Its reason is `step`, `break`, `change`, `end`, `fault`, `start`, `memory` (the program answered with status 7 to a move beyond) or
 `interrupted`. For `break`, `by` is the number of the breakpoint; for `change`, the detail is a sentence on it.
 """
+import re
 from typing import Callable, List, NamedTuple, Optional, Tuple
 
 from .changes import computed, value_of
 from .formulas import BadFormula, Formula
 from .outline import Call, Outline
 from .program import Closing, Interrupted, Program
+from .tokens import NAME
 from .trace import FAR, Moment, Point, Refused, SourceRun, cells_lines
 
 FIRST_BOUND = 100_000
@@ -28,6 +30,7 @@ WINDOW_SECONDS = 1.0
 MOST_ROUNDS = 200
 # the names of objects that are shown with each hit
 MOST_SHOWN = 200
+CELL_PATH = re.compile(rf'#(\d+)(?:\.{NAME}|\[\d+\])')
 
 
 class Breakpoint(NamedTuple):
@@ -76,10 +79,10 @@ class Session(Closing):
         self.failing = None
 
     @classmethod
-    def begun(cls, program: Program, source: str, heap: int = 12, depth: int = 64,
-              inputs: Optional[str] = None) -> 'Session':
+    def begun(cls, program: Program, source: str, heap: int = 12, depth: int = 64, inputs: Optional[str] = None,
+              is_held: bool = False) -> 'Session':
         """A session at the start of the run; raises Refused where the program refuses the text or the bounds."""
-        run = SourceRun(program, source, heap, depth, inputs)
+        run = SourceRun(program, source, heap, depth, inputs, is_held)
         try:
             run.point(0)
             return cls(run, Outline.made(program, run.text))
@@ -198,7 +201,9 @@ class Session(Closing):
         depth = self.run.point(position).depth
         if depth is None or depth == 1:
             return None
-        found = self._near_before(position, lambda at: at.depth == depth - 1)
+        found = self.run.shallower(position, depth - 1, back=True)
+        if found is None:
+            found = self._near_before(position, lambda at: at.depth == depth - 1)
         return found or self._opener_by_sites(position, depth)
 
     def stack(self) -> List[Frame]:
@@ -395,6 +400,9 @@ class Session(Closing):
     def _scan(self, fits: Callable[[Point], bool], depth: int, back: bool = False) -> Stop:
         """On or back to the first point that fits. It looks point by point in a window, and then at the statements of all
         bodies that are active and no deeper, and at breakpoints: the point is at one of these."""
+        stop = self._by_session(depth, back)
+        if stop is not None:
+            return stop
         places = self._places_above(depth) if self.point.depth else self.outline.places
         count = self._window(self.position)
         first = max(0, self.position - count) if back else self.position + 1
@@ -413,6 +421,17 @@ class Session(Closing):
                 return self._stand(nearest, 'step')
             position = nearest.position
             self.notify(f'looked {"back" if back else "up"} to position {position}')
+
+    def _by_session(self, depth: int, back: bool) -> Optional[Stop]:
+        """The stop at a point with so many open calls, by a session; None if it was not asked, since breakpoints are looked for too."""
+        if self.point.at_end or self.break_places and not back:
+            return None
+        point = self.run.shallower(self.position, depth, back)
+        if point is None or point.position == self.position:
+            return None
+        if point.at_end or point.depth <= depth:
+            return self._stand(point, 'step')
+        return self._stand(self.run.point(0), 'start') if back else self._stand(self.run.end(), 'end', FAR)
 
     def _places_above(self, depth: int) -> List[int]:
         """The places of the statements of the open bodies up to this depth, and of breakpoints."""
@@ -446,23 +465,43 @@ class Session(Closing):
 
     def _watch(self, path: str, back: bool) -> Stop:
         """On or back to where the value changes; a variable is watched as long as its call is open."""
-        watched = self._watched(path, back)
-        last = self.position
+        cell, watched = self._watched(path, back)
+        stop = self._stop_of_change(cell, watched, back)
+        if stop is not None:
+            return stop
+        last, lines = self.position, lines_of(cell)
         while True:
             count = min(256, self.run.affordable(WINDOW_SECONDS, last) // 3 + 1)
-            first = max(0, last - count) if back else last + 1
-            window = self.run.states(first, min(count, last) if back else count)
+            first, count = (max(0, last - count), min(count, last)) if back else (last + 1, count)
+            window = self.run.looks(first, count, lines) if lines else self.run.states(first, count)
             for moment in reversed(window) if back else window:
                 changed = watched(moment)
                 if changed:
-                    return self._stand(moment.point, 'change')._replace(reason='change', detail=changed)
+                    return self._changed(moment.point, changed)
             if not window or (back and first == 0):
                 return self._stand(self.run.point(0), 'start') if back else self._stand(self.run.end(), 'end', FAR)
             last = first if back else window[-1].point.position
             self.notify(f'looked {"back" if back else "up"} to position {last}')
 
-    def _watched(self, path: str, back: bool) -> Callable[[Moment], str]:
-        """What says of a moment, in a sentence, how the value differs from what it is here, or ''."""
+    def _changed(self, point: Point, detail: str) -> Stop:
+        return self._stand(point, 'change')._replace(reason='change', detail=detail)
+
+    def _stop_of_change(self, cell: str, watched: Callable[[Moment], str], back: bool) -> Optional[Stop]:
+        """The stop at a change of a variable that a session finds; None if it was not asked, or what it found is another's."""
+        point = self.run.change(self.position, cell, back) if re.fullmatch(NAME, cell) else None
+        if point is None or point.position == self.position:
+            return None
+        changed = watched(self.run.moment(point.position))
+        if changed:
+            return self._changed(point, changed)
+        if back and point.position == 0:
+            return self._stand(point, 'start')
+        is_last = self.run.last is not None and point.position == self.run.last.position
+        return self._stand(self.run.end(), 'end', FAR) if is_last and not back else None
+
+    def _watched(self, path: str, back: bool) -> Tuple[str, Callable[[Moment], str]]:
+        """What is watched, with the number of its object if it is a field of the current one; and what says of a moment, in a sentence,
+        how the value differs from what it is here, or ''."""
         here, depth = self.value(path), self.point.depth
         number, named = self._owner(path), path
         if number is not None:
@@ -479,7 +518,7 @@ class Session(Closing):
                 return ''
             old, new = (value, here) if back else (here, value)
             return f'{"this statement changes" if back else "changed:"} {named}: {old or "none"} -> {new or "none"}'
-        return changed
+        return path, changed
 
     def _owner(self, path: str) -> Optional[int]:
         """The number of the current object where the path begins with one of its fields."""
@@ -490,6 +529,14 @@ class Session(Closing):
         fields = [label for label, _ in thing.cells] if thing else []
         names = [each for each, _ in self.moment.variables]
         return number if name in fields and names.count(name) == 1 else None
+
+
+def lines_of(path: str) -> List[str]:
+    """The lines of a script that show all that a path needs: a variable, or a cell of an object. Others lead from one object to another."""
+    if re.fullmatch(NAME, path):
+        return ['regs']
+    found = CELL_PATH.fullmatch(path)
+    return [f'cells {found[1]} 1'] if found else []
 
 
 def position_of(point: Point) -> int:

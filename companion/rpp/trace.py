@@ -1,5 +1,5 @@
-"""A run as the program reports it: of a source by `trace`, of an image by `debug`. Nothing here computes a run: positions,
-places, depths and values are those that the program printed.
+"""A run as the program reports it: of a source by `trace` or by a session that is held open, of an image by `debug`. Nothing here
+computes a run: positions, places, depths and values are those that the program printed.
 
     with SourceRun(program, 'list.rpp', heap=12, depth=64, inputs=None) as run:
         run.point(7)              # Point(position=7, place=375, depth=2, fault=None)
@@ -15,8 +15,9 @@ answer; `Refused.told.kind` is 'memory' where it ended with status 7, out of mem
 import os
 import re
 import time
-from typing import Dict, List, NamedTuple, Optional, Sequence, Set, Tuple
+from typing import Callable, Dict, List, NamedTuple, Optional, Sequence, Set, Tuple, TypeVar
 
+from .live import Live, Lost
 from .messages import Told, read_answer
 from .places import Text
 from .program import SCRIPT_LIMIT, Closing, Program
@@ -26,6 +27,9 @@ FAR = 10 ** 17
 MOST_CELLS = 1000
 MOST_NAMES = 2000
 MOST_ROUNDS = 50
+MOST_LINES = 4000
+# How far a session looks for several places at first, so that a near one is found before others are looked for far away.
+REACHES = (100, 3000)
 AROUND = 10
 AROUND_SECONDS = 0.2
 AT_SOURCE = re.compile(r'^at (\d+) (?:place (\d+) depth (\d+)|end)(?: (?:start|fault (-?\d+)(?: (\w+))?))?$')
@@ -33,6 +37,9 @@ AT_IMAGE = re.compile(r'^at (\d+) pc (-?\d+) br (-?\d+) dir (-?1)(?: (start|end 
 VARIABLE = re.compile(rf'^({NAME}) = (.+)$')
 OBJECT = re.compile(r'^#(\d+) (\S+) count (\d+)$')
 CELL = re.compile(r'^  (\S+) = (.+)$')
+
+
+Answered = TypeVar('Answered')
 
 
 class Refused(Exception):
@@ -89,9 +96,11 @@ class Moment(NamedTuple):
 
 class SourceRun(Closing):
     """The run of a source, read through `trace`. `text` is the source as it was at the beginning, and stays so; `copy` and
-    `inputs` are files that keep it and its input. `patience` is the time that a call may take; without it, any."""
+    `inputs` are files that keep it and its input. `patience` is the time that a call may take; without it, any. With `is_held`,
+    one session is held open for all questions, where there is a program for it; it gives the same."""
 
-    def __init__(self, program: Program, source: str, heap: int = 12, depth: int = 64, inputs: Optional[str] = None):
+    def __init__(self, program: Program, source: str, heap: int = 12, depth: int = 64, inputs: Optional[str] = None,
+                 is_held: bool = False):
         self.program = program
         self.source = source
         self.text = Text.read(source)
@@ -100,6 +109,9 @@ class SourceRun(Closing):
         self.patience: Optional[float] = None
         self._pace = 0.0
         self._paced_at = 0
+        self._is_held = is_held
+        self._live: Optional[Live] = None
+        self._stands = 0
         self._folder = program.folder()
         self._points: Dict[int, Point] = {}
         self._moments: Dict[int, Moment] = {}
@@ -110,6 +122,7 @@ class SourceRun(Closing):
         self.inputs = [self._kept(inputs)] if inputs else []
 
     def close(self) -> None:
+        self._end_session()
         self._folder.__exit__()
 
     def point(self, position: int) -> Point:
@@ -127,7 +140,7 @@ class SourceRun(Closing):
     def points(self, first: int, count: int) -> List[Point]:
         """The points from the first on, at most so many."""
         missing = self._missing(first, count, self._points)
-        if missing:
+        if missing and self._special(missing[0], f'points {missing[-1] - missing[0]}') is None:
             self._walk([f'step {missing[0]}'] + ['step 1'] * (missing[-1] - missing[0]))
         return [self._points[each] for each in range(first, first + count) if each in self._points]
 
@@ -150,6 +163,23 @@ class SourceRun(Closing):
                 self._complete(each)
         return [self._moments[each] for each in range(first, first + count) if each in self._moments]
 
+    def looks(self, first: int, count: int, lines: List[str]) -> List[Moment]:
+        """The points from the first on, at most so many, each with no more than these lines show there."""
+        script: List[str] = []
+        for each in range(first, first + count):
+            script += [f'step {1 if script else each}', *lines]
+        moments = self._walk(script, keep=False) if script and not self._is_past(first) else []
+        return [moment for position, moment in enumerate(moments, first) if moment.point.position == position]
+
+    def change(self, position: int, name: str, back: bool) -> Optional[Point]:
+        """Where a session finds that a variable has changed, or the end or the start of the run; None if it cannot be asked."""
+        return self._special(position, f'{"back " if back else ""}until change {name} {FAR}')
+
+    def shallower(self, position: int, depth: int, back: bool) -> Optional[Point]:
+        """Where a session comes to a point with at most so many open calls, or to the end or the start of the run; None if it cannot be
+        asked."""
+        return self._special(position, f'{"back " if back else ""}depth {depth} {FAR}')
+
     def looked(self, lines: List[str]) -> Moment:
         """The point after the last move of these lines, with what they showed there."""
         return self._walk(lines)[-1]
@@ -164,8 +194,11 @@ class SourceRun(Closing):
         return self._walk([f'step {position}', f'backto {place} {limit}'])[-1].point
 
     def seek_all(self, position: int, places: List[int], limit: int, back: bool = False) -> List[Point]:
-        """What `seek` (or `seek_back`) finds for each of the places, by one call."""
+        """What `seek` (or `seek_back`) finds for each of the places. A session is asked for the nearest, so what lies beyond it is not
+        looked at."""
         word = 'backto' if back else 'to'
+        if self._is_held:
+            return self._seek_nearest(position, places, limit, back)
         lines = []
         for place in places:
             lines += [f'back {FAR}', f'step {position}', f'{word} {place} {limit}']
@@ -174,17 +207,18 @@ class SourceRun(Closing):
     def hits(self, position: int, places: List[int], limit: int, count: int, back: bool, shown: Sequence[str] = ()) -> List[List[Moment]]:
         """For each of the places, the moments after so many searches for it in a row, each within the limit, with what these lines show
         there."""
-        lines: List[str] = []
-        for place in places:
-            lines += [f'back {FAR}', f'step {position}'] + [f'{"backto" if back else "to"} {place} {limit}', *shown] * count
+        searches = [[f'{"backto" if back else "to"} {place} {limit}', *shown] * count for place in places]
+        if self._is_held:
+            return [self._walk([f'step {position}', *search], keep=not shown)[1:] for search in searches]
+        lines = [line for search in searches for line in [f'back {FAR}', f'step {position}', *search]]
         walked = self._walk(lines, keep=not shown)
         return [walked[at + 2:at + 2 + count] for at in range(0, len(walked), 2 + count)]
 
     def affordable(self, seconds: float, position: int) -> int:
         """About how many lines of a script the program carries out at this position in this time, as it did the last ones;
-        farther on they are taken to cost more in proportion, until some were measured there."""
-        farther = max(1.0, (position + 1000) / (self._paced_at + 1000))
-        return int(max(4.0, min(4000.0, seconds / max(self._pace * farther, 1e-6))))
+        farther on they are taken to cost more in proportion, until some were measured there. To a session all positions are near."""
+        farther = max(1.0, (position + 1000) / (self._paced_at + 1000)) if self._live is None else 1.0
+        return int(max(4.0, min(MOST_LINES, seconds / max(self._pace * farther, 1e-6))))
 
     def _complete(self, position: int) -> None:
         """Adds to a state the objects with later names, as far as references lead to them."""
@@ -222,8 +256,13 @@ class SourceRun(Closing):
         return self._folder.name('input')
 
     def _walk(self, lines: List[str], keep: bool = True) -> List[Moment]:
-        """Carries the lines out, in as few calls as scripts allow, and gives the point after each move; states are kept where the
-        lines show all of them."""
+        """Carries the lines out, the first of which is `step N`, and gives the point after each move; states are kept where the lines
+        show all of them. Without a session it takes as few calls as scripts allow."""
+        if self._is_held:
+            try:
+                return self._asked(lines, keep)
+            except Lost:
+                self._is_held = False
         walked: List[Moment] = []
         for script in scripts(lines):
             if walked:
@@ -238,15 +277,87 @@ class SourceRun(Closing):
         self._pace = (time.monotonic() - begin) / len(script)
         if answer.status != 0:
             raise Refused(read_answer(answer))
-        moves = [line for line in script if line.split()[0] in ('step', 'back', 'to', 'backto')]
-        moments = read_moments(answer.output)
+        moments = self._noted(script, answer.output.split('\n'), keep)
         self._paced_at = moments[-1].point.position if moments else 0
-        looked = looked_at(script)
-        for move, moment, whole in zip(moves, moments, looked):
-            self._keep(move, moment, whole and keep)
         return moments
 
-    def _keep(self, move: str, moment: Moment, whole: bool) -> None:
+    def _noted(self, script: List[str], lines: List[str], keep: bool) -> List[Moment]:
+        """The moments after the moves of a script, from the lines that answer it."""
+        moments = read_moments(lines)
+        for moment, whole in zip(moments, looked_at(script)):
+            self._keep(moment, whole and keep)
+        return moments
+
+    def _asked(self, lines: List[str], keep: bool) -> List[Moment]:
+        """What `_walk` gives, by the session: it goes from where it stands."""
+        def question(live: Live) -> List[Moment]:
+            script = [self._way_to(int(lines[0].split()[1])), *lines[1:]]
+            begin = time.monotonic()
+            replies = live.ask(script, self.patience)
+            if 'regs' in script:
+                self._pace = (time.monotonic() - begin) / len(script)
+            moments = self._noted(script, [line for reply in replies for line in reply.lines], keep)
+            self._stands = moments[-1].point.position
+            return moments
+        return self._ask(question)
+
+    def _ask(self, question: Callable[[Live], Answered]) -> Answered:
+        """Asks the session, which is begun where none is held. One that was left in the middle is ended; the next question begins another
+        at the start of the run."""
+        if self._live is None:
+            self._live, self._stands = Live.begun(self.program, self.copy, *self.bounds, self.inputs), 0
+        if self._live is None:
+            raise Lost()
+        try:
+            return question(self._live)
+        except BaseException:
+            self._end_session()
+            raise
+
+    def _end_session(self) -> None:
+        if self._live is not None:
+            self._live.close()
+        self._live = None
+
+    def _way_to(self, position: int) -> str:
+        """The move from where the session stands to a position."""
+        return f'step {position - self._stands}' if position >= self._stands else f'back {self._stands - position}'
+
+    def _special(self, position: int, line: str) -> Optional[Point]:
+        """Where a request leads from this position; None if no session is held that has such requests."""
+        def question(live: Live) -> Optional[Point]:
+            reply = live.served(line, self.patience)
+            if reply is None or not reply.lines:
+                return None
+            self._stands = self._noted(['step'] * len(reply.lines), reply.lines, False)[-1].point.position
+            return self._points[self._stands]
+
+        if self._is_held:
+            self._walk([f'step {position}'])
+        try:
+            return self._ask(question) if self._is_held else None
+        except Lost:
+            self._is_held = False
+            return None
+
+    def _seek_nearest(self, position: int, places: List[int], limit: int, back: bool) -> List[Point]:
+        """Where searches for the places from a position lead, the nearest hit among them."""
+        any_of = ' '.join(str(place) for place in places)
+        nearest = self._special(position, f'{"back " if back else ""}any {limit} {any_of}') if len(places) > 1 else None
+        if nearest is not None:
+            return [nearest]
+        found: List[Point] = []
+        for reach in sorted({min(limit, each) for each in (*REACHES, limit)}):
+            found, is_met = [], False
+            for place in places:
+                found.append(self._walk([f'step {position}', f'{"backto" if back else "to"} {place} {reach}'])[-1].point)
+                if found[-1].place == place and found[-1].position != position:
+                    reach, is_met = abs(found[-1].position - position), True
+            if is_met:
+                break
+        return found
+
+    def _keep(self, moment: Moment, whole: bool) -> None:
         """Keeps a point, and where the script looked at all of it its state; notes where the run ends."""
         point = moment.point
         known = self._points.get(point.position)
@@ -298,27 +409,28 @@ def looked_at(script: List[str]) -> List[bool]:
     return looked
 
 
-def read_moments(output: str) -> List[Moment]:
-    """The point after each move of a script of `trace`."""
-    moments: List[Moment] = []
-    variables: List[Tuple[str, str]] = []
-    things: Dict[int, Thing] = {}
-    for line in output.split('\n'):
-        at = AT_SOURCE.match(line)
-        if at:
-            variables, things = [], {}
-            moments.append(Moment(source_point(at), (), things))
-            continue
-        thing, cell, variable = OBJECT.match(line), CELL.match(line), VARIABLE.match(line)
-        if thing:
-            last = int(thing[1])
-            things[last] = Thing(last, thing[2], int(thing[3]), ())
-        elif cell and things:
-            things[last] = things[last]._replace(cells=things[last].cells + ((cell[1], cell[2]),))
-        elif variable and moments:
-            variables.append((variable[1], variable[2]))
-            moments[-1] = moments[-1]._replace(variables=tuple(variables))
-    return moments
+def read_moments(lines: List[str]) -> List[Moment]:
+    """The point after each move of a script of `trace`, from the lines that it prints."""
+    read: List[Tuple[Point, List[Tuple[str, str]], List[Tuple[int, str, int, List[Tuple[str, str]]]]]] = []
+    for line in lines:
+        begin, things = line[:1], read[-1][2] if read else []
+        if begin == '#':
+            thing = OBJECT.match(line)
+            if thing:
+                things.append((int(thing[1]), thing[2], int(thing[3]), []))
+        elif begin == ' ':
+            cell = CELL.match(line)
+            if cell and things:
+                things[-1][3].append((cell[1], cell[2]))
+        else:
+            at = AT_SOURCE.match(line)
+            variable = None if at else VARIABLE.match(line)
+            if at:
+                read.append((source_point(at), [], []))
+            elif variable and read:
+                read[-1][1].append((variable[1], variable[2]))
+    return [Moment(point, tuple(variables), {number: Thing(number, head, count, tuple(cells)) for number, head, count, cells in things})
+            for point, variables, things in read]
 
 
 def source_point(at) -> Point:

@@ -24,7 +24,7 @@ class PictureTest(Case):
     def test_boxes_and_arrows_are_those_of_trace(self):
         for name, position in (('doubly', 58), ('queue', 30), ('tree', 60), ('ring', 9)):
             source = os.path.join(EXAMPLES, f'{name}.rpp')
-            moment = read_moments(self.trace(source, f'step {position}', 'regs', 'cells 1 1000'))[0]
+            moment = read_moments(self.trace(source, f'step {position}', 'regs', 'cells 1 1000').split('\n'))[0]
             with self.subTest(name):
                 root = self.drawn(source, '--at', str(moment.point.position))
                 heads = [f'#{thing.number} {thing.head}' for thing in moment.objects.values()]

@@ -1,0 +1,231 @@
+"""Sessions that are held open: the client over a stand-in, which needs no program; and the program, where there is one: a session of
+random moves gives what `trace` gives, and stays one session."""
+import os
+import random
+import sys
+import threading
+import unittest
+
+from rpp import live as live_module
+from rpp.formulas import Formula
+from rpp.live import BATCH, Live, Lost, Reply, batches, path_of
+from rpp.program import Interrupted, OutOfTime, Program
+from rpp.session import Session
+from rpp.trace import FAR, SourceRun
+
+from .base import EXAMPLES, Case
+
+# Answers `echo ..` with what follows and `. done`, and words of its own with what a session can do besides.
+STAND_IN = r'''import sys, time
+print('rooplpp-live 1 source\n. done', flush=True)
+for line in sys.stdin:
+    word, _, rest = line.rstrip('\n').partition(' ')
+    if word == 'echo':
+        print(f'{rest}\n. done', flush=True)
+    elif word == 'many':
+        print('x = 1\n' * 50000 + '. done', flush=True)
+    elif word == 'sleep':
+        time.sleep(600)
+    elif word == 'end':
+        print('half a reply', flush=True)
+        break
+    elif word in ('memory', 'long'):
+        print(f'. {word}', flush=True)
+    else:
+        print('. bad', flush=True)
+'''
+COUNT = '''class P
+  int x
+  int y
+  Box box
+method main()
+  new Box box
+  from x = 0 do
+    x += 1
+    call box::put(x)
+  loop
+    y += 2
+  until x = 30
+  uncall box::put(x)
+class Box
+  int held
+  int times
+method put(int n)
+  local int k = n
+    held += k
+    call more()
+  delocal int k = n
+method more()
+  times += 1
+'''
+FAILING = COUNT.replace('until x = 30', 'until x = 30 if x = 3 then x += 1 else skip fi x = 3')
+MOVES = [('step', 9), ('back', 9), ('next',), ('previous',), ('finish',), ('leave_back',), ('until', 24), ('run_on',), ('run_back',),
+         ('watch', 'x'), ('watch', 'y'), ('watch_back', 'x'), ('watch', 'box.held'), ('watch_back', '#2.times'), ('watch', '#2.held'),
+         ('go', 150), ('break_at', 24), ('clear_all',)]
+HAS_LIVE = path_of(Program.found()) is not None
+
+
+class Client(unittest.TestCase):
+    """What the client does with what a program writes."""
+
+    def begun(self) -> Live:
+        held = Live(Program('/nowhere', 'a test'), [sys.executable, '-c', STAND_IN])
+        self.addCleanup(held.close)
+        self.assertEqual(held.ask([], replies=1), [Reply(['rooplpp-live 1 source'], 'done')])
+        return held
+
+    def test_replies(self):
+        held = self.begun()
+        self.assertEqual(held.ask(['echo one', 'echo', 'nothing', 'echo two']),
+                         [Reply(['one'], 'done'), Reply([''], 'done'), Reply([], 'bad'), Reply(['two'], 'done')])
+        self.assertEqual(held.ask([]), [])
+        # (more than pipes hold, both ways)
+        found = held.ask(['many', *[f'echo {"long " * 40}{number}' for number in range(2000)], 'many'])
+        self.assertEqual([len(found), len(found[0].lines), len(found[-1].lines)], [2002, 50000, 50000])
+        self.assertEqual(found[2000].lines, ['long ' * 40 + '1999'])
+
+    def test_batches(self):
+        lines = ['a' * 1000] * 9 + ['b' * 5000, 'c']
+        parts = list(batches(lines))
+        self.assertEqual([line for part in parts for line in part], lines)
+        self.assertLessEqual(max(sum(len(line) + 1 for line in part) for part in parts if len(part) > 1), BATCH)
+        self.assertEqual([len(part) for part in parts], [4, 4, 1, 1, 1])
+
+    def test_requests_that_it_lacks(self):
+        held = self.begun()
+        self.assertEqual(held.served('echo 1'), Reply(['1'], 'done'))
+        self.assertIsNone(held.served('back any 1 2 3'))
+        held.ask = None
+        self.assertIsNone(held.served('any 1 2 3'), 'it is asked for once')
+        self.assertIsNone(held.served('echo ' + '1 ' * 3000), 'no line is longer than a session reads')
+
+    def test_ends(self):
+        for word in ('end', 'memory', 'long'):
+            with self.assertRaises(Lost):
+                self.begun().ask(['echo 1', word, 'echo 2'])
+        held = self.begun()
+        with self.assertRaises(OutOfTime):
+            held.ask(['sleep'], seconds=0.2)
+        with self.assertRaises(Lost):
+            held.ask(['echo 1'])
+
+    def test_stop(self):
+        held = self.begun()
+        stops = threading.Timer(0.2, held.program.stop)
+        stops.start()
+        with self.assertRaises(Interrupted):
+            held.ask(['sleep'])
+
+    def test_where_it_is(self):
+        folder = os.path.join(os.sep, 'a', 'crates', 'rooplpp', 'out')
+        self.assertEqual(list(live_module.places_by(os.path.join(folder, 'rooplpp'))),
+                         [os.path.join(folder, 'rooplpp-live'), os.path.join(os.sep, 'a', 'crates', 'rooplpp_live', 'out', 'rooplpp_live')])
+        self.assertEqual(next(live_module.places_by('/a/bin/rooplpp.mjs')), '/a/bin/rooplpp-live.mjs')
+
+
+class Without(Case):
+    """Where there is no program for sessions, or one that is none, all is asked by `trace`."""
+
+    def test_no_program(self):
+        source = self.write('count.rpp', COUNT)
+        for named in ('', os.path.join(self.folder, 'nothing'), self.program.path, sys.executable):
+            wanted = self.rpp('debug', source, '-c', 'break 9', '-c', 'c', '-c', 'step 3', '-c', 'back', env={'ROOPLPP_LIVE': ''})
+            self.assertEqual(wanted.returncode, 0, wanted)
+            done = self.rpp('debug', source, '-c', 'break 9', '-c', 'c', '-c', 'step 3', '-c', 'back', env={'ROOPLPP_LIVE': named})
+            self.assertEqual((done.stdout, done.stderr, done.returncode), (wanted.stdout, '', 0), named)
+
+
+@unittest.skipUnless(HAS_LIVE, 'there is no rooplpp-live')
+class Held(Case):
+    """The program holds one session, and what it shows is what `trace` shows."""
+
+    def pair(self, source: str, bounds=(12, 64)):
+        """A session over what is held open, and one over `trace`."""
+        made = [Session.begun(Program.found(), source, *bounds, is_held=is_held) for is_held in (True, False)]
+        for each in made:
+            self.addCleanup(each.close)
+        return made
+
+    def test_random_moves(self):
+        chance = random.Random(71)
+        for text in (COUNT, FAILING):
+            held, plain = self.pair(self.write('count.rpp', text))
+            for _ in range(50):
+                name, *words = chance.choice(MOVES)
+                words = [chance.randrange(1, each) if isinstance(each, int) else each for each in words]
+                stops = [getattr(each, name)(*words) for each in (held, plain)]
+                self.assertEqual(*stops, (name, words))
+                self.assertEqual(held.moment, plain.moment, (name, words))
+                self.assertEqual(held.stack(), plain.stack(), (name, words))
+            self.assertIsNotNone(held.run._live, 'the session is held')
+            self.assertLess(held.run.program.calls, 10, 'and nothing else is asked')
+
+    def test_conditions_and_methods(self):
+        held, plain = self.pair(self.write('count.rpp', COUNT))
+        for each in (held, plain):
+            each.break_at(8, Formula('x > 20'))
+            each.break_in('more', Formula('times = 3'))
+        for name in ('run_on', 'run_on', 'run_on', 'run_back', 'run_back', 'run_back', 'run_back'):
+            self.assertEqual(getattr(held, name)(), getattr(plain, name)(), name)
+
+    def test_points_and_states(self):
+        for name in ('list', 'queue', 'tree'):
+            source = os.path.join(EXAMPLES, f'{name}.rpp')
+            held, plain = (SourceRun(Program.found(), source, 12, 64, None, is_held) for is_held in (True, False))
+            with held, plain:
+                for first, count in ((0, 7), (40, 12), (3, 2), (30, 40), (0, 1)):
+                    self.assertEqual(held.points(first, count), plain.points(first, count), (name, first))
+                    self.assertEqual(held.states(first, count), plain.states(first, count), (name, first))
+                self.assertEqual(held.end(), plain.end())
+                self.assertEqual(held.points(FAR, 3), plain.points(FAR, 3))
+
+    def test_interrupted(self):
+        """A search that is stopped ends the session; the next question begins another, and the answers stay the same."""
+        source = self.write('far.rpp', 'class P int x method main() from x = 0 do x += 1 loop skip until x = 1000000000')
+        held, _ = self.pair(source)
+        held.step(1000)
+        first = held.run._live
+        stops = threading.Timer(0.3, held.run.program.stop)
+        stops.start()
+        held.break_in('main')
+        held.go(2)
+        self.assertEqual(held.run_on().reason, 'interrupted')
+        self.assertEqual(held.back().point.position, 1)
+        self.assertNotEqual(held.run._live, first)
+        self.assertEqual(held.step(4).point, held.run.point(5))
+
+    def test_it_dies(self):
+        """If the session is ended from outside, `trace` answers."""
+        held, plain = self.pair(self.write('count.rpp', COUNT))
+        self.assertEqual(held.step(40), plain.step(40))
+        held.run._live._process.kill()
+        self.assertEqual(held.watch('x'), plain.watch('x'))
+        self.assertEqual(held.moment, plain.moment)
+
+    def test_commands_show_the_same(self):
+        """The prompt and the film, with the session and without it."""
+        source = self.write('count.rpp', FAILING)
+        commands = ['break more', 'c', 'where', 'up', 'print', 'watch x', 'watch back box.held', 'rc', 'finish', 'n', 'rn', 'history 3',
+                    'clear', 'c', 'leave-back', 'display x + y', 'until 8', 'go 3', 'objects']
+        words = [word for each in commands for word in ('-c', each)]
+        for call in (['debug', source, *words], ['film', source, '-o', os.path.join(self.folder, 'film.html')]):
+            outputs, pages = [], []
+            for env in ({}, {'ROOPLPP_LIVE': ''}):
+                done = self.rpp(*call, env=env)
+                outputs.append((done.stdout, done.stderr, done.returncode))
+                if call[0] == 'film':
+                    with open(os.path.join(self.folder, 'film.html'), encoding='utf-8') as file:
+                        pages.append(file.read())
+            self.assertEqual(*outputs, call[0])
+            self.assertTrue(call[0] != 'film' or pages[0] == pages[1])
+
+    def test_far_moves(self):
+        """At statement 100,000, steps back are steps of the one session."""
+        held, _ = self.pair(self.write('far.rpp', 'class P int x method main() from x = 0 do x += 1 loop skip until x = 100000'))
+        held.go(100_000)
+        for _ in range(20):
+            held.run._points.clear()
+            held.run._moments.clear()
+            held.back()
+        self.assertEqual(held.position, 100_000 - 20)
+        self.assertLess(held.run.program.calls, 5)
