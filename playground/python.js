@@ -65,7 +65,11 @@ class Match {
 
   get lastgroup() { return Object.entries(this.found.groups ?? {}).find(([, it]) => it !== undefined)?.[0]; }
 
-  at(number) { return this.isBytes && this.found[number] !== undefined ? new Bytes(this.found[number]) : this.found[number]; }
+  // What a group found, by its number or its name.
+  at(group) {
+    const found = typeof group === 'string' ? this.found.groups[group] : this.found[group];
+    return this.isBytes && found !== undefined ? new Bytes(found) : found;
+  }
 
   group(number = 0) { return this.at(number); }
 

@@ -12,10 +12,10 @@ UPDATES = frozenset('+= -= ^='.split())
 # The form of a name, as a part of patterns.
 NAME = r"[A-Za-z][A-Za-z0-9_']*"
 
-_BLANKS = ' \t\n\r'
+# Blanks, and a comment, a token or the end of the text.
 _PIECE = re.compile(
-    rf"[{_BLANKS}]*(?:(?P<comment>//[^\n]*)|(?P<name>{NAME})|(?P<number>[0-9]+)"
-    r'|(?P<sign><=>|[-+^]=|&&|\|\||[<>!]=|::|[-+^&|<>=*/%()\[\],])|(?P<bad>.))',
+    r"[ \t\n\r]*(?:(?P<comment>//[^\n]*)|(?P<name>" + NAME + r")|(?P<number>[0-9]+)"
+    r'|(?P<sign><=>|[-+^]=|&&|\|\||[<>!]=|::|[-+^&|<>=*/%()\[\],])|(?P<bad>.)|\Z)',
     re.S,
 )
 _NAME = re.compile(NAME + r'\Z')
@@ -37,10 +37,12 @@ class Token(NamedTuple):
 def cut(text: bytes) -> Tuple[List[Token], List[Token]]:
     """The tokens and the comments of a text. A byte with which no token begins is a token of the kind `bad`."""
     tokens, comments = [], []
-    # (a character for each byte, so that lengths are in bytes; blanks at the end would be looked at again and again)
-    for piece in _PIECE.finditer(text.decode('latin-1').rstrip(_BLANKS)):
+    # (a character for each byte, so that lengths are in bytes)
+    for piece in _PIECE.finditer(text.decode('latin-1')):
         kind = piece.lastgroup
-        word = piece[kind]
+        if kind is None:
+            continue
+        word = piece.group(kind)
         if kind == 'name' and word in KEYWORDS:
             kind = 'keyword'
         (comments if kind == 'comment' else tokens).append(Token(kind, word, piece.end() - len(word)))
