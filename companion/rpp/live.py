@@ -152,7 +152,7 @@ def batches(lines: Sequence[str]) -> Iterator[List[str]]:
 
 
 def path_of(program: Program) -> Optional[str]:
-    """The file of the program that holds a session: the one that ROOPLPP_LIVE names, or one that stands by the program."""
+    """The file of the program that holds a session: the one that ROOPLPP_LIVE names, or the one next to the program."""
     named = os.environ.get('ROOPLPP_LIVE')
     places = [named] if named is not None else places_by(program.path)
     return next((os.path.abspath(each) for each in places if is_program(each)), None)

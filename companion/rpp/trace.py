@@ -289,7 +289,7 @@ class SourceRun(Closing):
         return moments
 
     def _asked(self, lines: List[str], keep: bool) -> List[Moment]:
-        """What `_walk` gives, by the session: it goes from where it stands."""
+        """What `_walk` gives, by the session: it goes from its position."""
         def question(live: Live) -> List[Moment]:
             script = [self._way_to(int(lines[0].split()[1])), *lines[1:]]
             begin = time.monotonic()
@@ -320,7 +320,7 @@ class SourceRun(Closing):
         self._live = None
 
     def _way_to(self, position: int) -> str:
-        """The move from where the session stands to a position."""
+        """The move from the position of the session to another one."""
         return f'step {position - self._stands}' if position >= self._stands else f'back {self._stands - position}'
 
     def _special(self, position: int, line: str) -> Optional[Point]:
