@@ -11,7 +11,7 @@ use Rattle.command_plan.specs.declared.plan.Sizes.{Sizes}
 use Rattle.command_plan.specs.rpp_ports.Ports.{Texts}
 use Rattle.roopl_judge.specs.rpp_words.declared.input.FieldWord.{FieldWord}
 use Rattle.command_plan.specs.pisa_loader.declared.error.LoadError.{LoadError}
-use Rattle.run_settings.specs.Inputs.{given_input}
+use Rattle.program_runs.specs.run_settings.Inputs.{given_input}
 use Rattle.command_plan.specs.Plans.{Planned, WritesOnly}
 use Rattle.command_plan.specs.rpp_probes.Tally.{Watch}
 use Rattle.program_commands.specs.ProgramPlans.{WritesImage, IsCheckPlan, IsCompilePlan, ChecksFile}
@@ -23,7 +23,7 @@ use Rattle.store_report.specs.roopl_semantics.Store.{State}
 use Rattle.store_report.specs.roopl_semantics.Source.{source}
 use Rattle.command_plan.specs.pisa_loader.Limiting.{limits_refusal}
 use Rattle.command_plan.proofs.Writes.{along}
-use Rattle.run_settings.proofs.RefusedRuns.{judged_writes, refused_writes}
+use Rattle.program_runs.proofs.run_settings_laws.RefusedRuns.{judged_writes, refused_writes}
 
 stop_writes : (turns : Bool) (why : Stop) (program : Source) (limits : Limits) (input : List FieldWord)
     (first : List ℕ) (spent steps : ℕ) (p : Planned)

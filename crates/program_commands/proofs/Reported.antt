@@ -22,7 +22,7 @@ use Rattle.store_report.specs.roopl_semantics.Report.{report}
 use Rattle.store_report.specs.Memory.{IsMemoryOf}
 use Rattle.program_commands.specs.GoRun.{HasRun}
 use Rattle.command_plan.specs.Plans.{Planned, prints}
-use Rattle.program_commands.specs.ProgramPlans.{ReportsStore}
+use Rattle.program_runs.specs.Reports.{ReportsStore}
 use Rattle.command_plan.specs.Texts.{steps_line}
 use Rattle.command_plan.specs.declared.plan.Verdict.TheVariants.{Done}
 

@@ -2,7 +2,7 @@
 -- restores every register and every cell.
 use Rattle.std.proofs.Common.{◌≡◌, ◌∙◌, sym, ap, subst, ℕ, ◌+◌, ◌<◌, ◌≤◌, List, ◌++◌, length, Ok, Err, true}
 use Rattle.std.proofs.Common.{arith}
-use Rattle.std.specs.Prelude.{Bool, Result, IfOk, OnOk}
+use Rattle.std.specs.Prelude.{Bool, Result, OnOk}
 use Rattle.roopl_judge.specs.rpp_words.declared.input.FieldWord.{FieldWord}
 use Rattle.roopl_judge.specs.rpp_words.declared.input.Limits.{Limits}
 use Rattle.roopl_judge.specs.rpp_tree.Tree.{Source}
@@ -136,17 +136,7 @@ module _ (program : Source) (limits : Limits) (input : List FieldWord) (bound : 
         ∙ sym (ap (λ (p : Position). run start.image.code bound p.state) loads.first) ∙ ran;
   }
 
--- what holds for a result holds in a weaker form
-pub weaken : {A E : Type 0} (r : Result A E) (P Q : A → Type 0) → ((x : A) → P x → Q x) → IfOk r P → IfOk r Q
-weaken (Ok x) P Q f h = f x h
-weaken (Err e) P Q f h = tt
-
--- the same, with what holds after every result that is no error
-pub weaken_with : {A E : Type 0} (r : Result A E) (C : Type 0) (P Q : A → Type 0) → (C → (x : A) → P x → Q x) → OnOk r C
-    → IfOk r P → IfOk r Q
-weaken_with (Ok x) C P Q f c h = f c x h
-weaken_with (Err e) C P Q f c h = tt
-
+-- both, after every result that is no error
 pub both : {A E : Type 0} (r : Result A E) (C D : Type 0) → OnOk r C → OnOk r D → OnOk r (C × D)
 both (Ok x) C D h k = (h, k)
 both (Err e) C D h k = tt

@@ -11,7 +11,7 @@ pub use Rattle.store_report.specs.roopl_semantics
 pub use Rattle.store_report.specs as store_report
 pub use Rattle.command_plan.specs as command_plan
 pub use Rattle.roopl_judge.specs as roopl_judge
-pub use Rattle.run_settings.specs as run_settings
+pub use Rattle.program_runs.specs.run_settings
 pub mod ProgramPlans
 pub mod GoRun
 pub mod RunPlans

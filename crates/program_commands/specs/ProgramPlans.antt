@@ -1,5 +1,5 @@
 -- The plans of `check` and `compile`, and what a run of a program reports.
-use Rattle.std.specs.Prelude.{◌≡◌, ℕ, ◌+◌, ◌≤◌, ◌<◌, Bool, true, false, List, ◌++◌, length, Ok}
+use Rattle.std.specs.Prelude.{◌≡◌, ℕ, ◌+◌, ◌≤◌, Bool, true, false, List, ◌++◌, length, Ok}
 use Rattle.std.specs.Prelude.{codes}
 use Rattle.std.specs.declared.option.Option.{Option}
 use Rattle.std.specs.Fmt.{decimal}
@@ -8,7 +8,7 @@ use Rattle.roopl_judge.specs.rpp_words.declared.input.Limits.{Limits}
 use Rattle.roopl_judge.specs.rpp_tree.declared.limits.TheConstants.{MOST_BYTES}
 use Rattle.roopl_judge.specs.rpp_tree.Tree.{Source}
 use Rattle.command_plan.specs.rpp_ports.Ports.{Texts}
-use Rattle.program_codegen.specs.Notes.{AreNotes}
+use Rattle.program_runs.specs.program_codegen.Notes.{AreNotes}
 use Rattle.image_inverter.specs.pisa_isa.declared.machine.Stop.{Stop}
 use Rattle.image_inverter.specs.pisa_isa.declared.machine.Stop.TheVariants.{Finished, Trap, Bound as AtBound}
 use Rattle.image_inverter.specs.pisa_isa.Image.{Segments, IsImage}
@@ -19,36 +19,15 @@ use Rattle.command_plan.specs.pisa_image.Reading.{noted, image_at}
 use Rattle.image_inverter.specs.pisa_isa.Loaded.{loaded}
 use Rattle.image_inverter.specs.pisa_isa.Runs.{End, zero_registers}
 use Rattle.store_report.specs.roopl_semantics.Store.{State}
-use Rattle.store_report.specs.roopl_semantics.Source.{GivesDone, GivesFault, starting}
+use Rattle.store_report.specs.roopl_semantics.Source.{GivesDone, starting}
 use Rattle.store_report.specs.roopl_semantics.Report.{report}
 use Rattle.store_report.specs.roopl_semantics.StandsFor.{StandsFor, EndsAt, run_of, enough_steps}
-use Rattle.run_settings.specs.Runnable.{IsJudgedPlan}
+use Rattle.program_runs.specs.run_settings.Runnable.{IsJudgedPlan}
 use Rattle.roopl_judge.specs.rpp_words.Texts.{line_end}
-use Rattle.command_plan.specs.declared.plan.Verdict.TheVariants.{Done, Trapped}
-use Rattle.command_plan.specs.declared.plan.Verdict.TheVariants.{Bound}
+use Rattle.command_plan.specs.declared.plan.Verdict.TheVariants.{Done}
 use Rattle.command_plan.specs.Plans.{Planned, prints, writes, WithText}
-use Rattle.command_plan.specs.Texts.{steps_line, bound_lines, cells_line}
-use Rattle.command_plan.specs.pisa_scripts.Stops.{fault_line}
-
--- the source gives a store, and the plan reports it
-pub record ReportsStore (program : Source) (limits : Limits) (input : List FieldWord) (spent : ℕ)
-    (p : Planned) : Type 0 where
-  pub end : State
-  pub gives : GivesDone program limits input end
-  pub reported : p ≡ prints Done (report program end.store ++ steps_line spent)
-
--- the source gives this fault, and the plan reports it
-pub record ReportsFault (program : Source) (limits : Limits) (input : List FieldWord)
-    (code spent : ℕ) (p : Planned) : Type 0 where
-  pub gives : GivesFault program limits input code
-  pub reported : p ≡ prints Trapped (fault_line code ++ steps_line spent)
-
--- the bound ended the run, and the plan says so: the source ends at no cost for which so many steps
--- are enough
-pub record ReportsBound (program : Source) (limits : Limits) (input : List FieldWord) (steps : ℕ)
-    (p : Planned) : Type 0 where
-  pub early : (cost : ℕ) → EndsAt program limits input cost → steps < enough_steps cost
-  pub reported : p ≡ prints Bound (bound_lines steps)
+use Rattle.command_plan.specs.Texts.{steps_line, cells_line}
+use Rattle.program_runs.specs.Reports.{ReportsStore, ReportsFault, ReportsBound}
 
 -- what is printed of the way back: its steps, the report, and how many cells are as they were
 abbrev pub back_lines : (spent : ℕ) (report : List ℕ) (count : ℕ) → List ℕ

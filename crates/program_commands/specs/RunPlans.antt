@@ -23,7 +23,7 @@ use Rattle.image_inverter.specs.pisa_isa.Runs.{End, started}
 use Rattle.store_report.specs.pisa_machine.Told.{counted_steps}
 use Rattle.store_report.specs.roopl_semantics.StandsFor.{run_of}
 use Rattle.command_plan.specs.Plans.{Planned, WithText, WithInput}
-use Rattle.run_settings.specs.Runnable.{RefusesRun, RunsTo}
+use Rattle.program_runs.specs.run_settings.Runnable.{RefusesRun, RunsTo}
 use Rattle.program_commands.specs.ProgramPlans.{RunsImage}
 
 -- the plan of `go` of a text on an input

@@ -20,7 +20,7 @@ use Rattle.image_inverter.specs.pisa_isa.Runs.{started}
 use Rattle.store_report.specs.pisa_machine.Told.{counted_steps}
 use Rattle.store_report.specs.roopl_semantics.StandsFor.{StandsFor, run_of}
 use Rattle.command_plan.specs.Plans.{WithText, WithInput}
-use Rattle.run_settings.specs.Runnable.{RunsTo}
+use Rattle.program_runs.specs.run_settings.Runnable.{RunsTo}
 
 -- Memory ran out for the line of a probe that ended with a step of a run of at most so many. All
 -- probes observed the steps before it, and a prefix of the list observed that step.

@@ -8,7 +8,7 @@ ghost use Rattle.command_plan.specs.Files.{OnlyReads, source};
 
 use class_table::Checked;
 use command_plan::{NoPlan, Plan, read_file, refuse_source, write_as};
-use program_codegen::compile;
+use program_runs::compile;
 use roopl_judge::{SourceError, judge};
 use rpp_ports::Shelf;
 use rpp_tree::MOST_BYTES;

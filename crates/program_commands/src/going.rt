@@ -2,28 +2,24 @@
 ghost use Rattle.std.specs.Prelude.{◌≡◌, false, ◌≤◌, ◌<◌, ◌+◌, ◌^◌, ◌∷◌, length, option_map, IfOk, IfErr, IfSome, string_bytes};
 ghost use Rattle.roopl_judge.specs.rpp_tree.Views.{source_of};
 ghost use Rattle.roopl_judge.specs.rpp_tree.declared.limits.TheConstants.{MOST_BYTES};
-ghost use Rattle.image_inverter.specs.pisa_isa.Image.{IsImage};
 ghost use Rattle.image_inverter.specs.pisa_isa.Loaded.{loaded};
-ghost use Rattle.store_report.specs.roopl_semantics.StandsFor.{StandsFor};
 ghost use Rattle.command_plan.specs.pisa_loader.declared.input.TheConstants.{MOST_INPUT};
 ghost use Rattle.command_plan.specs.Plans.{planned, GivesPlan};
-ghost use Rattle.program_commands.specs.ProgramPlans.{RunsImage, ReportsStop, ReportsStore};
+ghost use Rattle.program_runs.specs.Reports.{ReportsStore};
+ghost use Rattle.program_commands.specs.ProgramPlans.{RunsImage, ReportsStop};
 ghost use Rattle.program_commands.specs.RunPlans.{IsGoPlan, GoesOn};
 ghost use Rattle.program_commands.specs.GoRun.{IsLoaded, HasRun};
 ghost use Rattle.command_plan.specs.Files.{OnlyReads, UnreadCause, source, input_files};
 
-use class_table::Checked;
 use command_plan::{
     NoPlan, Plan, Sizes, Verdict, read_given, report_bound, report_fault, with_steps,
 };
-use pisa_isa::{Image, Stop};
+use pisa_isa::Stop;
 use pisa_loader::load;
 use pisa_machine::{Machine, RunEnd, Steps};
-use program_codegen::compile;
+use program_runs::{Ready, RunSetting, compiled_image, ready};
 use rpp_ports::Shelf;
-use rpp_tree::MOST_TOKENS;
 use rpp_words::NoMemory;
-use run_settings::{Ready, RunSetting, ready};
 use std::alloc::Global;
 use std::sync::ledger::Ledger;
 use store_report::report;
@@ -69,20 +65,6 @@ fn go_over<L: Ledger>(
         Ready::Refused(plan) => Ok(plan),
         Ready::Runs(setting) => run_program(alloc, &setting, steps),
     }
-}
-
-/// The most code cells of a compiled image: 200 for each token that a program may have, and 8,192.
-pub const MOST_COMPILED: usize = 200 * MOST_TOKENS as usize + 8_192;
-
-/// The image of a program, without what is noted of it.
-#[tactic(auto, using(crate::proofs::Sizes::few_cells))]
-pub fn compiled_image(alloc: Global, checked: &Checked) -> Result<Image, NoMemory>
-    ensures stands { IfOk result (λ image. StandsFor (source_of checked.now) image) }
-    ensures image { IfOk result (λ image. IsImage image) }
-    ensures size { IfOk result (λ image. length image.code ≤ MOST_COMPILED) }
-{
-    let _table = checked.table();
-    Ok(compile(alloc, checked)?.into_parts().0)
 }
 
 /// The image of the program, loaded with the input.

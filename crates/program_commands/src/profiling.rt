@@ -11,11 +11,11 @@ ghost use Rattle.program_commands.specs.ToldShort.{ProfilesShort, IsProfileShort
 use crate::going::{loaded_program, report_run};
 use command_plan::{NoPlan, Plan, Sizes, read_file};
 use pisa_machine::Steps;
+use program_runs::{Ready, RunSetting, ready};
 use rpp_ports::Shelf;
 use rpp_probes::Probes;
 use rpp_tree::MOST_BYTES;
 use rpp_words::NoMemory;
-use run_settings::{Ready, RunSetting, ready};
 use std::alloc::{AllocError, Global};
 use std::sync::ledger::Ledger;
 

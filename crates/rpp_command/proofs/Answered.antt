@@ -12,11 +12,13 @@ use Rattle.command_line.specs.command_plan.declared.status.Broken.{Broken}
 use Rattle.command_line.specs.Lines.{Asked}
 use Rattle.rpp_command.specs.Causes.{files_of}
 use Rattle.rpp_command.specs.GivenPlans.{IsPlanOf}
-use Rattle.rpp_command.specs.Outside.{Shelved, Printed, HasPut}
-use Rattle.rpp_command.specs.Answers.{Answers, Finishes, words_refused}
-use Rattle.rpp_command.specs.Serving.{PlansRead, StopsPlan, put_answer, ended}
-use Rattle.rpp_command.proofs.Fetched.{some_none}
-use Rattle.rpp_command.proofs.Finished.{puts_by}
+use Rattle.plan_serving.specs.Outside.{Shelved, Printed, HasPut}
+use Rattle.rpp_command.specs.Answers.{Answers, words_refused}
+use Rattle.plan_serving.specs.Finishes.{Finishes}
+use Rattle.rpp_command.specs.Serving.{PlansRead, StopsPlan}
+use Rattle.plan_serving.specs.Finishes.{put_answer, ended}
+use Rattle.plan_serving.proofs.Fetched.{some_none}
+use Rattle.plan_serving.proofs.Finished.{puts_by}
 
 -- the plan of the texts that were read was carried out
 pub carried : (line : Asked) (probes kept : List Watch) (rose : Type 0) (told told' mid : Option Texts)

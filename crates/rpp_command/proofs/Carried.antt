@@ -8,7 +8,8 @@ use Rattle.command_line.specs.rpp_probes.Tally.{Watch}
 use Rattle.command_line.specs.command_plan.Plans.{Planned, code_of}
 use Rattle.command_line.specs.Lines.{Asked}
 use Rattle.rpp_command.specs.Plans.{IsPlan}
-use Rattle.rpp_command.specs.Told.{Leaves, CarriesOutTold}
+use Rattle.plan_serving.specs.Left.{Leaves}
+use Rattle.rpp_command.specs.Told.{CarriesOutTold}
 
 pub carries_out : (line : Asked) (probes kept : List Watch) (told mid after : Option Texts) (old new : Option (List ℕ))
     (p : Planned) → (count made : ℕ) → count ≡ 0 → IsPlan line probes kept count made told p → mid ≡ told

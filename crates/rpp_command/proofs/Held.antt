@@ -14,13 +14,14 @@ use Rattle.command_line.specs.command_plan.declared.plan.NoPlan.TheVariants.{NoM
 use Rattle.command_line.specs.command_plan.Files.{Needed, OnlyReads, LacksOne, Unreadable, UnreadCause, image_file}
 use Rattle.command_line.specs.command_plan.Plans.{planned, GivesPlan}
 use Rattle.command_line.specs.command_plan.Reads.{Gave, Asks}
-use Rattle.rpp_command.specs.Places.{HasPlaces, place_files}
+use Rattle.plan_serving.specs.Places.{HasPlaces, place_files}
 use Rattle.command_line.specs.Lines.{Asked, Check, Compile, Asm, ListImage, Flip, ShowInverse, Generate, Cluster}
 use Rattle.command_line.specs.Lines.{RunImage, Debug, Trace, Go, Turn, Profile, Wrap, Explain}
 use Rattle.rpp_command.specs.Plans.{IsPlan, LeavesProbes}
-use Rattle.rpp_command.specs.Places.{placed, names_from}
+use Rattle.rpp_command.specs.Places.{placed}
+use Rattle.plan_serving.specs.Places.{names_from}
 use Rattle.rpp_command.specs.Causes.{files_of}
-use Rattle.rpp_command.specs.Outside.{Shelved}
+use Rattle.plan_serving.specs.Outside.{Shelved}
 use Rattle.rpp_command.specs.Serving.{PlansRead, StopsPlan}
 use Rattle.rpp_command.proofs.Placed.{plan_of_texts, leaves_of_texts}
 use Rattle.rpp_command.proofs.OfTold.{plan_told, leaves_told}

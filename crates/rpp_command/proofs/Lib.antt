@@ -1,9 +1,7 @@
 mod Carried
 pub mod Early
 pub mod Targets
-pub mod Fetched
 pub mod Placed
 pub mod OfTold
 pub mod Held
-pub mod Finished
 pub mod Answered

@@ -18,9 +18,9 @@ use Rattle.command_line.specs.command_plan.Reads.{Gave, read}
 use Rattle.cluster_commands.specs.ClusterPlans.{WithImages}
 use Rattle.image_commands.specs.ImagePlans.{IsAsmPlan, IsListPlan, IsFlipPlan, IsRunPlan}
 use Rattle.image_commands.specs.DebugPlans.{IsDebugPlan}
-use Rattle.wrap_commands.specs.program_commands.ProgramPlans.{IsCheckPlan, IsCompilePlan}
-use Rattle.wrap_commands.specs.program_commands.RunPlans.{IsGoPlan, IsTurnPlan, IsProfilePlan}
-use Rattle.wrap_commands.specs.program_commands.ToldShort.{IsTurnShort, IsProfileShort}
+use Rattle.program_commands.specs.ProgramPlans.{IsCheckPlan, IsCompilePlan}
+use Rattle.program_commands.specs.RunPlans.{IsGoPlan, IsTurnPlan, IsProfilePlan}
+use Rattle.program_commands.specs.ToldShort.{IsTurnShort, IsProfileShort}
 use Rattle.explain_commands.specs.Explained.{IsExplainPlan}
 use Rattle.cluster_commands.specs.ClusterPlans.{IsClusterPlan, images_at}
 use Rattle.wrap_commands.specs.WrapPlans.{IsWrapPlan}

@@ -14,13 +14,13 @@ use Rattle.command_line.specs.command_plan.declared.reading.TheConstants.{MOST_I
 use Rattle.command_line.specs.command_plan.Files.{image_file}
 use Rattle.command_line.specs.command_plan.Plans.{Planned, WithText, WithInput, WithState, IsStateText}
 use Rattle.command_line.specs.command_plan.Reads.{Gave, read}
-use Rattle.rpp_command.specs.Places.{HasPlaces}
+use Rattle.plan_serving.specs.Places.{HasPlaces}
 use Rattle.cluster_commands.specs.ClusterPlans.{WithImages}
 use Rattle.image_commands.specs.ImagePlans.{IsAsmPlan, IsListPlan, IsFlipPlan, IsRunPlan}
 use Rattle.image_commands.specs.DebugPlans.{IsDebugPlan}
-use Rattle.wrap_commands.specs.program_commands.ProgramPlans.{IsCheckPlan, IsCompilePlan}
-use Rattle.wrap_commands.specs.program_commands.RunPlans.{IsGoPlan, IsTurnPlan, IsProfilePlan}
-use Rattle.wrap_commands.specs.program_commands.ToldShort.{IsTurnShort, IsProfileShort}
+use Rattle.program_commands.specs.ProgramPlans.{IsCheckPlan, IsCompilePlan}
+use Rattle.program_commands.specs.RunPlans.{IsGoPlan, IsTurnPlan, IsProfilePlan}
+use Rattle.program_commands.specs.ToldShort.{IsTurnShort, IsProfileShort}
 use Rattle.explain_commands.specs.Explained.{IsExplainPlan}
 use Rattle.cluster_commands.specs.ClusterPlans.{IsClusterPlan, images_at}
 use Rattle.wrap_commands.specs.WrapPlans.{IsWrapPlan}
@@ -31,7 +31,8 @@ use Rattle.command_line.specs.Lines.{RunImage, Debug, Trace, Go, Turn, Profile, 
 use Rattle.rpp_command.specs.Plans.{IsPlan, LeavesProbes}
 use Rattle.rpp_command.specs.GivenPlans.{IsPlanOf, LeavesOf}
 use Rattle.rpp_command.specs.Causes.{files_of}
-use Rattle.rpp_command.specs.Places.{placed, names_from}
+use Rattle.rpp_command.specs.Places.{placed}
+use Rattle.plan_serving.specs.Places.{names_from}
 
 -- a text at its place is the one that was read
 text_at : (held : Texts) (place : List ℕ) (limit : ℕ) (text : List ℕ) (P : List ℕ → Type 0) → held place ≡ Some text

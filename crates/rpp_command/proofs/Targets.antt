@@ -7,10 +7,11 @@ use Rattle.command_line.specs.Lines.{Asked, Check, Compile, Asm, ListImage, Flip
 use Rattle.command_line.specs.Lines.{RunImage, Debug, Trace, Go, Turn, Profile, Wrap, Explain}
 use Rattle.command_line.specs.command_plan.Plans.{Planned, Written, WritesOnly}
 use Rattle.rpp_command.specs.Plans.{IsPlan}
-use Rattle.rpp_command.specs.Causes.{target_of, KeepsButTarget}
-use Rattle.wrap_commands.proofs.program_commands_laws.ProgramTargets.{checks_file_writes, compiles_file_writes}
-use Rattle.wrap_commands.proofs.program_commands_laws.ProgramTargets.{goes_on_writes}
-use Rattle.wrap_commands.proofs.program_commands_laws.ProgramTargets.{turns_file_writes, profiles_file_writes}
+use Rattle.rpp_command.specs.Causes.{target_of}
+use Rattle.plan_serving.specs.Left.{KeepsButTarget}
+use Rattle.program_commands.proofs.ProgramTargets.{checks_file_writes, compiles_file_writes}
+use Rattle.program_commands.proofs.ProgramTargets.{goes_on_writes}
+use Rattle.program_commands.proofs.ProgramTargets.{turns_file_writes, profiles_file_writes}
 use Rattle.explain_commands.proofs.ExplainTargets.{explains_writes}
 use Rattle.cluster_commands.proofs.ClusterTargets.{clusters_files_writes}
 use Rattle.wrap_commands.proofs.WrapTargets.{wraps_file_writes}

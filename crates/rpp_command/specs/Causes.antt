@@ -1,7 +1,6 @@
 -- Which files a line reads, which it may write, and whether its probes observe steps.
-use Rattle.std.specs.Prelude.{◌≡◌, ℕ, Bool, true, false, List, [], ◌∷◌, ⊤, None, Some}
+use Rattle.std.specs.Prelude.{ℕ, Bool, true, false, List, [], ◌∷◌, None, Some}
 use Rattle.std.specs.declared.option.Option.{Option}
-use Rattle.command_line.specs.rpp_ports.Ports.{Texts, KeepsOthers}
 use Rattle.command_line.specs.Lines.{Asked, Check, Compile, Asm, ListImage, Flip, ShowInverse}
 use Rattle.command_line.specs.Lines.{Generate, Cluster, RunImage, Debug, Trace, Go, Turn, Profile}
 use Rattle.command_line.specs.Lines.{Wrap, Explain}
@@ -57,13 +56,6 @@ target_of (Explain file sizes given) = None
 abbrev pub target : Option Asked → Option (List ℕ)
 target None = None
 target (Some line) = target_of line
-
--- a map of known contents stays known, and each name except the target keeps its contents
-abbrev pub KeepsButTarget : Option Texts → Option Texts → Option (List ℕ) → Type 0
-KeepsButTarget None new name = ⊤
-KeepsButTarget (Some old) None name = ⊥
-KeepsButTarget (Some old) (Some new) None = (n : List ℕ) → new n ≡ old n
-KeepsButTarget (Some old) (Some new) (Some name) = KeepsOthers old new name
 
 -- whether the probes of a line may observe steps
 unfoldable pub tells : Asked → Bool

@@ -1,9 +1,6 @@
 pub mod Plans
 pub mod GivenPlans
 pub mod Places
-pub mod Held
-pub mod Wanted
-pub mod Outside
 pub mod Causes
 pub mod Answers
 pub mod Serving

@@ -6,9 +6,9 @@ use Rattle.command_line.specs.rpp_probes.Tally.{Watch}
 use Rattle.command_line.specs.command_plan.Plans.{Planned}
 use Rattle.image_commands.specs.ImagePlans.{AssemblesFile, ListsFile, FlipsFile, RunsFile}
 use Rattle.image_commands.specs.DebugPlans.{DebugsFile}
-use Rattle.wrap_commands.specs.program_commands.ProgramPlans.{ChecksFile, CompilesFile}
-use Rattle.wrap_commands.specs.program_commands.RunPlans.{GoesOn, TurnsFile, ProfilesFile}
-use Rattle.wrap_commands.specs.program_commands.ToldShort.{TurnsFileShort, ProfilesFileShort}
+use Rattle.program_commands.specs.ProgramPlans.{ChecksFile, CompilesFile}
+use Rattle.program_commands.specs.RunPlans.{GoesOn, TurnsFile, ProfilesFile}
+use Rattle.program_commands.specs.ToldShort.{TurnsFileShort, ProfilesFileShort}
 use Rattle.explain_commands.specs.Explained.{Explains}
 use Rattle.cluster_commands.specs.ClusterPlans.{ClustersFiles}
 use Rattle.wrap_commands.specs.WrapPlans.{WrapsFile}

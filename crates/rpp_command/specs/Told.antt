@@ -1,24 +1,19 @@
 -- What the whole program returns. For probes, `probes` is the list as it is passed, and `kept` as
 -- it is left.
-use Rattle.std.specs.Prelude.{◌≡◌, ◌⊎◌, ℕ, List, ⊤, None, Some, IsSomeAnd}
+use Rattle.std.specs.Prelude.{◌≡◌, ◌⊎◌, ℕ, List, None, Some}
 use Rattle.std.specs.declared.option.Option.{Option}
 use Rattle.std.specs.Io.KnownBytes.{Appends, Keeps}
 use Rattle.command_line.specs.rpp_probes.Tally.{Watch}
-use Rattle.command_line.specs.rpp_ports.Ports.{Texts, SetsText, LeavesAfter, AppendsPrefix}
-use Rattle.command_line.specs.rpp_ports.declared.shelf.ShelfFault.TheVariants.{Failed}
+use Rattle.command_line.specs.rpp_ports.Ports.{Texts, AppendsPrefix}
 use Rattle.command_line.specs.Lines.{Asked}
-use Rattle.command_line.specs.command_plan.Plans.{Written, Planned, code_of}
+use Rattle.command_line.specs.command_plan.Plans.{Planned, code_of}
 use Rattle.rpp_command.specs.Plans.{IsPlan, LeavesProbes}
 use Rattle.command_line.specs.command_plan.Files.{Needed, FirstUnread}
 use Rattle.rpp_command.specs.Causes.{files_of}
-use Rattle.rpp_command.specs.Answers.{words_refused, unwritten}
+use Rattle.rpp_command.specs.Answers.{words_refused}
+use Rattle.plan_serving.specs.Left.{Leaves, Says, BreaksOff}
 use Rattle.command_line.specs.command_plan.declared.status.Broken.{Broken}
 use Rattle.command_line.specs.command_plan.declared.status.Broken.TheVariants.{Outside, NoMemory}
-
--- the file is written and other names stay, or the map is as before
-abbrev pub Leaves : Option Texts → Option Texts → Option Written → Type 0
-Leaves old new None = new ≡ old
-Leaves old new (Some w) = SetsText old new w.name w.bytes
 
 -- a plan of the line was carried out, for which so many machine steps were made
 pub record CarriesOutTold (line : Asked) (probes kept : List Watch) (told after : Option Texts)
@@ -38,43 +33,6 @@ AnswersTold None probes kept told after status old new = (status ≡ 1) × Appen
     × (after ≡ told)
 AnswersTold (Some line) probes kept told after status old new =
     CarriesOutTold line probes kept told after status old new
-
--- each name has the text that it had
-abbrev pub SameTexts : Option Texts → Option Texts → Type 0
-SameTexts None after = ⊤
-SameTexts (Some old) None = ⊥
-SameTexts (Some old) (Some new) = (n : List ℕ) → new n ≡ old n
-
--- a text was printed whole, or the sink failed and some of it was
-abbrev pub Says : (failed : Type 0) → (old new : Option (List ℕ)) → (text : List ℕ) → Type 0
-Says failed old new text = Appends old new text ⊎ (failed × AppendsPrefix old new text)
-
--- the same, or the sink needs memory and found none for the text
-abbrev pub Tries : (failed lacks : Type 0) → (old new : Option (List ℕ)) → (text : List ℕ) → Type 0
-Tries failed lacks old new text = Says failed old new text ⊎ (lacks × Keeps old new)
-
--- What is left of a write that was aborted: if memory ran out, all is as before. Otherwise the file
--- store failed, the name has its old contents or any, and the line on it was tried.
-abbrev pub LeavesUnwritten : (before after : Option Texts) → (rose failed lacks : Type 0)
-    → (old new : Option (List ℕ)) → Written → Broken → Type 0
-LeavesUnwritten before after rose failed lacks old new w NoMemory =
-    Keeps old new × SameTexts before after
-LeavesUnwritten before after rose failed lacks old new w Outside =
-    rose × (LeavesAfter before after w.name Failed × Tries failed lacks old new (unwritten w.name))
-
--- what is left if the text was not printed whole: nothing of it if the sink needs memory and
--- found none, else, if the sink failed, some of it
-abbrev pub LeavesUnsaid : (failed lacks : Type 0) → (old new : Option (List ℕ)) → (text : List ℕ)
-    → Broken → Type 0
-LeavesUnsaid failed lacks old new text NoMemory = lacks × Keeps old new
-LeavesUnsaid failed lacks old new text Outside = failed × AppendsPrefix old new text
-
--- a plan was aborted: at its file, or, with the file written, at its text
-abbrev pub BreaksOff : (before after : Option Texts) → (rose failed lacks : Type 0)
-    → (old new : Option (List ℕ)) → Planned → Broken → Type 0
-BreaksOff before after rose failed lacks old new p broken =
-    IsSomeAnd p.writing (λ w. LeavesUnwritten before after rose failed lacks old new w broken)
-    ⊎ (Leaves before after p.writing × LeavesUnsaid failed lacks old new p.text broken)
 
 -- there was no plan: the line on the first file that could not be read is printed, whole unless the
 -- sink failed

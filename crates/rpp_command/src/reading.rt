@@ -2,16 +2,16 @@
 ghost use Rattle.std.specs.Prelude.{◌≡◌, [], ◌∷◌, map, option_map, string_bytes, IfOk};
 ghost use Rattle.command_line.specs.Lines.{asked};
 ghost use Rattle.command_line.specs.command_plan.Files.{Needed, source, image_file, input_files, state_files, state_of_names};
-ghost use Rattle.rpp_command.specs.Wanted.{file_of};
+ghost use Rattle.plan_serving.specs.Wanted.{file_of};
 ghost use Rattle.cluster_commands.specs.ClusterPlans.{cluster_files};
 ghost use Rattle.rpp_command.specs.Causes.{files_of};
 
-use crate::fetching::Wanted;
 use command_line::Line;
 use command_plan::{MOST_IMAGE, MOST_STATE, StateNames};
 use pisa_asm::MOST_TEXT;
 use pisa_loader::MOST_INPUT;
 use pisa_scripts::MOST_SCRIPT;
+use plan_serving::Wanted;
 use rpp_tree::MOST_BYTES;
 use std::alloc::{AllocError, Global};
 

@@ -7,17 +7,14 @@ ghost use Rattle.command_line.specs.command_plan.Statuses.{served_status};
 ghost use Rattle.command_line.specs.command_plan.declared.plan.NoPlan.TheVariants.{NoMemory};
 ghost use Rattle.rpp_command.specs.Plans.{IsPlan, LeavesProbes};
 ghost use Rattle.command_line.specs.command_plan.Files.{OnlyReads, Unreadable, UnreadCause, LacksOne};
-ghost use Rattle.rpp_command.specs.Causes.{KeepsButTarget, files_of, needed, target, target_of, tell, tells};
+ghost use Rattle.plan_serving.specs.Left.{KeepsButTarget};
+ghost use Rattle.rpp_command.specs.Causes.{files_of, needed, target, target_of, tell, tells};
 ghost use Rattle.rpp_command.specs.Answers.{Answers};
 ghost use Rattle.rpp_command.specs.Serving.{PlansRead, StopsPlan};
 ghost use Rattle.rpp_command.specs.Places.{placed};
-ghost use Rattle.rpp_command.specs.Held.{held_texts};
+ghost use Rattle.plan_serving.specs.Held.{held_texts};
 ghost use Rattle.rpp_command.specs.Told.{CarriesOutTold, AnswersTold, EndsEarly};
 
-use crate::fetching::fetch;
-use crate::finish::{finish, say};
-use crate::held_shelf::HeldShelf;
-use crate::placing::{place_images, place_input, place_states};
 use crate::reading::wanted_files;
 use cluster_commands::cluster;
 use command_line::{Line, read_words};
@@ -25,6 +22,8 @@ use command_plan::{Broken, NoPlan, Plan, Room, Sizes, Verdict, status_of};
 use explain_commands::explain;
 use image_commands::{asm, debug, flip, list, run};
 use pisa_machine::Steps;
+use plan_serving::{HeldShelf, fetch, finish, place_images, place_input, place_states, say};
+use program_commands::{check, compile_file, go, profile, turn};
 use rpp_ports::{Shelf, Sink};
 use rpp_probes::Probes;
 use std::alloc::Global;
@@ -32,7 +31,7 @@ use std::marker::Brand;
 use std::sync::ledger::{Blank, Ledger};
 use text_commands::{generate, show_inverse};
 use trace_commands::trace;
-use wrap_commands::{check, compile_file, go, profile, turn, wrap};
+use wrap_commands::wrap;
 
 /// Does what the words say, and returns the status of the program.
 pub fn rooplpp<S: Shelf, K: Sink, P: Probes>(

@@ -2,7 +2,7 @@
 use Rattle.std.proofs.Common.{◌≡◌, ◌∙◌, refl, sym, ap, ℕ, ◌+◌, ◌<◌, ◌≤◌, List, [], ◌∷◌, length, map, drop, get_or}
 use Rattle.std.proofs.Common.{length-drop, Result, Ok, Err, add-one, drop-cons, arith}
 use Rattle.std.proofs.lemmas.List.{nil_from_length}
-use Rattle.program_commands.specs.pisa_loader.declared.input.InputField.{InputField}
+use Rattle.pisa_loader.specs.declared.input.InputField.{InputField}
 use Rattle.wrap_commands.specs.declared.error.NamesError.{NamesError}
 use Rattle.wrap_commands.specs.declared.error.NamesError.TheVariants.{UnknownResult, NoMemory}
 use Rattle.wrap_commands.specs.WrapNames.{field_of_name, with_result, results_from, Fails}

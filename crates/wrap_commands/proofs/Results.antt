@@ -11,18 +11,18 @@ use Rattle.std.proofs.lemmas.List.{length-map}
 use Rattle.std.proofs.lemmas.List.Elements.{All-head, All-tail, All-nil, All-cons, All-append}
 use Rattle.std.proofs.lemmas.Map.Keys.{IsDistinct-push}
 use Rattle.std.proofs.lemmas.Map.Made.{All-is_member, length-le_from_is_member}
-use Rattle.program_commands.specs.rpp_tree.declared.tree.Var.{Var}
-use Rattle.program_commands.specs.rpp_tree.Tree.{Source}
-use Rattle.program_commands.specs.class_rules.Program.{IsAccepted}
-use Rattle.program_commands.specs.pisa_scripts.Lines.{pieces}
-use Rattle.program_commands.specs.pisa_image.Numbers.{◌>>=◌}
-use Rattle.program_commands.specs.pisa_loader.declared.input.InputField.{InputField}
-use Rattle.program_commands.specs.pisa_loader.InputLines.{is_field}
-use Rattle.program_commands.specs.roopl_semantics.Source.{main_fields, is_int_type, is_int_field}
-use Rattle.program_commands.specs.store_report.Ascii.{HasAsciiName as HasAsciiVar}
-use Rattle.program_commands.proofs.store_report_laws.Names.{ascii_main_fields}
-use Rattle.program_commands.specs.run_settings.Inputs.{fields_from, input_fields}
-use Rattle.program_commands.proofs.run_settings_laws.ValidInput.{int_field}
+use Rattle.rpp_tree.specs.declared.tree.Var.{Var}
+use Rattle.rpp_tree.specs.Tree.{Source}
+use Rattle.class_table.specs.class_rules.Program.{IsAccepted}
+use Rattle.pisa_scripts.specs.Lines.{pieces}
+use Rattle.command_plan.specs.pisa_image.Numbers.{◌>>=◌}
+use Rattle.pisa_loader.specs.declared.input.InputField.{InputField}
+use Rattle.pisa_loader.specs.InputLines.{is_field}
+use Rattle.program_runs.specs.run_settings.roopl_semantics.Source.{main_fields, is_int_type, is_int_field}
+use Rattle.store_report.specs.Ascii.{HasAsciiName as HasAsciiVar}
+use Rattle.store_report.proofs.Names.{ascii_main_fields}
+use Rattle.program_runs.specs.run_settings.Inputs.{fields_from, input_fields}
+use Rattle.program_runs.proofs.run_settings_laws.ValidInput.{int_field}
 use Rattle.wrap_commands.specs.declared.error.NamesError.{NamesError}
 use Rattle.wrap_commands.specs.declared.error.NamesError.TheVariants.{UnknownResult}
 use Rattle.wrap_commands.specs.WrapNames.{field_of_name, with_result, results_from, results_of}

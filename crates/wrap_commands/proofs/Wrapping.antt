@@ -6,32 +6,32 @@ use Rattle.std.specs.List.{All}
 use Rattle.std.proofs.lemmas.Bool.{cases_lt}
 use Rattle.std.proofs.lemmas.List.{length-map}
 use Rattle.std.proofs.lemmas.List.Elements.{All-head, All-tail, All-nil, All-cons, All-map}
-use Rattle.program_commands.specs.rpp_words.Words.{IsWord}
-use Rattle.program_commands.specs.rpp_words.Limits.{IsLimits}
-use Rattle.program_commands.specs.rpp_words.declared.input.FieldWord.{FieldWord}
-use Rattle.program_commands.specs.rpp_words.declared.input.Limits.{Limits}
-use Rattle.program_commands.specs.rpp_tree.Tree.{Source}
-use Rattle.program_commands.specs.class_rules.Program.{IsAccepted}
-use Rattle.program_commands.specs.pisa_isa.declared.cell.Cell.{Cell}
-use Rattle.program_commands.specs.pisa_isa.declared.machine.Stop.{Stop}
-use Rattle.program_commands.specs.pisa_isa.declared.machine.Stop.TheVariants.{Finished, Trap, Returned, BadAddress, OffCode, Bound}
-use Rattle.program_commands.specs.pisa_isa.Image.{Segments, IsImage}
-use Rattle.program_commands.specs.pisa_isa.Loaded.{loaded}
-use Rattle.program_commands.specs.pisa_isa.Runs.{End, run, zero_registers}
-use Rattle.program_commands.specs.pisa_machine.Position.{Position, IsMachine, first_position}
-use Rattle.program_commands.specs.pisa_loader.declared.input.InputField.{InputField}
-use Rattle.program_commands.specs.roopl_semantics.Store.{main_name, object_at}
-use Rattle.program_commands.specs.roopl_semantics.Source.{GivesFault, IsValid}
-use Rattle.program_commands.specs.roopl_semantics.Layout.{layout}
-use Rattle.program_commands.specs.roopl_semantics.StandsFor.{StandsFor, EndsAt}
+use Rattle.rpp_words.specs.Words.{IsWord}
+use Rattle.rpp_words.specs.Limits.{IsLimits}
+use Rattle.rpp_words.specs.declared.input.FieldWord.{FieldWord}
+use Rattle.rpp_words.specs.declared.input.Limits.{Limits}
+use Rattle.rpp_tree.specs.Tree.{Source}
+use Rattle.class_table.specs.class_rules.Program.{IsAccepted}
+use Rattle.pisa_isa.specs.declared.cell.Cell.{Cell}
+use Rattle.pisa_isa.specs.declared.machine.Stop.{Stop}
+use Rattle.pisa_isa.specs.declared.machine.Stop.TheVariants.{Finished, Trap, Returned, BadAddress, OffCode, Bound}
+use Rattle.pisa_isa.specs.Image.{Segments, IsImage}
+use Rattle.pisa_isa.specs.Loaded.{loaded}
+use Rattle.pisa_isa.specs.Runs.{End, run, zero_registers}
+use Rattle.pisa_machine.specs.Position.{Position, IsMachine, first_position}
+use Rattle.pisa_loader.specs.declared.input.InputField.{InputField}
+use Rattle.program_runs.specs.run_settings.roopl_semantics.Store.{main_name, object_at}
+use Rattle.program_runs.specs.run_settings.roopl_semantics.Source.{GivesFault, IsValid}
+use Rattle.program_runs.specs.run_settings.roopl_semantics.Layout.{layout}
+use Rattle.program_runs.specs.run_settings.roopl_semantics.StandsFor.{StandsFor, EndsAt}
 use Rattle.refine_wrap.specs.bennett_wrap.Wrapped.{Wrapped, begun_on, with_zeros}
 use Rattle.refine_wrap.specs.Programs.{EndsAsSource, EndsDone, IsStatic, field_cell, enough_wrapped, wrapped_run}
 use Rattle.refine_wrap.proofs.IntFields.{int_fields}
 use Rattle.refine_wrap.proofs.Told.{wrapped_programs_follow}
-use Rattle.program_commands.proofs.run_settings_laws.ValidInput.{field_fits}
-use Rattle.program_commands.specs.command_plan.declared.plan.Verdict.TheVariants.{Done}
-use Rattle.program_commands.specs.command_plan.Plans.{Planned, prints}
-use Rattle.program_commands.specs.command_plan.Texts.{steps_line}
+use Rattle.program_runs.proofs.run_settings_laws.ValidInput.{field_fits}
+use Rattle.command_plan.specs.declared.plan.Verdict.TheVariants.{Done}
+use Rattle.command_plan.specs.Plans.{Planned, prints}
+use Rattle.command_plan.specs.Texts.{steps_line}
 use Rattle.wrap_commands.specs.WrapNames.{HasLowNumber, result_cells}
 use Rattle.wrap_commands.specs.WrapShown.{result_lines, word_lines, initial_line}
 use Rattle.wrap_commands.specs.WrapPlans.{AreResults, TellsResults, TellsStop, TellsEnd, WrapsImage}

@@ -1,4 +1,3 @@
-pub use Rattle.program_commands.specs as program_commands
 pub mod WrapNames
 pub mod WrapShown
 pub mod WrapPlans

@@ -1,7 +1,6 @@
 //! The command `wrap`: a program is run, its results are copied, and it is run backward. The
 //! results are named int fields of its main object, which are copied after its memory. It reads its
-//! files and makes a plan; the top call carries it out. That call also finds the commands on
-//! programs here, which are those of program_commands.
+//! files and makes a plan; the top call carries it out.
 #![tactic(auto)]
 
 mod error;
@@ -11,4 +10,3 @@ mod running;
 mod shown;
 
 pub use planning::wrap;
-pub use program_commands::{check, compile_file, go, profile, turn};

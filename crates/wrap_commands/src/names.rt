@@ -1,6 +1,6 @@
 // The names of results.
 ghost use Rattle.std.specs.Prelude.{◌≡◌, ◌++◌, ◌∷◌, [], IfOk, MatchOption, Some, None};
-ghost use Rattle.program_commands.specs.pisa_loader.InputLines.{is_field};
+ghost use Rattle.pisa_loader.specs.InputLines.{is_field};
 ghost use Rattle.wrap_commands.specs.WrapNames.{field_of_name, with_result, results_of, Gives};
 
 use crate::error::NamesError;

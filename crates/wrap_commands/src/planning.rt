@@ -1,13 +1,13 @@
 // `wrap F H D STEPS NAMES [INPUT]`: checks the arguments and the texts that they name.
 ghost use Rattle.std.specs.Prelude.{◌≡◌, ◌≤◌, ◌<◌, ◌+◌, ◌^◌, ◌∷◌, length, option_map, IfOk, IfErr, string_bytes};
-ghost use Rattle.program_commands.specs.rpp_tree.Views.{source_of};
-ghost use Rattle.program_commands.specs.rpp_tree.declared.limits.TheConstants.{MOST_BYTES};
-ghost use Rattle.program_commands.specs.rpp_words.Limits.{IsLimits};
-ghost use Rattle.program_commands.specs.pisa_loader.Limiting.{limits_refusal};
-ghost use Rattle.program_commands.specs.pisa_loader.declared.input.TheConstants.{MOST_INPUT};
-ghost use Rattle.program_commands.specs.command_plan.Files.{OnlyReads, UnreadCause, source, input_files};
-ghost use Rattle.program_commands.specs.command_plan.Plans.{planned, GivesPlan};
-ghost use Rattle.program_commands.specs.run_settings.Inputs.{input_fields as fields_of, given_input};
+ghost use Rattle.rpp_tree.specs.Views.{source_of};
+ghost use Rattle.rpp_tree.specs.declared.limits.TheConstants.{MOST_BYTES};
+ghost use Rattle.rpp_words.specs.Limits.{IsLimits};
+ghost use Rattle.pisa_loader.specs.Limiting.{limits_refusal};
+ghost use Rattle.pisa_loader.specs.declared.input.TheConstants.{MOST_INPUT};
+ghost use Rattle.command_plan.specs.Files.{OnlyReads, UnreadCause, source, input_files};
+ghost use Rattle.command_plan.specs.Plans.{planned, GivesPlan};
+ghost use Rattle.program_runs.specs.run_settings.Inputs.{input_fields as fields_of, given_input};
 ghost use Rattle.wrap_commands.specs.WrapNames.{results_of};
 ghost use Rattle.wrap_commands.specs.WrapPlans.{AreResults, IsGivenPlan, IsNamedPlan, IsSizedPlan, IsWrapPlan, WrapsFile};
 
@@ -19,7 +19,7 @@ use class_table::Checked;
 use command_plan::{NoPlan, Plan, Sizes, Verdict, load_line, read_given, refuse_source};
 use pisa_loader::{InputField, LoadError, check_limits, read_input};
 use pisa_machine::Steps;
-use program_commands::input_fields;
+use program_runs::input_fields;
 use roopl_judge::{SourceError, judge};
 use rpp_ports::Shelf;
 use rpp_tree::MOST_BYTES;

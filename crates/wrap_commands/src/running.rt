@@ -1,11 +1,11 @@
 // The run of a wrapped image, and its plan.
 ghost use Rattle.std.specs.Prelude.{◌≡◌, ◌<◌, ◌≤◌, ◌+◌, ◌^◌, All, IfOk};
-ghost use Rattle.program_commands.specs.rpp_tree.Views.{source_of};
-ghost use Rattle.program_commands.specs.rpp_words.Limits.{IsLimits};
-ghost use Rattle.program_commands.specs.class_rules.Program.{IsAccepted};
-ghost use Rattle.program_commands.specs.roopl_semantics.Source.{IsValid};
+ghost use Rattle.rpp_tree.specs.Views.{source_of};
+ghost use Rattle.rpp_words.specs.Limits.{IsLimits};
+ghost use Rattle.class_table.specs.class_rules.Program.{IsAccepted};
+ghost use Rattle.program_runs.specs.run_settings.roopl_semantics.Source.{IsValid};
 ghost use Rattle.refine_wrap.specs.Programs.{field_cell as cell_of_field};
-ghost use Rattle.program_commands.specs.command_plan.Plans.{planned};
+ghost use Rattle.command_plan.specs.Plans.{planned};
 ghost use Rattle.wrap_commands.specs.WrapNames.{HasLowNumber, result_cells};
 ghost use Rattle.wrap_commands.specs.WrapPlans.{AreResults, TellsResults, TellsStop, WrapsImage};
 ghost use Rattle.wrap_commands.specs.WrapRun.{HasWrapped};
@@ -18,7 +18,7 @@ use command_plan::{Plan, Verdict, report_bound, report_fault, with_steps};
 use pisa_isa::{Image, Stop};
 use pisa_loader::{InputField, load_more};
 use pisa_machine::{Machine, RunEnd, Steps};
-use program_commands::compiled_image;
+use program_runs::compiled_image;
 use rpp_words::{Input, Limits, NoMemory};
 use std::alloc::{AllocError, Global};
 use std::sync::ledger::Ledger;

@@ -1,8 +1,8 @@
 // What `wrap` prints.
 ghost use Rattle.std.specs.Prelude.{◌≡◌, ◌≤◌, ◌+◌, ◌++◌, ◌^◌, ◌<◌, All, length, string_bytes, IfOk, OnOk};
 ghost use Rattle.std.specs.Str.{IsAscii};
-ghost use Rattle.program_commands.specs.roopl_semantics.Report.{signed_decimal};
-ghost use Rattle.program_commands.specs.command_plan.Plans.{planned, prints};
+ghost use Rattle.program_runs.specs.run_settings.roopl_semantics.Report.{signed_decimal};
+ghost use Rattle.command_plan.specs.Plans.{planned, prints};
 ghost use Rattle.wrap_commands.specs.WrapShown.{HasAsciiName, result_line, word_lines, initial_line, unknown_result_line};
 
 use command_plan::{Plan, Verdict};

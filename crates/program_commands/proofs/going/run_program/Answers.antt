@@ -1,7 +1,8 @@
 use Rattle.std.proofs.Common.{false}
 use Rattle.roopl_judge.specs.rpp_tree.Views.{source_of}
 use Rattle.command_plan.specs.Plans.{planned}
-use Rattle.program_commands.proofs.Turned.{has_run, runs_image, run_once, weaken}
+use Rattle.program_commands.proofs.Turned.{has_run, runs_image, run_once}
+use Rattle.program_runs.proofs.Weaker.{weaken}
 use Rattle.program_commands.proofs.going.run_program.Goals as goal
 
 pub report_run-requires : goal.report_run-requires

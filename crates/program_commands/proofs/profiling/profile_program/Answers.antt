@@ -5,7 +5,8 @@ use Rattle.roopl_judge.specs.rpp_tree.Views.{source_of}
 use Rattle.command_plan.specs.rpp_probes.Tally.{lines_after}
 use Rattle.store_report.specs.pisa_machine.Told.{counted_steps}
 use Rattle.command_plan.specs.Plans.{planned}
-use Rattle.program_commands.proofs.Turned.{has_run, run_once, broken_within, weaken}
+use Rattle.program_commands.proofs.Turned.{has_run, run_once, broken_within}
+use Rattle.program_runs.proofs.Weaker.{weaken}
 use Rattle.program_commands.proofs.Watched.{profiles_image, err_always, told_short, loaded_short}
 use Rattle.program_commands.proofs.profiling.profile_program.Goals as goal
 

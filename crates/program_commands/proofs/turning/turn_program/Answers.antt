@@ -1,6 +1,7 @@
 use Rattle.roopl_judge.specs.rpp_tree.Views.{source_of}
 use Rattle.command_plan.specs.Plans.{planned}
-use Rattle.program_commands.proofs.Turned.{has_run, weaken_with, both, turned_once}
+use Rattle.program_commands.proofs.Turned.{has_run, both, turned_once}
+use Rattle.program_runs.proofs.Weaker.{weaken_with}
 use Rattle.std.proofs.Common.{◌≡◌, true, inl, inr, ⊎_elim}
 use Rattle.program_commands.specs.ProgramPlans.{steps_back}
 use Rattle.program_commands.proofs.Watched.{turns_image, turns_short, err_weaken}

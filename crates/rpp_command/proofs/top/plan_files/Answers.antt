@@ -3,11 +3,11 @@ use Rattle.command_line.specs.Lines.{asked}
 use Rattle.command_line.specs.command_plan.Files.{LacksOne}
 use Rattle.command_line.specs.command_plan.Reads.{Gave}
 use Rattle.rpp_command.specs.Causes.{files_of}
-use Rattle.rpp_command.specs.Held.{held_texts}
-use Rattle.rpp_command.specs.Places.{HasPlaces, held_bytes}
-use Rattle.rpp_command.specs.Wanted.{file_of}
+use Rattle.plan_serving.specs.Held.{held_texts}
+use Rattle.plan_serving.specs.Places.{HasPlaces, held_bytes}
+use Rattle.plan_serving.specs.Wanted.{file_of}
 use Rattle.rpp_command.proofs.Early.{leaves_same}
-use Rattle.rpp_command.proofs.Fetched.{some_none, none_lacks}
+use Rattle.plan_serving.proofs.Fetched.{some_none, none_lacks}
 use Rattle.rpp_command.proofs.Held.{placed_files, read_plan, told_plan, stops_plan, short_plan}
 use Rattle.rpp_command.proofs.top.plan_files.Goals as goal
 

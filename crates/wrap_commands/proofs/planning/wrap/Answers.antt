@@ -1,7 +1,7 @@
 use Rattle.std.proofs.Common.{◌∙◌, option_map, string_bytes, subst, List, ℕ}
-use Rattle.program_commands.specs.rpp_tree.declared.limits.TheConstants.{MOST_BYTES}
-use Rattle.program_commands.specs.command_plan.Plans.{planned, WithInput}
-use Rattle.program_commands.proofs.command_plan_laws.GivenTexts.{with_text}
+use Rattle.rpp_tree.specs.declared.limits.TheConstants.{MOST_BYTES}
+use Rattle.command_plan.specs.Plans.{planned, WithInput}
+use Rattle.command_plan.proofs.GivenTexts.{with_text}
 use Rattle.wrap_commands.specs.WrapPlans.{IsWrapPlan}
 use Rattle.wrap_commands.proofs.planning.wrap.Goals as goal
 

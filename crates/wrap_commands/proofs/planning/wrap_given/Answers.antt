@@ -1,8 +1,8 @@
 use Rattle.std.proofs.Common.{◌∙◌, List, subst}
-use Rattle.program_commands.specs.rpp_tree.Views.{source_of}
-use Rattle.program_commands.specs.pisa_loader.declared.input.InputField.{InputField}
-use Rattle.program_commands.specs.pisa_loader.InputLines.{AreInput}
-use Rattle.program_commands.proofs.run_settings_laws.ValidInput.{valid_input}
+use Rattle.rpp_tree.specs.Views.{source_of}
+use Rattle.pisa_loader.specs.declared.input.InputField.{InputField}
+use Rattle.pisa_loader.specs.InputLines.{AreInput}
+use Rattle.program_runs.proofs.run_settings_laws.ValidInput.{valid_input}
 use Rattle.wrap_commands.proofs.planning.wrap_given.Goals as goal
 
 pub run_wrapped-requires-clause-valid : goal.run_wrapped-requires-clause-valid

@@ -1,9 +1,9 @@
 use Rattle.std.proofs.Common.{◌≡◌, ◌∙◌, ◌++◌, ◌-◌, ap, ℕ, length, arith}
 use Rattle.std.specs.Prelude.{string_bytes}
-use Rattle.program_commands.specs.rpp_tree.Views.{source_of}
-use Rattle.program_commands.specs.command_plan.declared.plan.Verdict.TheVariants.{Done}
-use Rattle.program_commands.specs.command_plan.Plans.{planned, prints}
-use Rattle.program_commands.specs.command_plan.Texts.{steps_line}
+use Rattle.rpp_tree.specs.Views.{source_of}
+use Rattle.command_plan.specs.declared.plan.Verdict.TheVariants.{Done}
+use Rattle.command_plan.specs.Plans.{planned, prints}
+use Rattle.command_plan.specs.Texts.{steps_line}
 use Rattle.wrap_commands.specs.WrapShown.{word_lines}
 use Rattle.wrap_commands.proofs.Wrapping.{tells_results}
 use Rattle.wrap_commands.proofs.running.report_results.Goals as goal

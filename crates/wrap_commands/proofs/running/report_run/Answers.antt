@@ -1,7 +1,7 @@
 use Rattle.std.proofs.Common.{sym, subst}
-use Rattle.program_commands.specs.rpp_tree.Views.{source_of}
-use Rattle.program_commands.specs.pisa_isa.declared.machine.Stop.{Stop}
-use Rattle.program_commands.specs.command_plan.Plans.{planned}
+use Rattle.rpp_tree.specs.Views.{source_of}
+use Rattle.pisa_isa.specs.declared.machine.Stop.{Stop}
+use Rattle.command_plan.specs.Plans.{planned}
 use Rattle.wrap_commands.specs.WrapPlans.{TellsStop}
 use Rattle.wrap_commands.specs.WrapRun.{HasWrapped}
 use Rattle.wrap_commands.proofs.Wrapping.{no_return, no_bad_address, no_off_code, gives_fault, too_early}

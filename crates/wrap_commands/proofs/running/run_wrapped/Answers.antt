@@ -1,13 +1,13 @@
 use Rattle.std.proofs.Common.{◌≡◌, ◌∙◌, sym, ap, subst, ℕ, List, length, arith}
 use Rattle.std.specs.List.{All}
-use Rattle.program_commands.specs.rpp_tree.Views.{source_of}
-use Rattle.program_commands.specs.pisa_isa.Image.{Segments, IsImage}
-use Rattle.program_commands.specs.pisa_machine.Position.{Position}
-use Rattle.program_commands.specs.pisa_loader.Limiting.{IsInputOf}
+use Rattle.rpp_tree.specs.Views.{source_of}
+use Rattle.pisa_isa.specs.Image.{Segments, IsImage}
+use Rattle.pisa_machine.specs.Position.{Position}
+use Rattle.pisa_loader.specs.Limiting.{IsInputOf}
 use Rattle.refine_wrap.specs.bennett_wrap.Wrapped.{Wrapped}
-use Rattle.program_commands.specs.command_plan.Plans.{planned}
-use Rattle.program_commands.proofs.Turned.{weaken}
-use Rattle.program_commands.proofs.run_settings_laws.ValidInput.{input_fits}
+use Rattle.command_plan.specs.Plans.{planned}
+use Rattle.program_runs.proofs.Weaker.{weaken}
+use Rattle.program_runs.proofs.run_settings_laws.ValidInput.{input_fits}
 use Rattle.wrap_commands.specs.WrapNames.{HasLowNumber, result_cells}
 use Rattle.wrap_commands.proofs.Wrapping.{low_numbers, has_wrapped, wraps_image}
 use Rattle.wrap_commands.proofs.running.run_wrapped.Goals as goal

@@ -1,5 +1,0 @@
-use Rattle.std.proofs.Common.{length}
-use Rattle.rpp_command.proofs.fetching.+fetch.Given as goal
-
-abbrev pub decreases-fetch : goal.decreases-fetch
-decreases-fetch g l = length l.files.now

@@ -1,7 +1,0 @@
--- A file that is to be read, as contracts see it.
-use Rattle.std.specs.Prelude.{string_bytes}
-use Rattle.command_line.specs.command_plan.Files.{Needed}
-use Rattle.rpp_command.specs.declared.fetching.Wanted.{Wanted}
-
-abbrev pub file_of : Wanted → Needed
-file_of wanted = record { name = string_bytes wanted.name; limit = wanted.limit }
