@@ -1,12 +1,9 @@
 -- What the words of a session do, by its parts.
-use Rattle.std.proofs.Common.{◌≡◌, ◌∙◌, ◌∷◌, String, Global, string_bytes, refl, sym, ap, subst, ℕ, List, Some, None}
+use Rattle.std.proofs.Common.{◌≡◌, String, Global, string_bytes, refl, subst, ℕ, List, Some, None}
 use Rattle.std.proofs.Common.{Ok, Err, inl, inr}
-use Rattle.std.specs.Prelude.{Result, ◌⊎◌}
+use Rattle.std.specs.Prelude.{Result}
 use Rattle.std.specs.declared.option.Option.{Option}
-use Rattle.run_settings.specs.rpp_words.declared.input.FieldWord.{FieldWord}
-use Rattle.run_settings.specs.rpp_words.declared.input.Limits.{Limits}
 use Rattle.run_settings.specs.rpp_tree.Views.{source_of}
-use Rattle.run_settings.specs.rpp_ports.Ports.{Texts}
 use Rattle.run_settings.specs.rpp_ports.declared.sink.SinkFault.{SinkFault}
 use Rattle.source_debugger.specs.declared.running.TheConstants.{MOST_COST}
 use Rattle.source_debugger.specs.Standing.{Standing, run_of}
@@ -15,16 +12,20 @@ use Rattle.run_settings.specs.Readied.{IsReadied}
 use Rattle.run_settings.specs.declared.setting.Ready.{Ready}
 use Rattle.run_settings.specs.declared.setting.Ready.TheVariants.{Refused, Runs}
 use Rattle.run_settings.specs.declared.setting.RunSetting.{RunSetting}
-use Rattle.command_plan.specs.Files.{source, input_files, FirstUnread, UnreadLine}
+use Rattle.command_plan.specs.Files.{Needed}
+use Rattle.command_plan.specs.Reads.{Stops, StopsAt}
 use Rattle.command_plan.specs.Plans.{planned, code_of}
 use Rattle.command_plan.specs.declared.plan.Room.{Room}
 use Rattle.command_plan.specs.declared.plan.Plan.{Plan}
 use Rattle.command_plan.specs.declared.plan.NoPlan.{NoPlan}
 use Rattle.command_plan.specs.declared.plan.NoPlan.TheVariants.{Unread}
-use Rattle.live_session.specs.Talks.{Talk, Printed, Puts, Says, status_by}
+use Rattle.plan_serving.specs.Outside.{Shelved}
+use Rattle.plan_serving.proofs.Fetched.{some_none}
+use Rattle.live_session.specs.Talks.{Talk, Printed, Puts, status_by}
 use Rattle.live_session.specs.Sessions.{IsSession}
 use Rattle.live_command.specs.Beginnings.{Begun}
-use Rattle.live_command.specs.Lives.{PutsOnce, Prints, greeting, words_refused, OpensRun, Starts, Begins, Lives}
+use Rattle.live_command.specs.Lives.{PutsOnce, Prints, greeting, words_refused, OpensRun, Starts, Lives}
+use Rattle.live_command.specs.Lives.{files_of}
 
 -- with no line heard
 abbrev pub talk_with : Talk → Printed → Talk
@@ -42,21 +43,23 @@ prints text shown taken talk new status is p = record {
   status_is = p.status_is;
 }
 
-pub lives_not : (it : Option Begun) (told : Option Texts) (rose : Type 0) (talk : Talk)
-    → Lives it told rose talk talk 7
-lives_not None told rose talk = inl (refl, refl)
-lives_not (Some it) told rose talk = inl (refl, refl)
+-- no memory was found before a file was read
+pub lives_not : (it : Option Begun) (rose : Type 0) (shelf : Shelved) (talk : Talk)
+    → Lives it rose shelf shelf talk talk 7
+lives_not None rose shelf talk = (refl, inl (refl, refl))
+lives_not (Some it) rose shelf talk =
+    inr (inr (record { reads = some_none (files_of it) shelf.calls; lacks = (refl, refl) }))
 
-pub lives_none : (it : Option Begun) (told : Option Texts) (rose : Type 0) (before after : Talk) (status : ℕ)
-    → None ≡ it → Prints words_refused 1 before after status → Lives it told rose before after status
-lives_none it told rose before after status is h =
-    subst (λ (it : Option Begun). Lives it told rose before after status) is (inr h)
+pub lives_none : (it : Option Begun) (rose : Type 0) (shelf : Shelved) (before after : Talk) (status : ℕ)
+    → None ≡ it → Prints words_refused 1 before after status → Lives it rose shelf shelf before after status
+lives_none it rose shelf before after status is h =
+    subst (λ (it : Option Begun). Lives it rose shelf shelf before after status) is (refl, inr h)
 
-pub lives_some : (it : Option Begun) (begun : Begun) (told : Option Texts) (rose : Type 0) (before after : Talk)
-    (status : ℕ) → Some begun ≡ it → Begins begun told rose before after status
-    → Lives it told rose before after status
-lives_some it begun told rose before after status is h =
-    subst (λ (it : Option Begun). Lives it told rose before after status) is (inr h)
+pub lives_some : (it : Option Begun) (begun : Begun) (rose : Type 0) (shelf shelf' : Shelved) (before after : Talk)
+    (status : ℕ) → Some begun ≡ it → Lives (Some begun) rose shelf shelf' before after status
+    → Lives it rose shelf shelf' before after status
+lives_some it begun rose shelf shelf' before after status is h =
+    subst (λ (it : Option Begun). Lives it rose shelf shelf' before after status) is h
 
 pub greets : (d : Standing) (talk : Talk) (new : Printed) (after : Talk) (status : ℕ)
     (answer : Result (Unit {0}) SinkFault)
@@ -132,14 +135,16 @@ runs_start text given text' given' room talk after status ready setting text_is 
       run = opens;
     }))
 
-pub unread_begins : (it : Begun) (name : List ℕ) (told : Option Texts) (rose : Type 0) (talk : Talk) (new : Printed)
-    (status : ℕ) (why : NoPlan) (text : String Global) (shown : List ℕ) → name ≡ it.file
-    → UnreadLine (FirstUnread told (source name ∷ input_files it.input) rose) why → why ≡ Unread text
+-- ---- the files
+
+pub unread_lives : (it : Begun) (files : List Needed) (rose : Type 0) (shelf shelf' : Shelved) (talk : Talk)
+    (new : Printed) (status : ℕ) (why : NoPlan) (text : String Global) (shown : List ℕ) → files ≡ files_of it
+    → Stops shelf.texts files rose shelf.calls shelf'.calls why → why ≡ Unread text
     → shown ≡ string_bytes text → PutsOnce shown 2 talk.out new status
-    → Begins it told rose talk (talk_with talk new) status
-unread_begins it name told rose talk new status why text shown name_is h is shown_is puts = inr (inl (record {
+    → Lives (Some it) rose shelf shelf' talk (talk_with talk new) status
+unread_lives it files rose shelf shelf' talk new status why text shown files_is h is shown_is puts = inr (inl (record {
   line = string_bytes text;
-  first = subst (λ (n : List ℕ). FirstUnread told (source n ∷ input_files it.input) rose (string_bytes text)) name_is
-      (subst (λ (w : NoPlan). UnreadLine (FirstUnread told (source name ∷ input_files it.input) rose) w) is h);
+  stops = subst (λ (f : List Needed). StopsAt shelf.texts f rose (string_bytes text) shelf.calls shelf'.calls) files_is
+      (subst (λ (w : NoPlan). Stops shelf.texts files rose shelf.calls shelf'.calls w) is h);
   prints = prints (string_bytes text) shown 2 talk new status shown_is puts;
 }))

@@ -1,18 +1,20 @@
--- What the words of a live session do, and the status. `before` and `after` are the lines that come
--- in, what was heard and what was put, before and after.
-use Rattle.std.specs.Prelude.{◌≡◌, ◌⊎◌, ℕ, List, ◌∷◌, ◌++◌, codes, None, Some, Result, Ok, Err}
+-- What the words of a live session do, and the status. `shelf` and `shelf'` are the file store as
+-- it is passed and as it is left. `before` and `after` are the lines that come in, what was heard
+-- and what was put, before and after.
+use Rattle.std.specs.Prelude.{◌≡◌, ◌⊎◌, ℕ, List, [], ◌∷◌, ◌++◌, get_or, codes, None, Some, Result}
+use Rattle.std.specs.Prelude.{Ok, Err}
 use Rattle.std.specs.declared.option.Option.{Option}
 use Rattle.run_settings.specs.rpp_words.declared.input.FieldWord.{FieldWord}
 use Rattle.run_settings.specs.rpp_words.declared.input.Limits.{Limits}
 use Rattle.run_settings.specs.rpp_words.Texts.{line_end}
 use Rattle.run_settings.specs.rpp_tree.Tree.{Source}
-use Rattle.run_settings.specs.rpp_tree.declared.limits.TheConstants.{MOST_BYTES}
-use Rattle.run_settings.specs.rpp_ports.Ports.{Texts}
 use Rattle.run_settings.specs.rpp_ports.declared.sink.SinkFault.{SinkFault}
 use Rattle.run_settings.specs.Runnable.{RefusesRun, RunsTo}
 use Rattle.command_plan.specs.declared.plan.Room.{Room}
-use Rattle.command_plan.specs.Files.{source, input_files, FirstUnread}
-use Rattle.command_plan.specs.Plans.{Planned, code_of, WithText, WithInput}
+use Rattle.command_plan.specs.Files.{Needed, source, input_files}
+use Rattle.command_plan.specs.Reads.{Gave, StopsAt, ReadsSome}
+use Rattle.command_plan.specs.Plans.{Planned, code_of}
+use Rattle.plan_serving.specs.Outside.{Shelved}
 use Rattle.source_debugger.specs.meaning_points.Trail.{trail}
 use Rattle.live_session.specs.Talks.{Talk, Printed, Puts, Says, status_by}
 use Rattle.live_session.specs.Sessions.{IsSession}
@@ -56,7 +58,8 @@ pub record FailsToGreet (before after : Talk) (status : ℕ) : Type 0 where
   pub status_is : status ≡ status_by 0 (Err fault)
 
 -- what is done with the run of a program
-abbrev pub OpensRun : (before after : Talk) → (status : ℕ) → Source → Limits → List FieldWord → Type 0
+abbrev pub OpensRun : (before after : Talk) → (status : ℕ) → Source → Limits → List FieldWord
+    → Type 0
 OpensRun before after status program limits input =
     LacksMemory before after status
     ⊎ (FailsToGreet before after status ⊎ HoldsSession program limits input before after status)
@@ -75,26 +78,39 @@ Starts text given room before after status =
     LacksMemory before after status ⊎ (Refuses text given room before after status
     ⊎ RunsTo text given room (OpensRun before after status))
 
--- the line on the first file that could not be read is put
-pub record LacksFile (it : Begun) (told : Option Texts) (rose : Type 0) (before after : Talk)
+-- the files that the words name, in order
+abbrev pub files_of : Begun → List Needed
+files_of it = source it.file ∷ input_files it.input
+
+-- the files were read, each once and in order, and a session is begun of their texts: the second
+-- one, if there is one, is the input
+pub record Begins (it : Begun) (shelf shelf' : Shelved) (before after : Talk) (status : ℕ)
+    : Type 0 where
+  pub texts : List (List ℕ)
+  pub gave : Gave shelf.texts (files_of it) texts shelf.calls shelf'.calls
+  pub starts : Starts (get_or texts 0 []) (get_or texts 1 []) it.room before after status
+
+-- the files before one gave their texts, and that one could not be read: the line on it is put
+pub record LacksFile (it : Begun) (rose : Type 0) (shelf shelf' : Shelved) (before after : Talk)
     (status : ℕ) : Type 0 where
   pub line : List ℕ
-  pub first : FirstUnread told (source it.file ∷ input_files it.input) rose line
+  pub stops : StopsAt shelf.texts (files_of it) rose line shelf.calls shelf'.calls
   pub prints : Prints line 2 before after status
 
--- what is done with the files that the words name; `rose` says that the count of faults of the file
--- store rose
-abbrev pub Begins : Begun → (told : Option Texts) → (rose : Type 0) → (before after : Talk)
-    → (status : ℕ) → Type 0
-Begins it told rose before after status =
-    LacksMemory before after status ⊎ (LacksFile it told rose before after status
-    ⊎ WithText told it.file MOST_BYTES (λ text. WithInput told it.input (λ given.
-    Starts text given it.room before after status)))
+-- some first files were read, and then no memory was found
+pub record StopsReading (it : Begun) (shelf shelf' : Shelved) (before after : Talk) (status : ℕ)
+    : Type 0 where
+  pub reads : ReadsSome (files_of it) shelf.calls shelf'.calls
+  pub lacks : LacksMemory before after status
 
--- what the words do
-abbrev pub Lives : Option Begun → (told : Option Texts) → (rose : Type 0) → (before after : Talk)
+-- All that the words do, and the status. `rose` says that the count of faults of the file store
+-- rose.
+abbrev pub Lives : Option Begun → (rose : Type 0) → (shelf shelf' : Shelved) → (before after : Talk)
     → (status : ℕ) → Type 0
-Lives None told rose before after status =
-    LacksMemory before after status ⊎ Prints words_refused 1 before after status
-Lives (Some it) told rose before after status =
-    LacksMemory before after status ⊎ Begins it told rose before after status
+Lives None rose shelf shelf' before after status =
+    (shelf' ≡ shelf) × (LacksMemory before after status
+    ⊎ Prints words_refused 1 before after status)
+Lives (Some it) rose shelf shelf' before after status =
+    Begins it shelf shelf' before after status
+    ⊎ (LacksFile it rose shelf shelf' before after status
+    ⊎ StopsReading it shelf shelf' before after status)

@@ -1,10 +1,16 @@
-// The words that begin a session.
+// The words that begin a session, and the files that they name.
 ghost use Rattle.std.specs.Prelude.{◌≡◌, map, option_map, string_bytes, IfOk};
+ghost use Rattle.plan_serving.specs.Wanted.{file_of};
 ghost use Rattle.live_command.specs.Beginnings.{begun, begin_of, source_begin, begin_with, room_of};
+ghost use Rattle.live_command.specs.Lives.{files_of};
 
 use command_plan::Room;
+use pisa_loader::MOST_INPUT;
 use pisa_scripts::short_number;
+use plan_serving::Wanted;
+use rpp_tree::MOST_BYTES;
 use rpp_words::NoMemory;
+use std::alloc::{AllocError, Global};
 
 /// What a session is held of: the file of a source, the sizes of its memory, and the file of its input,
 /// if there is one.
@@ -54,6 +60,24 @@ fn begins(
         room,
         input,
     }))
+}
+
+/// The files that a session reads, in order.
+pub(crate) fn wanted_files(alloc: Global, it: &Beginning) -> Result<Vec<Wanted>, AllocError>
+    ensures { IfOk result (λ files. map file_of files.items ≡ files_of (begun it.now)) }
+{
+    let mut files = Vec::new(alloc);
+    files.push(Wanted {
+        name: it.file.clone()?,
+        limit: MOST_BYTES as u64,
+    })?;
+    if let Some(name) = &it.input {
+        files.push(Wanted {
+            name: name.clone()?,
+            limit: MOST_INPUT as u64,
+        })?;
+    }
+    Ok(files)
 }
 
 // The sizes of a memory that two words are.

@@ -1,19 +1,21 @@
 // The top call of live sessions.
-ghost use Rattle.std.specs.Prelude.{◌≡◌, ◌≤◌, map, string_bytes, length};
+ghost use Rattle.std.specs.Prelude.{◌≡◌, ◌≤◌, Some, [], get_or, map, string_bytes, length};
 ghost use Rattle.run_settings.specs.rpp_tree.Views.{source_of};
 ghost use Rattle.run_settings.specs.rpp_tree.declared.limits.TheConstants.{MOST_BYTES};
 ghost use Rattle.run_settings.specs.pisa_loader.declared.input.TheConstants.{MOST_INPUT};
 ghost use Rattle.run_settings.specs.rpp_ports.Ports.{Rose};
 ghost use Rattle.source_debugger.specs.Standing.{IsValidRun};
+ghost use Rattle.plan_serving.specs.Places.{held_bytes};
 ghost use Rattle.live_command.specs.Beginnings.{begun, begin_of};
-ghost use Rattle.live_command.specs.Lives.{PutsOnce, Lives, Begins, Starts, OpensRun};
+ghost use Rattle.live_command.specs.Lives.{PutsOnce, Lives, Starts, OpensRun};
 
-use crate::beginning::{Beginning, read_beginning};
+use crate::beginning::{Beginning, read_beginning, wanted_files};
 use class_table::Checked;
-use command_plan::{Given, NoPlan, Room, Sizes, read_given};
+use command_plan::{NoPlan, Room, Sizes};
 use live_port::Asker;
 use live_session::{say, serve, status_by};
-use rpp_ports::{Shelf, Sink};
+use plan_serving::fetch;
+use rpp_ports::{Named, Shelf, Sink};
 use rpp_words::{Input, Limits, NoMemory};
 use run_settings::{Ready, ready};
 use source_debugger::SourceDebugger;
@@ -33,12 +35,16 @@ pub fn live<S: Shelf, A: Asker, K: Sink>(
     asker: &mut A,
     out: &mut K,
 ) -> u8
-    // All that is heard and put, and the status. Words that begin no session, a file that cannot be
-    // read, and what `trace` refuses are reported by one text, and nothing is asked. Else the greeting
-    // is put, and then lines are heard and their replies put, in turn: to each line one, which is
-    // that of the definitions on the points of the run. Nothing else is put.
-    ensures session { Lives (begin_of (map string_bytes words.now)) (S.texts shelf.old)
+    // All that is read, heard and put, and the status. The files that the words name are read, each
+    // once and in order, up to the first that fails, and nothing else is asked of the file store. Words
+    // that begin no session, a file that cannot be read, and what `trace` refuses are reported by one
+    // text, and no line is heard. Else the greeting is put, and then lines are heard and their replies
+    // put, in turn: to each line one, which is that of the definitions on the points of the run.
+    // Nothing else is put.
+    ensures session { Lives (begin_of (map string_bytes words.now))
         (Rose (S.faults shelf.old) (S.faults shelf.new))
+        (record { texts = S.texts shelf.old; calls = S.events shelf.old })
+        (record { texts = S.texts shelf.new; calls = S.events shelf.new })
         (record {
           lines = A.lines asker.old;
           heard = A.events asker.old;
@@ -79,8 +85,10 @@ fn begin<S: Shelf, A: Asker, K: Sink>(
     asker: &mut A,
     out: &mut K,
 ) -> u8
-    ensures session { Begins (begun beginning.now) (S.texts shelf.old)
+    ensures session { Lives (Some (begun beginning.now))
         (Rose (S.faults shelf.old) (S.faults shelf.new))
+        (record { texts = S.texts shelf.old; calls = S.events shelf.old })
+        (record { texts = S.texts shelf.new; calls = S.events shelf.new })
         (record {
           lines = A.lines asker.old;
           heard = A.events asker.old;
@@ -94,24 +102,44 @@ fn begin<S: Shelf, A: Asker, K: Sink>(
     ensures kept { S.texts shelf.new ≡ S.texts shelf.old }
     ensures later { S.faults shelf.old ≤ S.faults shelf.new }
 {
-    match read_given(alloc, shelf, beginning.file.as_str(), &beginning.input) {
+    let Ok(files) = wanted_files(alloc, beginning) else {
+        return NO_MEMORY;
+    };
+    match fetch(alloc, shelf, &files, "") {
         Err(NoPlan::NoMemory) => NO_MEMORY,
         Err(NoPlan::Unread { text }) => report(out, text.as_str(), OUTSIDE),
-        Ok(given) => start(alloc, &given, beginning.room, asker, out),
+        Ok(texts) => {
+            let (text, given) = source_and_input(&texts);
+            start(alloc, text, given, beginning.room, asker, out)
+        }
+    }
+}
+
+// The texts of a source and of an input, which is empty if none was read.
+fn source_and_input(texts: &[Named]) -> (&[u8], &[u8])
+    ensures source { result.0.now ≡ get_or (map held_bytes texts.now) 0 [] }
+    ensures input { result.1.now ≡ get_or (map held_bytes texts.now) 1 [] }
+{
+    let none = b"".as_slice();
+    match texts {
+        [] => (none, none),
+        [text] => (text.bytes.as_slice(), none),
+        [text, input, ..] => (text.bytes.as_slice(), input.bytes.as_slice()),
     }
 }
 
 // Checks the texts.
 fn start<A: Asker, K: Sink>(
     alloc: Global,
-    given: &Given,
+    text: &[u8],
+    given: &[u8],
     room: Room,
     asker: &mut A,
     out: &mut K,
 ) -> u8
-    requires text { length given.now.text.items ≤ MOST_BYTES }
-    requires input { length given.now.input.items ≤ MOST_INPUT }
-    ensures { Starts given.now.text.items given.now.input.items room
+    requires text { length text.now ≤ MOST_BYTES }
+    requires input { length given.now ≤ MOST_INPUT }
+    ensures { Starts text.now given.now room
         (record {
           lines = A.lines asker.old;
           heard = A.events asker.old;
@@ -124,7 +152,7 @@ fn start<A: Asker, K: Sink>(
         }) result }
 {
     let sizes = Sizes { room, bound: 0 };
-    match ready(alloc, &given.text, &given.input, sizes) {
+    match ready(alloc, text, given, sizes) {
         Err(NoMemory) => NO_MEMORY,
         Ok(Ready::Refused(plan)) => report(out, plan.text.as_str(), plan.verdict.code()),
         Ok(Ready::Runs(setting)) => {

@@ -1,19 +1,24 @@
 -- What is put of the reply to a request.
-use Rattle.std.proofs.Common.{◌≡◌, ◌∙◌, refl, sym, ap, subst, ℕ, List, ◌∷◌, Bool, false, true, Some, None, Ok, Err, inl, inr}
+use Rattle.std.proofs.Common.{◌≡◌, ◌∙◌, refl, sym, ap, subst, ℕ, List, ◌∷◌, Bool, false, true, Some, None, Ok, Err, inl}
+use Rattle.std.proofs.Common.{inr}
 use Rattle.std.specs.Prelude.{Option, Result, ⊤}
 use Rattle.source_debugger.specs.meaning_points.rpp_tree.Views.{source_of}
 use Rattle.source_debugger.specs.Standing.{Standing, run_of}
 use Rattle.pisa_scripts.specs.declared.command.Command.{Command}
+use Rattle.pisa_scripts.specs.Lines.{pieces}
 use Rattle.live_port.specs.rpp_ports.declared.sink.SinkFault.{SinkFault}
 use Rattle.live_port.specs.Heard.{Heard, Line, Long, Lost, Over, Failed, Tells}
 use Rattle.live_requests.specs.declared.request.Request.{Request}
 use Rattle.live_requests.specs.declared.request.Request.TheVariants.{Nothing, Carry, Quit, Bad}
 use Rattle.live_requests.specs.Requests.{request_of, is_quit}
+use Rattle.live_searches.specs.declared.asks.Ask.{Ask}
+use Rattle.live_searches.specs.Asks.{ask_of}
 use Rattle.live_session.specs.declared.ends.End.TheVariants as end
 use Rattle.live_session.specs.Ends.{end_line}
 use Rattle.live_session.specs.Talks.{Talk, Printed, Puts, status_by}
 use Rattle.live_session.specs.Sessions.{IsReply, IsLine, quits}
-use Rattle.live_session.specs.Serving.{IsSameRun, Answers, IsReplyTo, PutsText, PutsBye, PutsBy, Goes}
+use Rattle.live_session.specs.Serving.{IsSameRun, Answers, Moves, IsReplyTo, IsReplyBy, IsMoves, PutsText, PutsBye}
+use Rattle.live_session.specs.Serving.{PutsBy, Goes}
 use Rattle.live_session.proofs.Putting.{by_text, goes}
 
 -- what is put of the reply to a request
@@ -21,6 +26,13 @@ abbrev pub PutsTo : Request → (quit : Bool) → (before after : Standing) → 
 PutsTo request quit before after old new result =
     PutsBy (IsReplyTo (source_of before.program) (run_of before) request before.position) quit ⊤ before after old new
     result
+
+-- the same by the line
+abbrev pub PutsByLine : Request → (line : List ℕ) → (quit : Bool) → (before after : Standing) → (old new : Printed)
+    → Option ℕ → Type 0
+PutsByLine request line quit before after old new result =
+    PutsBy (IsReplyBy (source_of before.program) (run_of before) request line before.position) quit ⊤ before after old
+    new result
 
 pub carried_said : (before after : Standing) (command : Command) (text shown : List ℕ) (old new : Printed)
     (result : Option ℕ) → Answers before (Carry command) after text → shown ≡ text → PutsText shown old new result
@@ -42,25 +54,19 @@ pub roomless : (before after : Standing) (request : Request) (quit : Bool) (old 
     → PutsTo request quit before after old old (Some 7)
 roomless before after request quit old = inr (inr (tt, refl, refl))
 
-pub nothing_said : (d : Standing) (request : Request) (old new : Printed) (result : Option ℕ) → request ≡ Nothing
-    → PutsText (end_line end.Done) old new result → PutsTo request (is_quit request) d d old new result
-nothing_said d request old new result is puts =
-    subst (λ (r : Request). PutsTo r (is_quit r) d d old new result) (sym is)
+pub nothing_said : (d : Standing) (request : Request) (line : List ℕ) (old new : Printed) (result : Option ℕ)
+    → request ≡ Nothing → PutsText (end_line end.Done) old new result
+    → PutsByLine request line (is_quit request) d d old new result
+nothing_said d request line old new result is puts =
+    subst (λ (r : Request). PutsByLine r line (is_quit r) d d old new result) (sym is)
     (by_text (IsReplyTo (source_of d.program) (run_of d) Nothing d.position) false ⊤ d d old new result
     (end_line end.Done) puts (inl refl) refl refl)
 
-pub bad_said : (d : Standing) (request : Request) (old new : Printed) (result : Option ℕ) → request ≡ Bad
-    → PutsText (end_line end.Bad) old new result → PutsTo request (is_quit request) d d old new result
-bad_said d request old new result is puts =
-    subst (λ (r : Request). PutsTo r (is_quit r) d d old new result) (sym is)
-    (by_text (IsReplyTo (source_of d.program) (run_of d) Bad d.position) false ⊤ d d old new result (end_line end.Bad)
-    puts (inl refl) refl refl)
-
-pub carry_said : (before after : Standing) (request : Request) (command : Command) (old new : Printed)
+pub carry_said : (before after : Standing) (request : Request) (line : List ℕ) (command : Command) (old new : Printed)
     (result : Option ℕ) → request ≡ Carry command → PutsTo (Carry command) false before after old new result
-    → PutsTo request (is_quit request) before after old new result
-carry_said before after request command old new result is puts =
-    subst (λ (r : Request). PutsTo r (is_quit r) before after old new result) (sym is) puts
+    → PutsByLine request line (is_quit request) before after old new result
+carry_said before after request line command old new result is puts =
+    subst (λ (r : Request). PutsByLine r line (is_quit r) before after old new result) (sym is) puts
 
 bye : (d : Standing) (old new : Printed) (status : ℕ) (answer : Result (Unit {0}) SinkFault)
     → Puts (end_line end.Bye) answer old new → status ≡ status_by 0 answer
@@ -84,11 +90,65 @@ bye_put text answer old new status is puts status_is = record {
   status_is = status_is;
 }
 
-pub quit_said : (d : Standing) (request : Request) (old new : Printed) (status : ℕ) → request ≡ Quit
-    → PutsBye old new status → PutsTo request (is_quit request) d d old new (Some status)
-quit_said d request old new status is puts =
-    subst (λ (r : Request). PutsTo r (is_quit r) d d old new (Some status)) (sym is)
+pub quit_said : (d : Standing) (request : Request) (line : List ℕ) (old new : Printed) (status : ℕ) → request ≡ Quit
+    → PutsBye old new status → PutsByLine request line (is_quit request) d d old new (Some status)
+quit_said d request line old new status is puts =
+    subst (λ (r : Request). PutsByLine r line (is_quit r) d d old new (Some status)) (sym is)
     (bye d old new status puts.answer puts.puts puts.status_is)
+
+-- ---- moves that words ask for
+
+abbrev pub PutsMoves : Option Ask → (words : List (List ℕ)) → (before after : Standing) → (old new : Printed)
+    → Option ℕ → Type 0
+PutsMoves ask words before after old new result =
+    PutsBy (IsMoves (source_of before.program) (run_of before) ask words before.position) false ⊤ before after old new
+    result
+
+pub moves_said : (before after : Standing) (ask : Ask) (words : List (List ℕ)) (text shown : List ℕ)
+    (old new : Printed) (result : Option ℕ) → Moves before ask words after text → shown ≡ text
+    → PutsText shown old new result → PutsMoves (Some ask) words before after old new result
+moves_said before after ask words text shown old new result moves is puts =
+    by_text (IsMoves (source_of before.program) (run_of before) (Some ask) words before.position) false ⊤ before after
+    old new result text (subst (λ (t : List ℕ). PutsText t old new result) is puts) (inl moves.replied) refl
+    moves.same
+
+pub moves_unsaid : (before after : Standing) (ask : Option Ask) (words : List (List ℕ)) (old new : Printed)
+    (result : Option ℕ) → after ≡ before → PutsText (end_line end.Memory) old new result
+    → PutsMoves ask words before after old new result
+moves_unsaid before after ask words old new result same puts =
+    by_text (IsMoves (source_of before.program) (run_of before) ask words before.position) false ⊤ before after old new
+    result (end_line end.Memory) puts (inr (refl, ap (λ (d : Standing). d.position) same)) refl
+    (subst (λ (d : Standing). IsSameRun before d) (sym same) refl)
+
+pub moves_roomless : (before after : Standing) (ask : Ask) (words : List (List ℕ)) (old : Printed)
+    → PutsMoves (Some ask) words before after old old (Some 7)
+moves_roomless before after ask words old = inr (inr (tt, refl, refl))
+
+pub no_moves : (d : Standing) (ask : Option Ask) (words : List (List ℕ)) (old new : Printed) (result : Option ℕ)
+    → ask ≡ None → PutsText (end_line end.Bad) old new result → PutsMoves ask words d d old new result
+no_moves d ask words old new result is puts =
+    subst (λ (a : Option Ask). PutsMoves a words d d old new result) (sym is)
+    (by_text (IsMoves (source_of d.program) (run_of d) None words d.position) false ⊤ d d old new result
+    (end_line end.Bad) puts (inl refl) refl refl)
+
+pub some_moves : (before after : Standing) (ask : Option Ask) (it : Ask) (words : List (List ℕ)) (old new : Printed)
+    (result : Option ℕ) → ask ≡ Some it → PutsMoves (Some it) words before after old new result
+    → PutsMoves ask words before after old new result
+some_moves before after ask it words old new result is puts =
+    subst (λ (a : Option Ask). PutsMoves a words before after old new result) (sym is) puts
+
+-- a line by its words
+pub words_said : (before after : Standing) (words line_words : List (List ℕ)) (old new : Printed)
+    (result : Option ℕ) → words ≡ line_words → PutsMoves (ask_of words) words before after old new result
+    → PutsMoves (ask_of line_words) line_words before after old new result
+words_said before after words line_words old new result is puts =
+    subst (λ (w : List (List ℕ)). PutsMoves (ask_of w) w before after old new result) is puts
+
+pub asked_said : (before after : Standing) (request : Request) (line : List ℕ) (old new : Printed) (result : Option ℕ)
+    → request ≡ Bad → PutsMoves (ask_of (pieces 32 line)) (pieces 32 line) before after old new result
+    → PutsByLine request line (is_quit request) before after old new result
+asked_said before after request line old new result is puts =
+    subst (λ (r : Request). PutsByLine r line (is_quit r) before after old new result) (sym is) puts
 
 -- what is put of the reply to a line
 abbrev pub PutsToHeard : Heard → (N : Type 0) → (before after : Standing) → (old new : Printed) → Option ℕ → Type 0
@@ -97,16 +157,17 @@ PutsToHeard it N before after old new result =
     result
 
 pub line_said : (before after : Standing) (line : List ℕ) (request : Request) (old new : Printed) (result : Option ℕ)
-    → request ≡ request_of line → PutsTo request (is_quit request) before after old new result
+    → request ≡ request_of line → PutsByLine request line (is_quit request) before after old new result
     → PutsToHeard (Line line) ⊤ before after old new result
 line_said before after line request old new result is puts =
-    subst (λ (r : Request). PutsTo r (is_quit r) before after old new result) is puts
+    subst (λ (r : Request). PutsByLine r line (is_quit r) before after old new result) is puts
 
 pub line_unsaid : (d : Standing) (line : List ℕ) (old new : Printed) (result : Option ℕ)
     → is_quit (request_of line) ≡ false → PutsText (end_line end.Memory) old new result
     → PutsToHeard (Line line) ⊤ d d old new result
 line_unsaid d line old new result on puts =
-    unsaid d d (request_of line) (is_quit (request_of line)) old new result refl on puts
+    by_text (IsReply (source_of d.program) (run_of d) (Line line) d.position) (is_quit (request_of line)) ⊤ d d old new
+    result (end_line end.Memory) puts (inr (refl, refl)) on refl
 
 pub long_said : (d : Standing) (old new : Printed) (result : Option ℕ) → PutsText (end_line end.Long) old new result
     → PutsToHeard Long ⊥ d d old new result

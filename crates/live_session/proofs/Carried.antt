@@ -7,9 +7,15 @@ use Rattle.pisa_scripts.specs.declared.command.Command.{Command}
 use Rattle.source_debugger.specs.Shown.{Told, told_by, and_told}
 use Rattle.source_debugger.specs.Standing.{Standing, run_of, Leads}
 use Rattle.live_requests.specs.declared.request.Request.TheVariants.{Carry}
-use Rattle.live_session.specs.Ends.{end_line, end_shown}
-use Rattle.live_session.specs.Replies.{with_end}
-use Rattle.live_session.specs.Serving.{Answers}
+use Rattle.live_searches.specs.declared.asks.Ask.{Ask}
+use Rattle.live_searches.specs.declared.asks.Goal.{Goal}
+use Rattle.live_searches.specs.declared.moves.Outcome.{Outcome}
+use Rattle.live_searches.specs.Asks.{arguments}
+use Rattle.live_searches.specs.Searches.{Found}
+use Rattle.live_searches.specs.Makings.{made}
+use Rattle.live_session.specs.Ends.{end_line, end_shown, end_moved}
+use Rattle.live_session.specs.Replies.{with_end, with_end_moved}
+use Rattle.live_session.specs.Serving.{IsSameRun, Answers, Moves}
 
 -- a single command
 one_told : (o : Option Told) (t : Told) → and_told o (λ (k : ℕ). Some (record { position = k; text = [] })) ≡ Some t
@@ -44,3 +50,30 @@ carried_ok view (Ok reply) before after command from to text shown leads from_is
     ∙ ap (λ (j : ℕ). text ++ end_line (end_shown command j to text)) from_is
     ∙ ap (λ (j : ℕ). text ++ end_line (end_shown command before.position j text)) to_is)
 carried_ok view (Err e) before after command from to text shown leads from_is to_is text_is h = tt
+
+-- ---- moves that words ask for
+
+moved : (before after : Standing) (ask : Ask) (words args : List (List ℕ)) (text reply : List ℕ) (how : Outcome)
+    → args ≡ arguments ask.back words
+    → made (source_of before.program) (run_of before) ask args before.position
+    ≡ Some (record { position = after.position; text = text; how = how })
+    → IsSameRun before after → reply ≡ text ++ end_line (end_moved ask.goal how text)
+    → Moves before ask words after reply
+moved before after ask words args text reply how args_is made_is same is = record {
+  replied = ap (λ (a : List (List ℕ)). with_end_moved ask.goal (made (source_of before.program) (run_of before) ask a
+      before.position)) (sym args_is)
+      ∙ ap (with_end_moved ask.goal) made_is
+      ∙ ap (λ (x : List ℕ). Some (record { position = after.position; text = x })) (sym is);
+  same = same;
+}
+
+pub moved_ok : {X E : Type 0} (view : X → List ℕ) (result : Result X E) (before after : Standing) (ask : Ask)
+    (words args : List (List ℕ)) (text : List ℕ) (how : Outcome) → args ≡ arguments ask.back words
+    → made (source_of before.program) (run_of before) ask args before.position
+    ≡ Some (record { position = after.position; text = text; how = how })
+    → IsSameRun before after
+    → IfOk result (λ reply. view reply ≡ text ++ end_line (end_moved ask.goal how text))
+    → IfOk result (λ reply. Moves before ask words after (view reply))
+moved_ok view (Ok reply) before after ask words args text how args_is made_is same h =
+    moved before after ask words args text (view reply) how args_is made_is same h
+moved_ok view (Err e) before after ask words args text how args_is made_is same h = tt

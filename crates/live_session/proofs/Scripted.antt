@@ -1,5 +1,6 @@
 -- The lines of a script are requests.
-use Rattle.std.proofs.Common.{◌≡◌, ◌∙◌, refl, sym, ap, subst, cond, ℕ, zero, suc, ◌+◌, List, [], ◌∷◌, ◌++◌, Bool, true, false, Some, None, Result, Ok, Err, append_assoc, append-nil}
+use Rattle.std.proofs.Common.{◌≡◌, ◌∙◌, refl, sym, ap, subst, cond, ℕ, zero, suc, ◌+◌, List, [], ◌∷◌, ◌++◌, Bool, true}
+use Rattle.std.proofs.Common.{false, Some, None, Result, Ok, Err, append_assoc, append-nil}
 use Rattle.std.specs.Prelude.{Option, nat_eq, ◌&&◌, ◌||◌, if◌then◌else◌, codes}
 use Rattle.std.proofs.lemmas.Bool.{false_from_ne_true}
 use Rattle.std.proofs.lemmas.Slice.Eq.{bytes_eq-Decides}
@@ -11,11 +12,12 @@ use Rattle.source_debugger.specs.meaning_points.rpp_tree.Tree.{Source}
 use Rattle.source_debugger.specs.meaning_points.Trail.{Trail}
 use Rattle.source_debugger.specs.Shown.{Told, told, told_by, and_told, behind_text}
 use Rattle.live_requests.specs.two_way_debugger.declared.error.ScriptError.{ScriptError}
-use Rattle.live_requests.specs.two_way_debugger.Scripts.{script_of, command_of, with_command, with_line, and_then, commands_from}
+use Rattle.live_requests.specs.two_way_debugger.Scripts.{script_of, command_of, with_command, with_line, and_then}
+use Rattle.live_requests.specs.two_way_debugger.Scripts.{commands_from}
 use Rattle.live_requests.specs.declared.request.Request.{Request}
 use Rattle.live_requests.specs.declared.request.Request.TheVariants.{Nothing, Carry, Quit, Bad}
 use Rattle.live_requests.specs.Requests.{asked, read_as, request_of}
-use Rattle.live_session.specs.Replies.{said, said_of}
+use Rattle.live_session.specs.Replies.{said_to, said_of}
 
 -- ---- lines have no line feed
 
@@ -142,7 +144,7 @@ blank_line before commands line lines is h = record {
   rest = h.rest;
   joined = h.joined;
   same = λ program trail j.
-      ap (λ (r : Request). and_told (said program trail r j) (said_of program trail lines)) is
+      ap (λ (r : Request). and_told (said_to program trail r line j) (said_of program trail lines)) is
       ∙ behind_nothing (said_of program trail lines j) ∙ h.same program trail j;
 }
 
@@ -153,7 +155,7 @@ command_line before commands command line lines is h = record {
   rest = command ∷ h.rest;
   joined = h.joined ∙ append_assoc before (command ∷ []) h.rest;
   same = λ program trail j.
-      ap (λ (r : Request). and_told (said program trail r j) (said_of program trail lines)) is
+      ap (λ (r : Request). and_told (said_to program trail r line j) (said_of program trail lines)) is
       ∙ said_next (told_by program trail command j) (said_of program trail lines) (told program trail h.rest)
       (h.same program trail);
 }

@@ -1,17 +1,23 @@
 -- How replies end.
-use Rattle.std.specs.Prelude.{ℕ, ◌==◌, ◌+◌, ◌-◌, Bool, ◌&&◌, nat_lt, if◌then◌else◌, List, ◌++◌, codes}
+use Rattle.std.specs.Prelude.{ℕ, ◌==◌, ◌+◌, ◌-◌, Bool, true, ◌&&◌, nat_lt, if◌then◌else◌, List, ◌++◌, codes}
 use Rattle.std.specs.List.{list_any}
 use Rattle.pisa_scripts.specs.rpp_words.Texts.{line_end}
 use Rattle.pisa_scripts.specs.declared.command.Command.{Command}
 use Rattle.pisa_scripts.specs.declared.command.Command.TheVariants.{Step, Back, To, BackTo}
 use Rattle.pisa_scripts.specs.declared.command.Command.TheVariants.{Regs, Cells}
+use Rattle.live_searches.specs.declared.asks.Goal.{Goal}
+use Rattle.live_searches.specs.declared.asks.Goal.TheVariants.{Points}
+use Rattle.live_searches.specs.declared.moves.Outcome.{Outcome}
+use Rattle.live_searches.specs.declared.moves.Outcome.TheVariants as outcome
 use Rattle.live_session.specs.declared.ends.End.{End}
-use Rattle.live_session.specs.declared.ends.End.TheVariants.{Done, Start, Over, Fault, Bad, Long}
-use Rattle.live_session.specs.declared.ends.End.TheVariants.{Memory, Bye}
+use Rattle.live_session.specs.declared.ends.End.TheVariants.{Done, Met, More, Start, Over, Fault}
+use Rattle.live_session.specs.declared.ends.End.TheVariants.{Bad, Long, Memory, Bye}
 
 -- the last line of a reply
 abbrev pub end_line : End → List ℕ
 end_line Done = codes ". done" ++ line_end
+end_line Met = codes ". met" ++ line_end
+end_line More = codes ". more" ++ line_end
 end_line Start = codes ". start" ++ line_end
 end_line Over = codes ". end" ++ line_end
 end_line Fault = codes ". fault" ++ line_end
@@ -43,3 +49,14 @@ end_shown (To place n) from to text = end_in (is_short n from to) text
 end_shown (BackTo place n) from to text = end_in (is_short n from to) text
 end_shown Regs from to text = Done
 end_shown (Cells number count) from to text = Done
+
+-- how moves end that were all made, by what they look for
+abbrev pub end_of_all : Goal → End
+end_of_all Points = Done
+end_of_all goal = More
+
+-- how the reply to moves ends that printed this
+abbrev pub end_moved : Goal → Outcome → List ℕ → End
+end_moved goal outcome.Met text = Met
+end_moved goal outcome.Made text = end_of_all goal
+end_moved goal outcome.Stopped text = end_in true text

@@ -1,14 +1,20 @@
 -- The replies to requests, and where they lead.
 use Rattle.std.specs.Prelude.{ℕ, List, [], ◌∷◌, ◌++◌, Option, Some, None}
+use Rattle.pisa_scripts.specs.Lines.{pieces}
 use Rattle.source_debugger.specs.meaning_points.rpp_tree.Tree.{Source}
 use Rattle.source_debugger.specs.meaning_points.Trail.{Trail}
 use Rattle.source_debugger.specs.Shown.{Told, told_by, and_told}
 use Rattle.live_requests.specs.declared.request.Request.{Request}
 use Rattle.live_requests.specs.declared.request.Request.TheVariants.{Nothing, Carry, Quit, Bad}
 use Rattle.live_requests.specs.Requests.{request_of}
+use Rattle.live_searches.specs.declared.asks.Ask.{Ask}
+use Rattle.live_searches.specs.declared.asks.Goal.{Goal}
+use Rattle.live_searches.specs.Asks.{ask_of, arguments}
+use Rattle.live_searches.specs.Searches.{Found}
+use Rattle.live_searches.specs.Makings.{made}
 use Rattle.live_session.specs.declared.ends.End.{End}
 use Rattle.live_session.specs.declared.ends.End.TheVariants as end
-use Rattle.live_session.specs.Ends.{end_line, end_shown}
+use Rattle.live_session.specs.Ends.{end_line, end_shown, end_moved}
 
 -- what a reply says before its last line, and where it leads: what `trace` prints of a command, and
 -- nothing of the other requests
@@ -35,8 +41,46 @@ with_end request from (Some told) =
 abbrev pub replied : Source → Trail → Request → ℕ → Option Told
 replied program trail request j = with_end request j (said program trail request j)
 
+-- ---- lines that are no command of a script
+
+-- what a reply says before its last line: what moves print that the words ask for, or nothing
+abbrev pub told_of : Option Found → Option Told
+told_of None = None
+told_of (Some found) = Some (record { position = found.position; text = found.text })
+
+abbrev pub said_by : Source → Trail → Option Ask → (words : List (List ℕ)) → ℕ → Option Told
+said_by program trail None words j = Some (record { position = j; text = [] })
+said_by program trail (Some ask) words j =
+    told_of (made program trail ask (arguments ask.back words) j)
+
+-- the same with the last line
+abbrev pub with_end_moved : Goal → Option Found → Option Told
+with_end_moved goal None = None
+with_end_moved goal (Some found) =
+    Some (record {
+      position = found.position;
+      text = found.text ++ end_line (end_moved goal found.how found.text);
+    })
+
+abbrev pub replied_by : Source → Trail → Option Ask → (words : List (List ℕ)) → ℕ → Option Told
+replied_by program trail None words j = Some (record { position = j; text = end_line end.Bad })
+replied_by program trail (Some ask) words j =
+    with_end_moved ask.goal (made program trail ask (arguments ask.back words) j)
+
+-- ---- all lines
+
+abbrev pub said_to : Source → Trail → Request → (line : List ℕ) → ℕ → Option Told
+said_to program trail Bad line j = said_by program trail (ask_of (pieces 32 line)) (pieces 32 line) j
+said_to program trail request line j = said program trail request j
+
+-- the reply to a line, by the request that it is read as
+abbrev pub replied_to : Source → Trail → Request → (line : List ℕ) → ℕ → Option Told
+replied_to program trail Bad line j =
+    replied_by program trail (ask_of (pieces 32 line)) (pieces 32 line) j
+replied_to program trail request line j = replied program trail request j
+
 -- what the replies to lines say before their last lines, one after the other
 abbrev pub said_of : Source → Trail → List (List ℕ) → ℕ → Option Told
 said_of program trail [] j = Some (record { position = j; text = [] })
 said_of program trail (line ∷ lines) j =
-    and_told (said program trail (request_of line) j) (said_of program trail lines)
+    and_told (said_to program trail (request_of line) line j) (said_of program trail lines)

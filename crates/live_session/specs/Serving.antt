@@ -7,9 +7,10 @@ use Rattle.source_debugger.specs.meaning_points.Trail.{Trail}
 use Rattle.source_debugger.specs.Standing.{Standing, run_of}
 use Rattle.live_port.specs.rpp_ports.declared.sink.SinkFault.{SinkFault}
 use Rattle.live_requests.specs.declared.request.Request.{Request}
+use Rattle.live_searches.specs.declared.asks.Ask.{Ask}
 use Rattle.live_session.specs.declared.ends.End.TheVariants.{Memory, Bye}
 use Rattle.live_session.specs.Ends.{end_line}
-use Rattle.live_session.specs.Replies.{replied}
+use Rattle.live_session.specs.Replies.{replied, replied_to, replied_by}
 use Rattle.live_session.specs.Talks.{Talk, Printed, Puts, status_by, over_by}
 use Rattle.live_session.specs.Sessions.{IsAlone, Replies, Closes}
 
@@ -29,6 +30,27 @@ abbrev pub IsReplyTo : Source → Trail → Request → (from : ℕ) → (reply 
 IsReplyTo program trail request from reply to =
     (replied program trail request from ≡ Some (record { position = to; text = reply }))
     ⊎ IsAlone Memory from reply to
+
+-- the same by the line
+abbrev pub IsReplyBy : Source → Trail → Request → (line : List ℕ) → (from : ℕ) → (reply : List ℕ)
+    → (to : ℕ) → Type 0
+IsReplyBy program trail request line from reply to =
+    (replied_to program trail request line from
+    ≡ Some (record { position = to; text = reply })) ⊎ IsAlone Memory from reply to
+
+-- the reply to moves that words ask for
+abbrev pub IsMoves : Source → Trail → Option Ask → (words : List (List ℕ)) → (from : ℕ)
+    → (reply : List ℕ) → (to : ℕ) → Type 0
+IsMoves program trail ask words from reply to =
+    (replied_by program trail ask words from
+    ≡ Some (record { position = to; text = reply })) ⊎ IsAlone Memory from reply to
+
+-- moves that are asked for led there, and this is the reply to them
+pub record Moves (before : Standing) (ask : Ask) (words : List (List ℕ)) (after : Standing)
+    (reply : List ℕ) : Type 0 where
+  pub replied : replied_by (source_of before.program) (run_of before) (Some ask) words
+      before.position ≡ Some (record { position = after.position; text = reply })
+  pub same : IsSameRun before after
 
 -- a text was put; if it was not taken, the session ends with this status
 pub record PutsText (text : List ℕ) (old new : Printed) (over : Option ℕ) : Type 0 where

@@ -9,7 +9,7 @@ use Rattle.live_requests.specs.Requests.{request_of, is_quit}
 use Rattle.live_session.specs.declared.ends.End.{End}
 use Rattle.live_session.specs.declared.ends.End.TheVariants as end
 use Rattle.live_session.specs.Ends.{end_line}
-use Rattle.live_session.specs.Replies.{replied}
+use Rattle.live_session.specs.Replies.{replied_to}
 use Rattle.live_session.specs.Talks.{Talk, Hears, Says, status_by}
 
 -- a reply that is one last line, and leads nowhere
@@ -20,7 +20,7 @@ IsAlone it from reply to = (reply ≡ end_line it) × (to ≡ from)
 -- reply to a line, it says so and leads nowhere.
 abbrev pub IsReply : Source → Trail → Heard → (from : ℕ) → (reply : List ℕ) → (to : ℕ) → Type 0
 IsReply program trail (Line bytes) from reply to =
-    (replied program trail (request_of bytes) from
+    (replied_to program trail (request_of bytes) bytes from
     ≡ Some (record { position = to; text = reply })) ⊎ IsAlone end.Memory from reply to
 IsReply program trail Long from reply to = IsAlone end.Long from reply to
 IsReply program trail Lost from reply to = IsAlone end.Memory from reply to

@@ -1,7 +1,8 @@
 // How replies end.
 ghost use Rattle.std.specs.Prelude.{◌≡◌, ◌+◌, ◌-◌};
-ghost use Rattle.live_session.specs.Ends.{end_line as line_of_end, is_short as is_short_of, has as has_letter, end_in as end_in_text, end_shown as shown_end};
+ghost use Rattle.live_session.specs.Ends.{end_line as line_of_end, is_short as is_short_of, has as has_letter, end_in as end_in_text, end_shown as shown_end, end_of_all, end_moved as moved_end};
 
+use live_searches::{Goal, Outcome};
 use pisa_scripts::Command;
 
 /// How a reply ends.
@@ -9,6 +10,10 @@ use pisa_scripts::Command;
 pub enum End {
     /// The reply is complete. After moves: all were made, or the place was met.
     Done,
+    /// A search ended at a position that it looks for.
+    Met,
+    /// A search made all moves, and met no such position.
+    More,
     /// The moves back reached position 0 before all were made.
     Start,
     /// The run ended before all moves were made.
@@ -31,6 +36,8 @@ pub fn end_line(end: End) -> &'static str
 {
     match end {
         End::Done => ". done\n",
+        End::Met => ". met\n",
+        End::More => ". more\n",
         End::Start => ". start\n",
         End::Over => ". end\n",
         End::Fault => ". fault\n",
@@ -88,5 +95,28 @@ pub(crate) fn end_shown(command: Command, from: u64, to: u64, text: &str) -> End
         Command::BackTo(_, most) => end_in(is_short(most, from, to), text),
         Command::Regs => End::Done,
         Command::Cells(_, _) => End::Done,
+    }
+}
+
+// How moves end that were all made, by what they look for.
+fn end_all(goal: Goal) -> End
+    ensures { result ≡ end_of_all goal }
+{
+    match goal {
+        Goal::Points => End::Done,
+        Goal::Any => End::More,
+        Goal::Depth(_most) => End::More,
+        Goal::Change => End::More,
+    }
+}
+
+/// How the reply to moves ends that printed this.
+pub(crate) fn end_moved(goal: Goal, how: Outcome, text: &str) -> End
+    ensures { result ≡ moved_end goal how text.now }
+{
+    match how {
+        Outcome::Met => End::Met,
+        Outcome::Made => end_all(goal),
+        Outcome::Stopped => end_in(true, text),
     }
 }

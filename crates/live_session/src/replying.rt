@@ -1,16 +1,19 @@
 // The replies to requests.
-ghost use Rattle.std.specs.Prelude.{◌≡◌, ◌++◌, false, ⊤, IfOk, IsErrOf, string_bytes};
+ghost use Rattle.std.specs.Prelude.{◌≡◌, ◌++◌, false, ⊤, IfOk, IsErrOf, map, Some, string_bytes};
+ghost use Rattle.pisa_scripts.specs.Lines.{pieces as pieces_of};
 ghost use Rattle.source_debugger.specs.meaning_points.rpp_tree.Views.{source_of};
 ghost use Rattle.source_debugger.specs.Standing.{run_of};
 ghost use Rattle.live_requests.specs.declared.request.Request.TheVariants.{Carry};
 ghost use Rattle.live_requests.specs.Requests.{is_quit};
-ghost use Rattle.live_session.specs.Ends.{end_line as line_of_end, end_shown as end_of_command};
-ghost use Rattle.live_session.specs.Serving.{Answers, IsReplyTo, PutsText, PutsBye, PutsBy};
+ghost use Rattle.live_searches.specs.Asks.{ask_of};
+ghost use Rattle.live_session.specs.Ends.{end_line as line_of_end, end_shown as end_of_command, end_moved as end_of_moves};
+ghost use Rattle.live_session.specs.Serving.{Answers, IsReplyTo, IsReplyBy, IsMoves, Moves, PutsText, PutsBye, PutsBy};
 
-use crate::ends::{End, end_line, end_shown};
+use crate::ends::{End, end_line, end_moved, end_shown};
 use crate::saying::{over_by, say, status_by};
 use live_requests::Request;
-use pisa_scripts::Command;
+use live_searches::{Ask, Goal, Lost, Moved, arguments, make, read_ask};
+use pisa_scripts::{Command, pieces};
 use rpp_ports::Sink;
 use rpp_words::NoMemory;
 use source_debugger::SourceDebugger;
@@ -106,15 +109,106 @@ fn say_carried<K: Sink>(
     }
 }
 
-/// Puts the reply to a request. There is a status where the session ends.
+// What moves printed, and the last line.
+fn ended_moves(goal: Goal, moved: Moved) -> Result<String, Unanswered>
+    ensures told { IfOk result (λ reply. string_bytes reply ≡ string_bytes moved.text
+        ++ line_of_end (end_of_moves goal moved.how (string_bytes moved.text))) }
+    ensures moved { IsErrOf result Unanswered.Unmoved → ⊥ }
+{
+    let mut text = moved.text;
+    let last = end_line(end_moved(goal, moved.how, text.as_str()));
+    match text.push_str(last) {
+        Ok(()) => Ok(text),
+        Err(_) => Err(Unanswered::Moved),
+    }
+}
+
+// Makes the moves that words ask for.
+fn carry_moves(
+    alloc: Global,
+    debugger: &mut SourceDebugger<'_>,
+    ask: Ask,
+    words: &[&[u8]],
+) -> Result<String, Unanswered>
+    ensures told { IfOk result (λ text. Moves debugger.old ask (map (λ word. word.now) words.now)
+        debugger.new (string_bytes text)) }
+    ensures stays { IsErrOf result Unanswered.Unmoved → debugger.new ≡ debugger.old }
+{
+    match make(alloc, debugger, ask, arguments(ask.back, words)) {
+        Ok(moved) => ended_moves(ask.goal, moved),
+        Err(Lost::Unmoved) => Err(Unanswered::Unmoved),
+        Err(Lost::Moved) => Err(Unanswered::Moved),
+    }
+}
+
+// Makes the moves that words ask for, and puts the reply.
+fn say_moves<K: Sink>(
+    alloc: Global,
+    debugger: &mut SourceDebugger<'_>,
+    ask: Ask,
+    words: &[&[u8]],
+    out: &mut K,
+) -> Option<u8>
+    ensures { PutsBy (IsMoves (source_of debugger.old.program) (run_of debugger.old) (Some ask)
+        (map (λ word. word.now) words.now) debugger.old.position) false ⊤ debugger.old
+        debugger.new (record { bytes = K.written out.old; puts = K.puts out.old })
+        (record { bytes = K.written out.new; puts = K.puts out.new }) result }
+{
+    match carry_moves(alloc, debugger, ask, words) {
+        Ok(text) => say_text(out, text.as_str()),
+        Err(Unanswered::Unmoved) => say_end(out, End::Memory),
+        Err(Unanswered::Moved) => Some(NO_MEMORY),
+    }
+}
+
+// Puts the reply to words that are no command of a script.
+fn say_words<K: Sink>(
+    alloc: Global,
+    debugger: &mut SourceDebugger<'_>,
+    words: &[&[u8]],
+    out: &mut K,
+) -> Option<u8>
+    ensures { PutsBy (IsMoves (source_of debugger.old.program) (run_of debugger.old)
+        (ask_of (map (λ word. word.now) words.now)) (map (λ word. word.now) words.now)
+        debugger.old.position) false ⊤ debugger.old debugger.new
+        (record { bytes = K.written out.old; puts = K.puts out.old })
+        (record { bytes = K.written out.new; puts = K.puts out.new }) result }
+{
+    match read_ask(words) {
+        None => say_end(out, End::Bad),
+        Some(ask) => say_moves(alloc, debugger, ask, words, out),
+    }
+}
+
+// Puts the reply to a line that is no command of a script.
+fn say_asked<K: Sink>(
+    alloc: Global,
+    debugger: &mut SourceDebugger<'_>,
+    line: &[u8],
+    out: &mut K,
+) -> Option<u8>
+    ensures { PutsBy (IsMoves (source_of debugger.old.program) (run_of debugger.old)
+        (ask_of (pieces_of 32 line.now)) (pieces_of 32 line.now) debugger.old.position) false ⊤
+        debugger.old debugger.new (record { bytes = K.written out.old; puts = K.puts out.old })
+        (record { bytes = K.written out.new; puts = K.puts out.new }) result }
+{
+    match pieces(alloc, b' ', line) {
+        Ok(words) => say_words(alloc, debugger, &words, out),
+        Err(_lack) => say_end(out, End::Memory),
+    }
+}
+
+/// Puts the reply to a line, by the request that it is read as. There is a status where the session
+/// ends.
 pub(crate) fn answer<K: Sink>(
     alloc: Global,
     debugger: &mut SourceDebugger<'_>,
     request: Request,
+    line: &[u8],
     out: &mut K,
 ) -> Option<u8>
-    ensures { PutsBy (IsReplyTo (source_of debugger.old.program) (run_of debugger.old) request
-        debugger.old.position) (is_quit request) ⊤ debugger.old debugger.new
+    ensures { PutsBy (IsReplyBy (source_of debugger.old.program) (run_of debugger.old) request
+        line.now debugger.old.position) (is_quit request) ⊤ debugger.old debugger.new
         (record { bytes = K.written out.old; puts = K.puts out.old })
         (record { bytes = K.written out.new; puts = K.puts out.new }) result }
 {
@@ -122,6 +216,6 @@ pub(crate) fn answer<K: Sink>(
         Request::Nothing => say_end(out, End::Done),
         Request::Carry(command) => say_carried(alloc, debugger, command, out),
         Request::Quit => Some(say_bye(out)),
-        Request::Bad => say_end(out, End::Bad),
+        Request::Bad => say_asked(alloc, debugger, line, out),
     }
 }

@@ -30,7 +30,7 @@ fn answer_line<K: Sink>(
         (record { bytes = K.written out.new; puts = K.puts out.new }) result }
 {
     match read_request(alloc, line) {
-        Ok(request) => answer(alloc, debugger, request, out),
+        Ok(request) => answer(alloc, debugger, request, line, out),
         Err(NoMemory) => say_end(out, End::Memory),
     }
 }

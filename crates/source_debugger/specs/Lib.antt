@@ -5,6 +5,7 @@ pub mod Ended
 pub mod Walks
 pub mod Named
 pub mod Placed
+pub mod Looks
 pub mod Shown
 pub mod Standing
 pub mod DebuggerLaws

@@ -5,9 +5,12 @@ ghost use Rattle.source_meaning.specs.meaning_points.Trail.{trail};
 ghost use Rattle.source_debugger.specs.declared.running.TheConstants.{MOST_COST};
 ghost use Rattle.source_debugger.specs.declared.moves.TheConstants.{LAST_POSITION};
 ghost use Rattle.source_debugger.specs.Shown.{told_by, walked};
-ghost use Rattle.source_debugger.specs.Standing.{IsValidRun, Leads, IsAlong};
+ghost use Rattle.source_debugger.specs.Standing.{IsValidRun, run_of, Leads, IsAlong};
 ghost use Rattle.source_debugger.specs.Courses.{Holds};
+ghost use Rattle.source_debugger.specs.Looks.{seen_of};
+ghost use Rattle.source_debugger.specs.Walks.{stand_at};
 
+use crate::looking::{Seen, look_at};
 use crate::moves::{Walk, backward, forward};
 use crate::running::{Course, Run, begin};
 use crate::shown::{cells_text, regs_text, walk_text};
@@ -237,6 +240,21 @@ impl<'a> SourceDebugger<'a> {
         }
         out.push_str(text.as_str())?;
         Ok(())
+    }
+
+    /// What is at the position. One that the run does not have counts as `NoMemory`.
+    pub fn look(&mut self, alloc: Global) -> Result<Seen, NoMemory>
+        ensures seen { IfOk result
+            (λ seen. seen_of (stand_at (run_of self.old) self.old.position) ≡ Some seen) }
+        ensures stays { self.new ≡ self.old }
+    {
+        let run = Run {
+            alloc,
+            checked: self.checked,
+            limits: self.limits,
+            input: self.input,
+        };
+        look_at(&run, &mut self.course, self.position)
     }
 
     /// The position.

@@ -8,10 +8,12 @@
 mod debugger;
 pub mod laws;
 mod lines;
+mod looking;
 mod moves;
 mod running;
 mod shown;
 mod watching;
 
 pub use debugger::SourceDebugger;
+pub use looking::Seen;
 pub use moves::LAST_POSITION;

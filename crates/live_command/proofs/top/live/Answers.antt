@@ -17,5 +17,5 @@ returns-in-Ok-None-clause-session g c = lives_none _ _ _ _ _ _
     c.report.ensures)
 
 pub returns-in-Ok-Some-clause-session : goal.returns-in-Ok-Some-clause-session
-returns-in-Ok-Some-clause-session g c = lives_some _ (begun c.in-Ok-Some.beginning) _ _ _ _ _
+returns-in-Ok-Some-clause-session g c = lives_some _ (begun c.in-Ok-Some.beginning) _ _ _ _ _ _
     (sym (ap (option_map begun) c.in-Ok-Some.field-0-is) ∙ c.in-Ok-Some.ensures) c.begin.ensures.session

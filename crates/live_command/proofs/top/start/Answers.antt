@@ -1,5 +1,5 @@
-use Rattle.std.proofs.Common.{refl, inl, inr}
-use Rattle.live_command.proofs.Living.{prints, refused_starts, runs_start}
+use Rattle.std.proofs.Common.{refl, inl}
+use Rattle.live_command.proofs.Living.{refused_starts, runs_start}
 use Rattle.live_command.proofs.top.start.Goals as goal
 
 pub returns-in-Err : goal.returns-in-Err
@@ -7,7 +7,7 @@ returns-in-Err g c = inl (refl, refl)
 
 pub returns-in-Ok-Refused : goal.returns-in-Ok-Refused
 returns-in-Ok-Refused g c =
-    refused_starts c.args.given.now.text.items c.args.given.now.input.items c.deref.result.now c.deref-2.result.now
+    refused_starts c.args.text.now c.args.given.now c.args.text.now c.args.given.now
     c.args.room (record {
       lines = g.A.Asker.lines c.args.asker.now;
       heard = g.A.Asker.events c.args.asker.now;
@@ -15,12 +15,12 @@ returns-in-Ok-Refused g c =
     })
     (record { bytes = g.K.Sink.written c.report.new.out; puts = g.K.Sink.puts c.report.new.out }) c.report.result
     c.in-Ok-Refused.field-0 c.in-Ok-Refused.plan
-    c.as_str.result.now c.code.result c.deref.ensures.value c.deref-2.ensures.value c.in-Ok-Refused.ensures
+    c.as_str.result.now c.code.result refl refl c.in-Ok-Refused.ensures
     c.in-Ok-Refused.field-0-is c.as_str.ensures.value c.code.ensures c.report.ensures
 
 pub returns-in-Ok-Runs : goal.returns-in-Ok-Runs
 returns-in-Ok-Runs g c =
-    runs_start c.args.given.now.text.items c.args.given.now.input.items c.deref.result.now c.deref-2.result.now
+    runs_start c.args.text.now c.args.given.now c.args.text.now c.args.given.now
     c.args.room (record {
       lines = g.A.Asker.lines c.args.asker.now;
       heard = g.A.Asker.events c.args.asker.now;
@@ -31,4 +31,4 @@ returns-in-Ok-Runs g c =
       heard = g.A.Asker.events c.hold.new.asker;
       out = record { bytes = g.K.Sink.written c.hold.new.out; puts = g.K.Sink.puts c.hold.new.out };
     }) c.hold.result c.in-Ok-Runs.field-0 c.in-Ok-Runs.setting
-    c.deref.ensures.value c.deref-2.ensures.value c.in-Ok-Runs.ensures c.in-Ok-Runs.field-0-is c.hold.ensures
+    refl refl c.in-Ok-Runs.ensures c.in-Ok-Runs.field-0-is c.hold.ensures

@@ -1,16 +1,16 @@
-use Rattle.live_session.proofs.Answering.{nothing_said, bad_said, carry_said, quit_said}
+use Rattle.live_session.proofs.Answering.{nothing_said, asked_said, carry_said, quit_said}
 use Rattle.live_session.proofs.replying.answer.Goals as goal
 
 pub returns-in-Nothing : goal.returns-in-Nothing
 returns-in-Nothing g c =
-    nothing_said c.args.debugger.now c.args.request (record
+    nothing_said c.args.debugger.now c.args.request c.args.line.now (record
     { bytes = g.K.Sink.written c.args.out.now; puts = g.K.Sink.puts c.args.out.now })
     (record { bytes = g.K.Sink.written c.say_end.new.out; puts = g.K.Sink.puts c.say_end.new.out }) c.say_end.result
     c.in-Nothing.is c.say_end.ensures
 
 pub returns-in-Carry : goal.returns-in-Carry
 returns-in-Carry g c =
-    carry_said c.args.debugger.now c.say_carried.new.debugger c.args.request c.in-Carry.command
+    carry_said c.args.debugger.now c.say_carried.new.debugger c.args.request c.args.line.now c.in-Carry.command
     (record { bytes = g.K.Sink.written c.args.out.now; puts = g.K.Sink.puts c.args.out.now })
     (record { bytes = g.K.Sink.written c.say_carried.new.out; puts = g.K.Sink.puts c.say_carried.new.out })
     c.say_carried.result c.in-Carry.is
@@ -18,7 +18,7 @@ returns-in-Carry g c =
 
 pub returns-in-Quit : goal.returns-in-Quit
 returns-in-Quit g c =
-    quit_said c.args.debugger.now c.args.request (record {
+    quit_said c.args.debugger.now c.args.request c.args.line.now (record {
       bytes = g.K.Sink.written c.args.out.now;
       puts = g.K.Sink.puts c.args.out.now;
     })
@@ -27,10 +27,7 @@ returns-in-Quit g c =
 
 pub returns-in-Bad : goal.returns-in-Bad
 returns-in-Bad g c =
-    bad_said c.args.debugger.now c.args.request (record {
-      bytes = g.K.Sink.written c.args.out.now;
-      puts = g.K.Sink.puts c.args.out.now;
-    })
-    (record { bytes = g.K.Sink.written c.say_end-in-Bad.new.out; puts = g.K.Sink.puts c.say_end-in-Bad.new.out })
-    c.say_end-in-Bad.result c.in-Bad.is
-    c.say_end-in-Bad.ensures
+    asked_said c.args.debugger.now c.say_asked.new.debugger c.args.request c.args.line.now
+    (record { bytes = g.K.Sink.written c.args.out.now; puts = g.K.Sink.puts c.args.out.now })
+    (record { bytes = g.K.Sink.written c.say_asked.new.out; puts = g.K.Sink.puts c.say_asked.new.out })
+    c.say_asked.result c.in-Bad.is c.say_asked.ensures

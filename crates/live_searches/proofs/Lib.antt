@@ -1,0 +1,6 @@
+pub mod Single
+pub mod Listing
+pub mod Looking
+pub mod Seeking
+pub mod Returning
+pub mod GoingOn

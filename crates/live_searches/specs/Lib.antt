@@ -1,0 +1,9 @@
+pub use Rattle.source_debugger.specs as source_debugger
+pub mod Asks
+pub mod Steps
+pub mod Searches
+pub mod Goals
+pub mod Sights
+pub mod Turns
+pub mod Makings
+pub mod SearchLaws

@@ -1,0 +1,238 @@
+// What moves look for.
+ghost use Rattle.std.specs.Prelude.{◌≡◌, ◌++◌, nat_le, IfOk, OnOk, Some, codes, map};
+ghost use Rattle.std.specs.Option.{option_map};
+ghost use Rattle.source_debugger.specs.meaning_points.rpp_tree.Views.{source_of};
+ghost use Rattle.source_debugger.specs.Looks.{seen_of};
+ghost use Rattle.source_debugger.specs.Walks.{stand_at};
+ghost use Rattle.source_debugger.specs.Shown.{regs_at};
+ghost use Rattle.source_debugger.specs.Standing.{run_of};
+ghost use Rattle.live_searches.specs.Goals.{is_place as is_place_of, is_any as is_any_of, has_any as has_any_of, depth_of, kept_line, lines_from, lines_of as lines_of_name, sight_at, is_change as is_change_of, is_changed, first_of, any_met, depth_met, wanted as wanted_at};
+ghost use Rattle.live_searches.specs.Sights.{sight_of};
+
+use crate::asks::Goal;
+use pisa_scripts::{Command, pieces, short_number};
+use rpp_words::NoMemory;
+use source_debugger::{Seen, SourceDebugger};
+use std::alloc::{AllocError, Global};
+
+// What `until change` compares: the number of active calls, and the lines of a name.
+#[derive(Drop)]
+pub(crate) struct Mark {
+    pub depth: u32,
+    pub lines: Vec<u8>,
+}
+
+fn is_place(number: Option<u64>, place: u32) -> bool
+    ensures { result ≡ is_place_of number place }
+{
+    match number {
+        None => false,
+        Some(number) => number == u64::from(place),
+    }
+}
+
+// Whether one of these words writes the offset.
+fn is_any(words: &[&[u8]], place: u32) -> bool
+    ensures { result ≡ is_any_of (map (λ word. word.now) words.now) place }
+{
+    match words {
+        [] => false,
+        [word, rest @ ..] => {
+            if is_place(short_number(word), place) {
+                true
+            } else {
+                is_any(rest, place)
+            }
+        }
+    }
+}
+
+fn has_any(words: &[&[u8]], seen: Seen) -> bool
+    ensures { result ≡ has_any_of (map (λ word. word.now) words.now) seen }
+{
+    match seen {
+        Seen::At { place, depth: _ } => is_any(words, place),
+        Seen::End => false,
+    }
+}
+
+fn depth_in(seen: Seen) -> u32
+    ensures { result ≡ depth_of seen }
+{
+    match seen {
+        Seen::At { place: _, depth } => depth,
+        Seen::End => 1,
+    }
+}
+
+// Adds a line, if it is to be kept.
+fn add_line(kept: &mut Vec<u8>, keeps: bool, line: &[u8]) -> Result<(), AllocError>
+    ensures { OnOk result (kept.new.items ≡ kept.old.items ++ kept_line keeps line.now) }
+{
+    if keeps {
+        kept.extend_from_slice(line)?;
+        kept.push(b'\n')?;
+    }
+    Ok(())
+}
+
+// Adds the lines that begin so.
+fn add_lines(kept: &mut Vec<u8>, start: &[u8], lines: &[&[u8]]) -> Result<(), AllocError>
+    ensures { OnOk result (kept.new.items
+        ≡ kept.old.items ++ lines_from start.now (map (λ line. line.now) lines.now)) }
+{
+    match lines {
+        [] => Ok(()),
+        [line, rest @ ..] => {
+            add_line(kept, line.starts_with(start), line)?;
+            add_lines(kept, start, rest)
+        }
+    }
+}
+
+// How the lines of a name begin.
+fn start_of(alloc: Global, name: &[u8]) -> Result<Vec<u8>, AllocError>
+    ensures { IfOk result (λ start. start.items ≡ name.now ++ codes " = ") }
+{
+    let mut start = Vec::new(alloc);
+    start.extend_from_slice(name)?;
+    start.extend_from_slice(b" = ")?;
+    Ok(start)
+}
+
+// The lines of a name in a text.
+fn lines_of(alloc: Global, name: &[u8], text: &[u8]) -> Result<Vec<u8>, AllocError>
+    ensures { IfOk result (λ lines. lines.items ≡ lines_of_name name.now text.now) }
+{
+    let start = start_of(alloc, name)?;
+    let lines = pieces(alloc, b'\n', text)?;
+    let mut kept = Vec::new(alloc);
+    add_lines(&mut kept, &start, &lines)?;
+    Ok(kept)
+}
+
+// The lines of a name that `regs` prints at the position.
+fn regs_lines(
+    alloc: Global,
+    debugger: &mut SourceDebugger<'_>,
+    name: &[u8],
+) -> Result<Vec<u8>, NoMemory>
+    ensures told { IfOk result (λ lines. option_map (lines_of_name name.now)
+        (regs_at (source_of debugger.old.program)
+        (stand_at (run_of debugger.old) debugger.old.position))
+        ≡ Some lines.items) }
+    ensures stays { debugger.new ≡ debugger.old }
+{
+    let mut text = String::new(alloc);
+    debugger.command(alloc, &Command::Regs, &mut text)?;
+    let lines = lines_of(alloc, name, text.as_str().as_bytes())?;
+    Ok(lines)
+}
+
+fn first_word<'a>(words: &'a [&'a [u8]]) -> &'a [u8]
+    ensures { result.now ≡ first_of (map (λ word. word.now) words.now) }
+{
+    match words {
+        [] => &[],
+        [word, ..] => word,
+    }
+}
+
+/// What `until change` compares at the position.
+pub(crate) fn make_mark(
+    alloc: Global,
+    debugger: &mut SourceDebugger<'_>,
+    arguments: &[&[u8]],
+) -> Result<Mark, NoMemory>
+    ensures told { IfOk result (λ mark. sight_at (source_of debugger.old.program)
+        (run_of debugger.old) (map (λ word. word.now) arguments.now) debugger.old.position
+        ≡ Some (sight_of mark)) }
+    ensures stays { debugger.new ≡ debugger.old }
+{
+    let seen = debugger.look(alloc)?;
+    let lines = regs_lines(alloc, debugger, first_word(arguments))?;
+    Ok(Mark {
+        depth: depth_in(seen),
+        lines,
+    })
+}
+
+// Whether fewer calls are active, or as many and the lines are not the same.
+fn is_change(from: &Mark, here: &Mark) -> bool
+    ensures { result ≡ is_change_of (sight_of from.now) (sight_of here.now) }
+{
+    if here.depth < from.depth {
+        return true;
+    }
+    if from.depth < here.depth {
+        return false;
+    }
+    here.lines.as_slice() != from.lines.as_slice()
+}
+
+fn is_within(seen: Seen, most: u64) -> bool
+    ensures { result ≡ nat_le (depth_of seen) most }
+{
+    u64::from(depth_in(seen)) <= most
+}
+
+// Whether the position has one of these offsets.
+fn any_here(
+    alloc: Global,
+    debugger: &mut SourceDebugger<'_>,
+    arguments: &[&[u8]],
+) -> Result<bool, NoMemory>
+    ensures told { IfOk result (λ met. met ≡ any_met (map (λ word. word.now) arguments.now)
+        (seen_of (stand_at (run_of debugger.old) debugger.old.position))) }
+    ensures stays { debugger.new ≡ debugger.old }
+{
+    let seen = debugger.look(alloc)?;
+    Ok(has_any(arguments, seen))
+}
+
+// Whether at most so many calls are active at the position.
+fn depth_here(alloc: Global, debugger: &mut SourceDebugger<'_>, most: u64) -> Result<bool, NoMemory>
+    ensures told { IfOk result (λ met. met ≡ depth_met most
+        (seen_of (stand_at (run_of debugger.old) debugger.old.position))) }
+    ensures stays { debugger.new ≡ debugger.old }
+{
+    let seen = debugger.look(alloc)?;
+    Ok(is_within(seen, most))
+}
+
+// Whether the position shows a change.
+fn change_here(
+    alloc: Global,
+    debugger: &mut SourceDebugger<'_>,
+    arguments: &[&[u8]],
+    from: &Mark,
+) -> Result<bool, NoMemory>
+    ensures told { IfOk result (λ met. met ≡ is_changed (Some (sight_of from.now))
+        (sight_at (source_of debugger.old.program) (run_of debugger.old)
+        (map (λ word. word.now) arguments.now) debugger.old.position)) }
+    ensures stays { debugger.new ≡ debugger.old }
+{
+    let here = make_mark(alloc, debugger, arguments)?;
+    Ok(is_change(from, &here))
+}
+
+/// Whether the position is what moves look for that began at another one.
+pub(crate) fn wanted(
+    alloc: Global,
+    debugger: &mut SourceDebugger<'_>,
+    goal: Goal,
+    arguments: &[&[u8]],
+    from: &Mark,
+) -> Result<bool, NoMemory>
+    ensures told { IfOk result (λ met. met ≡ wanted_at (source_of debugger.old.program)
+        (run_of debugger.old) goal (map (λ word. word.now) arguments.now)
+        (Some (sight_of from.now)) debugger.old.position) }
+    ensures stays { debugger.new ≡ debugger.old }
+{
+    match goal {
+        Goal::Points => Ok(false),
+        Goal::Any => any_here(alloc, debugger, arguments),
+        Goal::Depth(most) => depth_here(alloc, debugger, most),
+        Goal::Change => change_here(alloc, debugger, arguments, from),
+    }
+}
