@@ -20,6 +20,3 @@ pub use memory_sink::MemorySink;
 pub use out_sink::OutSink;
 pub use shelf::{Shelf, ShelfFault};
 pub use sink::{Sink, SinkFault};
-
-#[cfg(test)]
-mod tests;

@@ -15,6 +15,3 @@ pub use deepest_place::DeepestPlace;
 pub use probe::{Probe, StepAt};
 pub use step_tally::StepTally;
 pub use telling::Probes;
-
-#[cfg(test)]
-mod tests;

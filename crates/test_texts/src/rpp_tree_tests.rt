@@ -118,9 +118,22 @@ fn inverse_operators(
     }
 }
 
+/// `x += 1`
+fn addition(alloc: Global) -> Result<Stmt, AllocError> {
+    Ok(Stmt::Update {
+        at: 1,
+        op: UpdateOp::Add,
+        place: Place {
+            name: ident(alloc, 1, "x")?,
+            index: None,
+        },
+        value: Expr::Number { at: 1, word: 1 },
+    })
+}
+
 #[test]
 fn inverts(rt: HostRuntime) -> Result<(), Fail> {
-    let there = update(rt.alloc(), 5, 1)?;
+    let there = addition(rt.alloc())?;
     let (back, again) = inverse_operators(rt.alloc(), &there)?;
     assert_eq!(rt; back, Some(UpdateOp::Sub), "the inverse");
     assert_eq!(rt; again, Some(UpdateOp::Add), "the inverse of the inverse");

@@ -1,4 +1,7 @@
-use super::*;
+// What file stores and sinks answer, in memory and of real files.
+use rpp_ports::{
+    FileShelf, MemoryShelf, MemorySink, Named, OutSink, Shelf, ShelfFault, Sink, SinkFault,
+};
 use std::test::Fail;
 use std::{fs, process};
 

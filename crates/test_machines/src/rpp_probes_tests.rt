@@ -1,6 +1,7 @@
+// What probes say of the steps that they observe, one by one or together.
 ghost use Rattle.std.specs.Prelude.{false, [], ◌∷◌, codes};
 
-use super::*;
+use rpp_probes::{Coverage, DeepestPlace, Probe, Probes, StepAt, StepTally};
 use rpp_words::NoMemory;
 use std::test::Fail;
 
