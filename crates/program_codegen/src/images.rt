@@ -11,10 +11,10 @@ use crate::numbers::{first_routines, routine_number};
 use crate::routines::routines;
 use crate::statics::statics;
 use class_table::Checked;
-use method_calls::main_code;
 use paired_code::link;
 use pisa_isa::{Noted, Notes};
 use rpp_words::NoMemory;
+use statement_codegen::main_code;
 use std::alloc::Global;
 
 /// The image of a program, with the cells of each statement and of each int field noted.

@@ -8,11 +8,10 @@ ghost use Rattle.program_codegen.specs.Routines.{IsRoutine, AreRoutines};
 
 use buddy_pisa::allocator;
 use class_table::{Checked, MethodId, methods_at};
-use code_scope::Scope;
 use paired_code::Piece;
 use rpp_tree::tree::Method;
 use rpp_words::NoMemory;
-use statement_codegen::{block_code, method_code};
+use statement_codegen::{Scope, block_code, method_code};
 use std::alloc::Global;
 
 /// The bodies of all routines: the allocator, and the methods in the order of the text.

@@ -13,8 +13,8 @@ use crate::numbers::routine_number;
 use class_table::Checked;
 use code_conventions::memory::header;
 use paired_code::StaticWord;
+use refine_program::table_at;
 use rpp_words::NoMemory;
-use static_layout::table_at;
 use std::alloc::{AllocError, Global};
 
 /// The static cells of a program, for any addresses of its routines: the main object, and the table

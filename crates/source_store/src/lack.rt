@@ -14,7 +14,7 @@ pub enum Lack {
 }
 
 impl Lack {
-    /// What a program reports of a run that cannot go on, whatever it lacks.
+    /// What a program reports of a run that cannot go on, whichever the reason.
     pub fn as_no_memory(self) -> rpp_words::NoMemory {
         rpp_words::NoMemory
     }

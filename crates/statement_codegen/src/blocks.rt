@@ -13,8 +13,7 @@ ghost use Rattle.statement_codegen.specs.Pieces.{StatementStands, StandsIn, Have
 use crate::calls::{call_code, skip_code};
 use crate::elements::element_call_code;
 use crate::locals::{construct_code, local_code, making_piece, object_var};
-use branch_codegen::{from_code, if_code, swap_code, update_code};
-use code_scope::Scope;
+use branch_codegen::{Scope, from_code, if_code, swap_code, update_code};
 use paired_code::{Piece, empty, marked, mirror, seq};
 use refine_objects::{copy_code, new_code};
 use rpp_tree::place_of;

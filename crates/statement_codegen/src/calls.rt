@@ -12,8 +12,8 @@ ghost use Rattle.branch_codegen.specs.method_calls.Names.{class_of_kind, class_n
 ghost use Rattle.statement_codegen.specs.Codes.{scope_of};
 ghost use Rattle.statement_codegen.specs.Laws.{SkipLaw, CallLaw, RoutineLaw};
 
+use branch_codegen::{Scope, Spot, spot_of};
 use class_table::ClassTable;
-use code_scope::{Scope, Spot, spot_of};
 use method_calls::{call_on, own_call};
 use paired_code::{Piece, plain};
 use pisa_isa::{Cell, Op};

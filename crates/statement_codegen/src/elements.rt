@@ -14,8 +14,7 @@ ghost use Rattle.statement_codegen.specs.Laws.{element_type as type_of_element, 
 
 use crate::calls::call_code;
 use crate::locals::local_code;
-use branch_codegen::swap_code;
-use code_scope::Scope;
+use branch_codegen::{Scope, swap_code};
 use paired_code::{Piece, seq};
 use rpp_tree::Text;
 use rpp_tree::tree::{Expr, Ident, Place, Var, VarType};

@@ -11,9 +11,8 @@ ghost use Rattle.refine_form.specs.Held.{Holds};
 ghost use Rattle.refine_objects.specs.object_codegen.Creations.{NewLaw, creation_size};
 ghost use Rattle.statement_codegen.specs.Laws.{LocalLaw, ConstructLaw};
 
-use branch_codegen::value_code;
+use branch_codegen::{Scope, value_code};
 use code_conventions::registers::VALUE;
-use code_scope::Scope;
 use method_calls::local_block;
 use paired_code::{Piece, mirror, seq};
 use refine_objects::class_code;
