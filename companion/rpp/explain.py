@@ -11,10 +11,12 @@ from typing import NamedTuple, Optional, Tuple
 from .fault_slots import Where, fault_slots
 from .rules import FAULT_OF, REFUSAL_OF, Rule
 from .slots import filled, slots
-from .syntax import Edit, byte_hint, syntax_hint
+from .spelling import Edit, byte_hint
+from .syntax import syntax_hint
 
 # A comment that goes on where a line ends with CR and no LF, and such a CR.
 HIDING = re.compile(rb'//[^\n]*?\r[^\n]*[^\s]')
+WORD = re.compile(rb"[A-Za-z][A-Za-z0-9_']*")
 ONLY_CR = re.compile(rb'\r(?!\n)')
 
 
@@ -48,7 +50,16 @@ def of_refusal(text: bytes, number: int, at: Optional[int]) -> Message:
         if hint is not None:
             return Message(rule, hint.sentence, hint.fix, '', hint.edits, hint.title, True)
     found = filled(rule.forms, slots(text, number, at), rule.fix)
-    return Message(rule, *(found or (rule.sentence, rule.fix)), is_own=found is not None)
+    if found is None:
+        return Message(rule, rule.sentence, rule.fix)
+    title = f'Write `{found.written}`' if found.written else ''
+    return Message(rule, found.sentence, found.fix, '', written_at(text, at, found.written), title, True)
+
+
+def written_at(text: bytes, at: int, written: str) -> Tuple[Edit, ...]:
+    """The edit that writes a text for the word at a place; none where there is no text to write."""
+    word = WORD.match(text[at:])
+    return (Edit(at, at + word.end(), written),) if written and word else ()
 
 
 def of_hiding_comment(text: bytes, rule: Rule, begin: int) -> Message:
@@ -61,7 +72,7 @@ def of_hiding_comment(text: bytes, rule: Rule, begin: int) -> Message:
 def of_syntax(text: bytes, rule: Rule, at: int) -> Message:
     hint = syntax_hint(text, at)
     found = filled(rule.forms, {'expected': hint.expected, 'found': hint.found} if hint.expected else {})
-    detail = found[0] if found else ''
+    detail = found.sentence if found else ''
     if hint.sentence:
         return Message(rule, hint.sentence, hint.fix, detail, hint.edits, hint.title, True)
     return Message(rule, detail or rule.sentence, rule.fix)
@@ -75,4 +86,6 @@ def of_fault(number: int, where: Optional[Where], is_back: bool = False) -> Mess
     is_back = where.is_back if where else is_back
     fix = rule.fix_back if is_back and rule.fix_back else rule.fix
     found = filled(rule.back if is_back and rule.back else rule.forms, fault_slots(where, number), fix) if where else None
-    return Message(rule, *(found or (rule.sentence, fix)), is_own=found is not None)
+    if found is None:
+        return Message(rule, rule.sentence, fix)
+    return Message(rule, found.sentence, found.fix, is_own=True)

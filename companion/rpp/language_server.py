@@ -75,9 +75,10 @@ class Document:
         return {'start': self.point(begin), 'end': self.point(end)}
 
     def token_range(self, at: int, text: Optional[Analysis] = None) -> Dict[str, Any]:
-        """The range of a token of the text, or of a look at it."""
+        """The range of a token of the text, or of a look at it; a token has only ASCII and is in one line."""
         token = (text or self.found).source.tokens[at]
-        return self.range(token.at, token.end)
+        begin = self.point(token.at)
+        return {'start': begin, 'end': {**begin, 'character': begin['character'] + len(token.text)}}
 
     def offset(self, position: Dict[str, int]) -> int:
         return self.places.position_offset(position['line'], position['character'])

@@ -2,14 +2,14 @@
 
 A rule has one general sentence, sentences with {slots} for the forms in which it is broken, and what to do. The first sentence whose
 slots are all known is shown (slots.py, fault_slots.py); if there is none, the general one. A sentence that has advice of its own is
-a pair with it. `back` has the sentences of a body that runs backward, as under `uncall`, and `fix_back` what to do then."""
+a pair with it; a third text is what an editor can write for the word at the place. `back` has the sentences of a body that runs backward, as under `uncall`, and `fix_back` what to do then."""
 from typing import Dict, NamedTuple, Tuple, Union
 
 PAGE = 'reference/messages.md'
 FORMATS = 'reference/formats.md'
 
 
-Forms = Tuple[Union[str, Tuple[str, str]], ...]
+Forms = Tuple[Union[str, Tuple[str, ...]], ...]
 
 
 class Rule(NamedTuple):
@@ -55,11 +55,12 @@ REFUSALS = (
         'This class must have another name: line {line} already declares a class `{name}`.',),
         'Rename one of the two, or merge them. A class that extends another one says `inherits`.'),
     Rule(6, 'UnknownClass', 'The type of a field or a parameter, and the name after `inherits`, must be the name of a class, or `int`.', (
-        ('A class names its parent by `inherits`, not by `{inherits}`.', 'Write `inherits {parent}`.'),
-        ('There is no type `{truth}`: 0 is false, and every other number is true.', 'Write `int`.'),
+        ('A class names its parent by `inherits`, not by `{inherits}`.', 'Write `inherits {parent}`.', 'inherits'),
+        ('There is no type `{truth}`: 0 is false, and every other number is true.', 'Write `int`.', 'int'),
         ('There is no type `{foreign}`: the types are `int`, the classes of the source, and arrays of them.', 'Write `int`, or `int[]` for a '
          'row of numbers.'),
-        ('`{name}` must be the name of a class. Did you mean `{similar}`?', 'Correct the name.'),
+        ('`{name}` must be the name of a class. Did you mean `{similar}`?', 'Correct the name.', '{similar}'),
+        ('There is no type `{stack}`: an array, and a count of what is in it, serve in its place.', 'Declare an `int[]` and an `int`.'),
         '`{name}` must be the name of a class, and no class of this source has it.'),
         'Declare the class, before or after its use, or correct the name.'),
     Rule(7, 'InheritanceCycle', 'A class must not inherit from itself, directly or over other classes.', (
@@ -87,20 +88,23 @@ REFUSALS = (
     Rule(13, 'UnknownName', 'A name must be in scope: a local, a parameter or a field, and a class or a method must exist.', (
         ('There is no `{this}`: a field of the same object is named by itself, and `call {example}(..)` calls a method of it.',
          'Leave `{this}` out. The object itself cannot be passed or kept.'),
-        ('There is no `{truth}`: 0 is false, and every other number is true.', 'Write {number}.'),
+        ('There is no `{super}`: a method replaces the inherited one of its name, which then cannot be called.',
+         'Give the inherited method another name, and call it by that.'),
+        ('There is no `{truth}`: 0 is false, and every other number is true.', 'Write {number}.', '{number}'),
+        ('There is no `{null}`: a variable that refers to nothing is `nil`.', 'Write `nil`.', 'nil'),
         ('`{late}` must be in scope here: its local is so only between `local` and `delocal`, from line {first} to line {last}.',
          'Use it before its `delocal`, or declare a field.'),
         ('`{receiver}` must be an object, and it is a class: `call x::{called}(..)` names a variable.',
          'Make an object by `new {receiver} x`. A method of the same object is called by `call {called}(..)`.'),
         ('`{elsewhere}` must be in scope here: it is a field of `{other}`, and only the methods of that class see it.',
          'Call a method of `{other}` that adds the value to a parameter.'),
-        ('`{variable}` must be a local in scope, a parameter, or a field of `{class}`. Did you mean `{similar}`?', 'Correct the name.'),
+        ('`{variable}` must be a local in scope, a parameter, or a field of `{class}`. Did you mean `{similar}`?', 'Correct the name.', '{similar}'),
         ('`{variable}` must be a local in scope, a parameter, or a field of `{class}`.', 'Declare it: a field for what the run begins and '
          'ends with, else `local int {variable} = 0` .. `delocal int {variable} = 0`.'),
-        ('`{method}` must be a method of `{class}`. Did you mean `{similar}`?', 'Correct the name.'),
+        ('`{method}` must be a method of `{class}`. Did you mean `{similar}`?', 'Correct the name.', '{similar}'),
         ('`{method}` must be a method of `{class}`, and it is one of `{other}`.', 'Name an object of that class: `call x::{method}(..)`.'),
         ('`{method}` must be a method of `{class}`.', 'Declare `method {method}(..)` there.'),
-        ('`{class_name}` must be the name of a class. Did you mean `{similar}`?', 'Correct the name.'),
+        ('`{class_name}` must be the name of a class. Did you mean `{similar}`?', 'Correct the name.', '{similar}'),
         ('`{class_name}` must be the name of a class, and no class of this source has it.', 'Declare `class {class_name}`.')),
         'Correct the name, or declare it.'),
     Rule(14, 'Redeclared', 'A parameter or local must have a name that no parameter or local in scope has.', (
@@ -135,6 +139,8 @@ REFUSALS = (
          'one type. A reference of a subclass comes by `copy`.')),
         'Use one type, and end locals in the reverse order of their beginning.'),
     Rule(16, 'SelfUpdate', 'What a statement changes must not occur in its own value or index.', (
+        ('`{cleared}` must not occur in its own value: the way back could not find the old one again.',
+         'Undo what set it, as by `uncall`, or exchange it with a variable that is 0.'),
         '`{name}` must not occur in its own value: the old one could not be found again.',
         '`{array}` must not be read by a statement that changes one of its elements: the indexes could be equal.',
         '`{indexed}` must not occur in the index of its own element.',

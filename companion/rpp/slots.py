@@ -1,11 +1,11 @@
 """The names and numbers that a sentence about a refused text can show: its slots.
 
-    filled(rule.forms, slots(text, 19, 50), rule.fix)     # ('The call must pass 1 argument to `add`, not 0: `int n`.', 'Give ..')
+    filled(rule.forms, slots(text, 19, 50), rule.fix)     # ('The call must pass 1 argument to `add`, not 0: `int n`.', 'Give ..', '')
 
 The first sentence whose slots are all known is taken. A slot that cannot be found out is not known, so that no sentence says what is
 not so; then the general sentence of the rule remains."""
 import re
-from typing import Dict, Iterable, List, Optional, Tuple
+from typing import Dict, Iterable, List, NamedTuple, Optional, Tuple
 
 from .expressions import LEVEL, Tree, end_of, expression, type_of
 from .names import Names
@@ -15,16 +15,25 @@ from .spelling import similar
 
 SLOT = re.compile(r'\{(\w+)\}')
 TRUTHS = {'true': '1', 'false': '0', 'True': '1', 'False': '0'}
-FOREIGN = frozenset('string String str char float double long short byte void var let unsigned integer Integer number any'.split())
+NULLS = frozenset('NULL null Null nill nul None nullptr Nil NIL undefined nothing'.split())
+FOREIGN = frozenset('string String str char float double long short byte void var let unsigned integer Integer number any i32 u32 i64 u64 '
+                    'usize f32 f64 object Object List Vec ArrayList Map'.split())
 VERBS = {'*': 'multiply', '/': 'divide', '%': 'take remainders'}
 
 
-def filled(forms: Forms, known: Dict[str, str], fix: str = '') -> Optional[Tuple[str, str]]:
+class Filled(NamedTuple):
+    """A sentence, what to do, and what can be written for the word at the place, or ''."""
+    sentence: str
+    fix: str
+    written: str
+
+
+def filled(forms: Forms, known: Dict[str, str], fix: str = '') -> Optional[Filled]:
     """The first sentence whose slots are all known, with them, and the advice that it has; else `fix`."""
     for form in forms:
-        sentence, own = (form, fix) if isinstance(form, str) else form
-        if all(slot in known for slot in SLOT.findall(sentence + own)):
-            return tuple(SLOT.sub(lambda found: known[found[1]], text) for text in (sentence, own))
+        texts = [form, fix, ''] if isinstance(form, str) else [*form, ''][:3]
+        if all(slot in known for slot in SLOT.findall(texts[0] + texts[1])):
+            return Filled(*[SLOT.sub(lambda found: known[found[1]], text) for text in texts])
     return None
 
 
@@ -163,9 +172,17 @@ class Slots:
 
     def of_6(self):
         one_of = lambda *words: self.word if self.word in words else ''
-        return {'name': self.word, 'inherits': one_of('extends', 'implements'), 'parent': self.word_at((self.token or 0) + 1),
+        return {'name': self.word, 'inherits': self.of_parent(), 'parent': self.word_at((self.token or 0) + 1),
+                'stack': one_of('stack', 'Stack', 'queue', 'Queue'),
                 'truth': one_of('bool', 'boolean', 'Bool', 'Boolean'), 'foreign': one_of(*FOREIGN),
                 'similar': similar(self.word, [*self.names.classes, 'int'])}
+
+    def of_parent(self) -> str:
+        """The word that is written for `inherits` after the name of a class."""
+        if self.token is None or self.word_at(self.token - 2) != 'class':
+            return self.word if self.word in ('extends', 'implements') else ''
+        is_near = similar(self.word, ['inherits']) and self.word_at(self.token + 1) in self.names.classes
+        return self.word if is_near or self.word in ('extends', 'implements') else ''
 
     def of_7(self):
         chain, each = [self.word], self.names.classes.get(self.word)
@@ -230,7 +247,11 @@ class Slots:
         known = {'variable': self.word, 'class': self.owner.name if self.owner else ''}
         if self.word in self.names.classes and self.word_at(self.token + 1) == '::':
             return {'receiver': self.word, 'called': self.word_at(self.token + 2)}
-        if self.word in ('this', 'self', 'super', 'me'):
+        if self.word == 'super':
+            return {'super': self.word}
+        if self.word in NULLS:
+            return {'null': self.word}
+        if self.word in ('this', 'self', 'me'):
             methods = [it.name for it in self.owner.methods if it.name != 'main'] if self.owner else []
             return {'this': self.word, 'example': methods[0] if methods else 'm'}
         if self.word in TRUTHS:
@@ -398,6 +419,8 @@ class Slots:
             value = [each for each in self.variables(statement) if self.word_at(each) == twice]
             is_in_index = value[1] <= end_of_place(self.source, place)
             return {'indexed': twice} if is_in_index else {'array': twice}
+        if statement.form == 'update' and statement.last == statement.first + 2 and self.word_at(statement.first + 1) in ('-=', '^='):
+            return {'cleared': twice}
         return {'name': twice} if statement.form == 'update' else {'indexed': twice}
 
     def of_17(self):

@@ -1,46 +1,25 @@
-"""What is wrong with a text that leaves the grammar, or that has a byte with which no token begins.
+"""What is wrong with a text that leaves the grammar.
 
 There is a sentence for each of the usual mistakes, what to write instead, and, if that is a text, the edits that write it.
 
-    hint = syntax_hint(text, at)        # where the grammar is left: Hint, with what was expected there
-    hint = byte_hint(text, at)          # of the byte at which no token begins, or None"""
+    hint = syntax_hint(text, at)        # where the grammar is left: Hint, with what was expected there"""
 import difflib
-from typing import Callable, List, NamedTuple, Optional, Tuple
+from typing import Callable, List, Optional, Tuple
 
 from .grammar import END, NAME, STATEMENTS, VALUES, Open, Spot, first_wrong, spelled
+from .spelling import ALONE, CONSTRUCTORS, FOREIGN_METHODS, IMPORTS, LISTS, STRUCTURES, UNEQUAL, Edit, Hint, foreign_method, foreign_word
 from .tokens import KEYWORDS, OPERATORS, UPDATES, Token, cut
 
 CLOSERS = {'if': ('then', 'else', 'fi'), 'from': ('do', 'loop', 'until'), 'local': ('delocal',), 'construct': ('destruct',)}
 DECLARING = ('class', 'field', 'method', 'parameter', 'local', 'construct')
 DECLARED = {'construct': 'local'}
-ELSE_IF = ('elsif', 'elseif', 'elif', 'elsf')
-LOOPS = ('while', 'for', 'foreach', 'repeat', 'iterate', 'loop')
-ENDS = ('end', 'endif', 'endwhile', 'endfor', 'endmethod', 'endclass', 'done', 'od', 'esac')
-PRINTS = ('print', 'println', 'printf', 'write', 'puts', 'echo', 'show', 'cout', 'System')
-RETURNS = ('return', 'yield', 'result')
-CHOICES = ('switch', 'case', 'match', 'when')
-ASSERTIONS = ('assert', 'require', 'ensure')
-LENGTHS = ('len', 'length', 'size', 'sizeof')
 TYPES_OF_OTHERS = ('var', 'let', 'const', 'auto', 'def', 'val', 'my', 'dim')
 HEADS_OF_OTHERS = ('public', 'private', 'protected', 'static', 'function', 'func', 'fn', 'def', 'void', 'proc', 'procedure', 'sub')
+CONSTANTS = ('const', 'final', 'readonly', 'constexpr', 'immutable')
+WIDTHS = ('unsigned', 'signed', 'short', 'long')
+LIBRARIES = ('std', 'core', 'math', 'Math', 'System')
+BY_REFERENCE = ('mut', 'ref', 'out', 'inout', 'var')
 PRODUCTS = {'*': 'A product', '/': 'A quotient', '%': 'A remainder'}
-
-
-class Edit(NamedTuple):
-    """A text that takes the place of the bytes from `begin` to `end`."""
-    begin: int
-    end: int
-    text: str
-
-
-class Hint(NamedTuple):
-    """A sentence of its own for a mistake, what to write, and the edits that write it."""
-    sentence: str
-    fix: str = ''
-    edits: Tuple[Edit, ...] = ()
-    title: str = ''
-    expected: str = ''
-    found: str = ''
 
 
 class Place:
@@ -92,6 +71,28 @@ class Place:
         """Whether the text declares a method of this name."""
         return any(self.tokens[at].text == 'method' and self.tokens[at + 1].text == name for at in range(0, len(self.tokens) - 1))
 
+    def has_array(self, name: str) -> bool:
+        """Whether the text declares an array of this name."""
+        words = [each.text for each in self.tokens]
+        return any(words[at:at + 3] == ['[', ']', name] for at in range(0, len(words) - 2))
+
+    def has_class(self, name: str) -> bool:
+        """Whether the text declares a class of this name."""
+        return any(self.tokens[at].text == 'class' and self.tokens[at + 1].text == name for at in range(0, len(self.tokens) - 1))
+
+    def has_field(self, name: str) -> bool:
+        """Whether a class of the text declares a field of this name, as far as its words say."""
+        is_in_fields = False
+        for at, each in enumerate(self.tokens):
+            is_in_fields = each.text == 'class' or is_in_fields and each.text != 'method'
+            if is_in_fields and each.text == name and (self.tokens[at - 1].kind == 'name' or self.tokens[at - 1].text in ('int', ']')):
+                return True
+        return False
+
+    def is_joined(self, first: int = 0) -> bool:
+        """Whether nothing is between a token and the next one."""
+        return bool(self.word(first + 1)) and self.begin(first + 1) == self.end(first)
+
     def is_new_line(self) -> bool:
         """Whether a line ends in front of the token."""
         return self.at > 0 and b'\n' in self.text[self.end(-1):self.begin()]
@@ -117,6 +118,13 @@ def of_first_word(it: Place) -> Optional[Hint]:
     comment = of_comment(it)
     if comment:
         return comment
+    if it.word() in IMPORTS:
+        return Hint(ALONE.replace('{word}', it.word()), 'Leave the line out.')
+    if near_keyword(it.word()) == 'class':
+        return Hint(f'There is no `{it.word()}`. Did you mean `class`?', '', it.changes(0, 0, 'class'), 'Write `class`')
+    if it.word() in STRUCTURES and it.kind(1) == 'name':
+        return Hint(f'A source must begin with a class, and there is no `{it.word()}`.', 'Write `class`, the fields, and the methods that '
+                    'use them.', it.changes(0, 0, 'class'), 'Write `class`')
     if it.word() in HEADS_OF_OTHERS:
         return Hint(f'A source must begin with a class, and there is no `{it.word()}` outside of one.',
                     'Write `class Program`, its fields, and then `method main()`.')
@@ -134,7 +142,7 @@ def of_keyword_as_name(it: Place) -> Optional[Hint]:
     if it.inside in DECLARING and not it.is_statement() and it.kind(-1) != 'name' and is_broken:
         return Hint(f'A {DECLARED.get(it.inside, it.inside)} must have a name: there is none before this `{it.word()}`.')
     is_declared = it.inside in DECLARING or it.inside in ('call', 'uncall', 'arguments')
-    if it.inside == 'arguments' and it.word() in ('nil', 'int') or it.is_statement():
+    if it.inside == 'arguments' and it.word() in ('nil', 'int', 'call', 'uncall', 'new') and not it.is_new_line() or it.is_statement():
         return None
     return Hint(f'`{it.word()}` is a word of the language, so it must not be a name.', 'Take another name.') if is_declared else None
 
@@ -151,6 +159,13 @@ def of_field(it: Place) -> Optional[Hint]:
     name = it.word(-1)
     if is_behind_field and it.word() == '(' and near_keyword(it.word(-2)) == 'method':
         return Hint(f'There is no `{it.word(-2)}`. Did you mean `method`?', '', it.changes(-2, -2, 'method'), 'Write `method`')
+    if it.expects('inherits') and it.word() in ('<', '('):
+        edits = it.changes(0, 2, f' inherits {it.word(1)}') if it.word(2) == ')' else it.changes(0, 0, 'inherits')
+        return Hint('A class names its parent by `inherits`.', f'Write `inherits {it.word(1)}`.', edits, 'Write `inherits`')
+    if it.word() == '(' and (is_behind_field or it.inside == 'field'):
+        return of_head_without_method(it)
+    if it.word() == '<' and it.expects(NAME, '['):
+        return Hint(f'There are no types with parameters, as `{name}<..>`.', f'Write `{it.word(1)}`, or `{it.word(1)}[]` for a row of objects.')
     if is_behind_field and it.word() == '[':
         return Hint(f'`{name}` must have its brackets after the type, and no length: `{it.word(-2)}[] {name}`.',
                     f'The array is made by `new {it.word(-2)}[5] {name}`.')
@@ -158,11 +173,20 @@ def of_field(it: Place) -> Optional[Hint]:
         return Hint('Each field must have its own type; there are no lists of names.', f'Write `{it.word(-2)}` in front of each name.',
                     it.changes(0, 0, f' {it.word(-2)}'), 'Write the type again')
     if is_behind_field and it.word() == '=':
-        return Hint(f'The field `{name}` must not have a value here: fields begin as 0 or nil, or by the input.',
-                    f'Write `{name} += ..` in a method.')
-    if it.expects('inherits') and it.word() in ('<', '('):
-        return Hint('A class names its parent by `inherits`.', f'Write `inherits {it.word(1)}`.')
+        kind = it.word(-2)
+        way = f'`{name} += ..`' if kind == 'int' else f'`new {kind} {name}`' if kind != ']' else f'`new {it.word(-4)}[5] {name}`'
+        return Hint(f'The field `{name}` must not have a value here: fields begin as 0 or nil, or by the input.', f'Write {way} in a method.')
     return None
+
+
+def of_head_without_method(it: Place) -> Hint:
+    """`int f(..)`, `f(..)` and a constructor."""
+    opened, name = it.opened('class'), it.word(-1)
+    if opened is not None and it.tokens[opened.first + 1].text == name or it.has_class(name):
+        return CONSTRUCTORS._replace(sentence=CONSTRUCTORS.sentence.replace('new C', f'new {name}'))
+    first = -2 if it.word(-2) == 'int' or it.kind(-2) == 'name' and it.word(-3) in ('int', ')', 'class') or it.has_class(it.word(-2)) else -1
+    return Hint(f'A method must begin with `method`, and has no type: `method {name}(..)`.', 'Let it add what it computes to a parameter.',
+                (Edit(it.begin(first), it.begin(-1), 'method '),), 'Write `method`')
 
 
 def of_extends(it: Place) -> Optional[Hint]:
@@ -176,12 +200,25 @@ def of_modifier(it: Place) -> Optional[Hint]:
     """`public int x`, `void f()`, `def f()`."""
     words = [it.word(-2), it.word(-1), it.word()]
     found = next((word for word in words if word in HEADS_OF_OTHERS), '')
-    if it.inside != 'field' and not it.expects('class', 'method', 'int') or not found:
+    is_in_fields = it.inside == 'field' or it.expects('class', 'method', 'int')
+    if is_in_fields and it.word() == 'int' and it.word(-1) in CONSTANTS + WIDTHS:
+        return of_kind_of_int(it)
+    if not is_in_fields or not found:
         return None
     if it.word() == '(' or it.word(1) == '(' or it.word(-1) in HEADS_OF_OTHERS and it.word() != 'int':
-        return Hint(f'A method must begin with `method`, not with `{found}`.', 'Write `method NAME(..)`; a method has no result.')
+        edits = it.changes(-1, -1, '') if it.word() == 'method' else ()
+        return Hint(f'A method must begin with `method`, not with `{found}`.', 'Write `method NAME(..)`; a method has no result.', edits,
+                    f'Remove `{found}`' if edits else '')
     return Hint(f'There is no `{found}`: fields are seen by the methods of their class, and methods can be called by all.',
                 'Leave it out.')
+
+
+def of_kind_of_int(it: Place) -> Hint:
+    """`const int`, `unsigned int`."""
+    edits, title = (Edit(it.begin(-1), it.begin(), ''),), f'Remove `{it.word(-1)}`'
+    if it.word(-1) in WIDTHS:
+        return Hint(f'There is no `{it.word(-1)} int`: every number is an `int` of 32 bits.', 'Leave it out.', edits, title)
+    return Hint(f'There is no `{it.word(-1)}`: write the number itself, or keep it in a field that nothing changes.', '', edits, title)
 
 
 def of_type(it: Place) -> Optional[Hint]:
@@ -231,19 +268,65 @@ def of_update(it: Place) -> Optional[Hint]:
     if it.word() == '=' and it.word(1) == 'new':
         return Hint(f'`new` is a statement and has no value: `new C {name}` fills `{name}`, which must be nil before.',
                     f'Write `new {it.word(2)} {name}`.')
+    if it.word() == '=' and it.word(1) == name and it.word(2) in ('+', '-', '^'):
+        return Hint(f'`{name}` must be changed by `{it.word(2)}=`: an assignment by `=` would lose its old value.', '',
+                    it.changes(0, 2, f'{it.word(2)}='), f'Write `{it.word(2)}=`')
     if it.word() == '=':
         return Hint(f'`{name}` must be changed by `+=`, `-=` or `^=`: an assignment by `=` would lose its old value.',
                     f'`{name} += ..` sets it where it is 0; `{name} <=> y` exchanges two variables.', it.changes(0, 0, '+='), 'Write `+=`')
     if it.word() in ('+', '-') and it.word(1) == it.word():
         return Hint(f'There is no `{it.word()}{it.word()}`: write `{name} {it.word()}= 1`.', '', it.changes(0, 1, f' {it.word()}= 1'),
                     f'Write `{it.word()}= 1`')
-    return of_other_update(it, name)
+    return of_other_update(it, name) or of_only_computed(it, name)
+
+
+def of_only_computed(it: Place, name: str) -> Optional[Hint]:
+    """`x + 1`, `x != y` and `x[1][2]`, which are no changes."""
+    if it.word() == '[':
+        return Hint('Only a variable can be indexed: there are no arrays of arrays.', 'Keep the rows one after the other in one array.')
+    if it.word() == '<' and it.word(1) == '-' and it.is_joined():
+        return Hint('There is no `<-`, which would lose the old value: `+=` sets a variable that is 0.', '', it.changes(0, 1, '+='),
+                    'Write `+=`')
+    if it.word() == '!=':
+        return Hint('`!=` only compares: the exclusive or is written `^=`.', '', it.changes(0, 0, '^='), 'Write `^=`')
+    if it.word() in ('+', '-', '^'):
+        return Hint(f'A statement must change something: `{it.word()}` only computes a value.', f'Write `{name} {it.word()}= ..`.',
+                    it.changes(0, 0, f'{it.word()}='), f'Write `{it.word()}=`')
+    if it.word() in OPERATORS:
+        return Hint(f'A statement must change something: `{it.word()}` only computes a value.', f'Write `{name} += ..`, or `if` for a test.')
+    return None
+
+
+def of_comment_as_quotient(it: Place) -> Optional[Hint]:
+    """`x //= 2`."""
+    between = it.text[it.end(-1):it.begin()].decode('latin-1') if it.at else ''
+    if it.is_behind_place() and between.strip().startswith('//='):
+        return Hint('There is no `//=`: `//` begins a comment, so nothing is left that changes `' + it.word(-1) + '`.',
+                    'A quotient is computed into another variable: docs/learn/from-janus.md has a method for it.')
+    return None
+
+
+def of_arrow(it: Place) -> Optional[Hint]:
+    """`c->m()`, and `->` in front of a type."""
+    if it.word() == '-' and it.word(1) == '>' and it.is_joined() and it.is_statement() and it.word(-1) == ')':
+        return Hint('A method must have no type: it has no result.', 'Let it add what it computes to a parameter.',
+                    (Edit(it.end(-1), it.end(2), ''),), 'Remove the type')
+    if it.word() == '-' and it.word(1) == '>' and it.is_joined() and it.is_behind_place() and it.word(3) == '(':
+        return Hint(f'There is no `->`: a call on an object is `call {it.word(-1)}::{it.word(2)}(..)`.', '',
+                    (Edit(it.begin(-1), it.begin(-1), 'call '), *it.changes(0, 1, '::')), 'Write `call` and `::`')
+    first = 0 if it.word() == '-' else -1
+    if it.word(first) == '-' and it.word(first + 1) == '>' and it.is_joined(first) and it.kind(first + 2) == 'name':
+        return Hint('There is no `->`, and fields of other objects are not seen.',
+                    'Let a method of its class change the field, or add it to a parameter.')
+    return None
 
 
 def of_other_update(it: Place, name: str) -> Optional[Hint]:
     if it.word() in PRODUCTS and it.word(1) == '=':
         return Hint(f'There is no `{it.word()}=`: a factor cannot be undone by itself, since 0 would lose the number.',
                     f'{PRODUCTS[it.word()]} is computed into another variable: docs/learn/from-janus.md has a method for it.')
+    if it.word() in ('*', '/') and it.word(1) == it.word():
+        return Hint(f'There is no `{it.word()}{it.word()}=`: a power cannot be undone by itself.', 'It is computed into another variable.')
     if it.word() in ('&', '|', '&&', '||') and it.word(1) == '=':
         return Hint(f'There is no `{it.word()}=`, which would lose bits.', 'The changes are `+=`, `-=`, `^=` and `<=>`.')
     if it.word() in ('<', '>') and it.word(1) in ('<', '>', '<=', '>='):
@@ -254,8 +337,11 @@ def of_other_update(it: Place, name: str) -> Optional[Hint]:
     if it.word() == '::' and it.word(-1) in ('this', 'self'):
         return Hint(f'There is no `{it.word(-1)}`: a field of the same object is named by itself, and `call m(..)` calls a method of it.',
                     '', it.changes(-1, 0, '' if it.word(2) != '(' else 'call '), f'Remove `{it.word(-1)}::`')
+    if it.word() == '::' and it.word(-1) in LIBRARIES:
+        return Hint(ALONE.replace('{word}', it.word(-1)), 'Write a method for what you need of it.')
     if it.word() == '::' and it.word(2) != '(':
-        return Hint(f'A field of another object must not be named, and `{it.word(1)}` is one of `{it.word(-1)}`.',
+        of_which = f', and `{it.word(1)}` is one of `{it.word(-1)}`' if it.has_field(it.word(1)) else f', as by `{it.word(-1)}::`'
+        return Hint(f'A field of another object must not be named{of_which}.',
                     'Let a method of its class change it, or add it to a parameter.')
     if it.word() == '::' and it.kind(-1) == 'name':
         return Hint(f'A call must begin with `call` or `uncall`: `call {it.word(-1)}::{it.word(1)}(..)`.',
@@ -267,7 +353,9 @@ def of_call_without_word(it: Place) -> Optional[Hint]:
     """`m(x)`, and words of other languages with parentheses."""
     if not it.is_behind_place() or it.word() != '(' or it.kind(-1) != 'name':
         return None
-    foreign = of_foreign_word(it.word(-1), it)
+    if it.kind(-2) == 'name' and it.has_class(it.word(-2)) or it.has_class(it.word(-1)):
+        return of_head_without_method(it)
+    foreign = of_foreign_word(it.word(-1), it) or (None if it.has_method(it.word(-1)) else foreign_method(it.word(-1)))
     near = near_keyword(it.word(-2)) if it.kind(-2) == 'name' else near_keyword(it.word(-1))
     if foreign or near:
         at = -2 if it.kind(-2) == 'name' else -1
@@ -284,6 +372,8 @@ def of_word_at_begin(it: Place) -> Optional[Hint]:
     if it.kind(-2) == 'number' and it.begin(-1) == it.end(-2):
         return Hint(f'A number must be decimal: `{it.word(-2)}{word}` is none.', 'Write its decimal digits.')
     foreign = of_foreign_word(word, it) or (of_foreign_word(it.word(-2), it) if it.kind(-2) == 'name' else None)
+    if foreign and word in STRUCTURES and it.kind() == 'name':
+        return foreign._replace(edits=it.changes(-1, -1, 'class'), title='Write `class`')
     if foreign:
         return foreign
     near = near_keyword(word)
@@ -295,6 +385,8 @@ def of_word_at_begin(it: Place) -> Optional[Hint]:
     if it.kind() == 'name' and word[0].isupper():
         return Hint(f'A variable must be declared by `local {word} {it.word()} = nil` .. `delocal {word} {it.word()} = nil`, or as a '
                     'field.')
+    if it.word() == ',' and [it.word(at) for at in range(2, 6)] == ['=', it.word(1), ',', word]:
+        return Hint('The exchange is written `<=>`, and there are no lists.', '', it.changes(0, 5, f' <=> {it.word(1)}'), 'Write `<=>`')
     if it.word() == ',':
         return Hint('A statement must change one variable: there are no lists.', 'Write a statement for each.')
     return None
@@ -311,37 +403,12 @@ def near_keyword(word: str) -> str:
 
 def of_foreign_word(word: str, it: Place) -> Optional[Hint]:
     """A word of other languages, and what serves in its place."""
-    if word in ELSE_IF:
-        return Hint(f'There is no `{word}`: write `else if .. then .. else .. fi ..`, each `if` with its own `fi`.')
-    if word in LOOPS:
-        return Hint(f'There is no `{word}`: a loop is `from a do s loop t until b`, where a holds only when it begins.',
-                    'A counting loop is `local int i = 0 from i = 0 do .. loop i += 1 until i = 9 delocal int i = 9`.')
-    if word in ENDS:
-        return Hint(f'There is no `{word}`: an `if` ends with `fi` and a condition, a `from` with `until` and one, and a method where '
-                    'the next begins.')
-    if word in PRINTS:
-        return Hint(f'There is no `{word}`: nothing is printed. The fields of the main object are reported when the run ends.')
-    if word in RETURNS:
-        return Hint(f'There is no `{word}`: a method has no result. Let it add what it computes to a parameter or a field.')
-    if word in CHOICES:
-        return Hint(f'There is no `{word}`: write `if`s one in another.')
-    if word in ASSERTIONS and not it.has_method(word):
-        return Hint(f'There is no `{word}`: conditions that must hold come after `fi`, `from`, `until` and `delocal`.',
-                    'Comments `//?` say what a run should give, and `rpp test` checks them.')
-    if word in TYPES_OF_OTHERS:
-        return Hint(f'There is no `{word}`: a variable is a field, or `local int {it.word() or "x"} = 0` .. `delocal int '
-                    f'{it.word() or "x"} = 0`.')
-    if word in ('break', 'continue', 'goto', 'exit', 'pass', 'nop'):
-        return Hint(f'There is no `{word}`: ' + ('the empty statement is `skip`.' if word in ('pass', 'nop') else
-                                                 'a loop ends only at its `until`.'))
-    if word in ('swap', 'exchange'):
-        return Hint(f'There is no `{word}`: two places are exchanged by `x <=> y`.')
-    if word in ('free', 'dispose', 'destroy'):
-        return Hint(f'There is no `{word}`: an object ends by `delete C x`.')
-    return of_operator_word(word) if word in OPERATOR_WORDS else None
+    ahead = 1 if it.word() in ('mut', 'int') else 0
+    found = foreign_word(word, it.word(ahead) if it.kind(ahead) == 'name' else 'x', it.has_method(word))
+    return found or (of_operator_word(word) if word in OPERATOR_WORDS else None)
 
 
-OPERATOR_WORDS = {'and': '&&', 'or': '||', 'xor': '^', 'is': '=', 'eq': '=', 'not': '', 'mod': '', 'div': ''}
+OPERATOR_WORDS = {'and': '&&', 'or': '||', 'xor': '^', 'is': '=', 'eq': '=', 'not': '', 'mod': '', 'div': '', 'in': ''}
 
 
 def of_operator_name(it: Place) -> Optional[Hint]:
@@ -358,6 +425,8 @@ def of_operator_name(it: Place) -> Optional[Hint]:
 def of_operator_word(word: str) -> Hint:
     if OPERATOR_WORDS[word]:
         return Hint(f'There is no `{word}`: write `{OPERATOR_WORDS[word]}`.')
+    if word == 'in':
+        return Hint('There is no `in`: a condition compares two values, and a loop looks for an element.')
     if word == 'not':
         return Hint('There is no `not`: write the opposite comparison, as `x = 0` or `x >= y`.')
     return Hint(f'There is no `{word}`: a quotient or remainder is computed by a method, and `x & 7` is the remainder of x by 8.')
@@ -375,12 +444,10 @@ def of_value(it: Place) -> Optional[Hint]:
     if not it.is_value():
         return None
     if it.word() == '[':
-        return Hint('There are no lists of values: an array is made by `new int[3] a`, and each of its elements is set by itself.',
-                    'Write `a[0] += 1`, and so on.')
-    if it.word() == '=' and before == '=':
-        return Hint('The comparison is one `=`.', '', it.changes(0, 0, ''), 'Remove one `=`')
-    if it.word() == '=' and before in ('!', '<', '>', '=='):
-        return Hint(f'The comparison is written `{before}=`, without a space.')
+        return LISTS
+    if it.word() == 'int' and (it.word(1) == '(' or before == '(' and it.word(1) == ')'):
+        edits = it.changes(-1, 1, '') if before == '(' else it.changes(0, 0, '')
+        return Hint('There are no casts: every number is an `int`.', 'Leave it out.', edits, 'Remove the cast')
     if it.word() == '-':
         change = {'+=': '-=', '-=': '+='}.get(before, '')
         if change:
@@ -389,22 +456,42 @@ def of_value(it: Place) -> Optional[Hint]:
         return Hint('There are no negative numbers and no sign before a value: write `0 - x`.', '', it.changes(0, 0, '0 - '), 'Write `0 -`')
     if it.word() == '+':
         return Hint('There must be no sign before a value.', 'Leave the `+` out.', it.changes(0, 0, ''), 'Remove the `+`')
-    if it.word() in ('<', '>') and before == it.word():
-        return Hint('There are no shifts.', 'A doubling is `y + y`; the remainder by a power of two is an `&`, as `x & 7`.')
-    if it.word() == '>' and before == '<':
-        return Hint('"Not equal" is `!=`.', '', it.changes(-1, 0, '!='), 'Write `!=`')
+    if it.word() == before == '*':
+        return Hint('There is no `**`: expressions have no powers.', 'A square is a product: docs/learn/from-janus.md has a method for one.')
     if it.word() in ('*', '/') and before in ('*', '/'):
         return of_comment(it, -1)
+    comparison = of_wrong_comparison(it, before)
+    if comparison:
+        return comparison
     if it.word() in ('&', '|') or it.word() in OPERATORS:
         return Hint(f'`{it.word()}` must have a value on both sides.')
     return of_word_for_value(it, before)
+
+
+def of_wrong_comparison(it: Place, before: str) -> Optional[Hint]:
+    """`==`, `/=`, `=<`, `< =`, `<>`, and shifts."""
+    if it.word() == '=' and before == '=':
+        last = 1 if it.word(1) == '=' else 0
+        return Hint('The comparison is one `=`.', '', it.changes(0, last, ''), 'Leave one `=`')
+    if it.word() == '=' and before == '/' and it.is_joined(-1):
+        return UNEQUAL._replace(edits=it.changes(-1, 0, '!='), title='Write `!=`')
+    if it.word() in ('<', '>') and before == '=' and it.is_joined(-1):
+        return Hint(f'The comparison is written `{it.word()}=`.', '', it.changes(-1, 0, f'{it.word()}='), f'Write `{it.word()}=`')
+    if it.word() == '=' and before in ('!', '<', '>', '=='):
+        return Hint(f'The comparison is written `{before}=`, without a space.')
+    if it.word() in ('<', '>') and before == it.word():
+        return Hint('There are no shifts.', 'A doubling is `y + y`; the remainder by a power of two is an `&`, as `x & 7`.')
+    if it.word() == '>' and before == '<':
+        return UNEQUAL._replace(edits=it.changes(-1, 0, '!='), title='Write `!=`')
+    return None
 
 
 def of_word_for_value(it: Place, before: str) -> Optional[Hint]:
     if it.word() in ('call', 'uncall', 'new') and it.is_new_line() and before not in ('fi', 'until'):
         return Hint(f'A value must follow `{before}`: there is none before this `{it.word()}`.')
     if it.word() == 'new':
-        return Hint('`new` is a statement and has no value: a local of a class begins as `nil`.', 'Write `new C x` after it.')
+        made = it.word(1) if it.kind(1) == 'name' else 'C'
+        return Hint('`new` is a statement and has no value: a local of a class begins as `nil`.', f'Write `new {made} x` after it.')
     if it.word() in ('call', 'uncall'):
         return Hint(f'`{it.word()}` is a statement and has no value: let the method add its result to an argument.')
     if before in ('fi', 'until'):
@@ -440,14 +527,17 @@ def of_value_end(it: Place) -> Optional[Hint]:
         return Hint(f'A number must be decimal: `{it.word(-1)}{it.word()}` is none.', 'Write its decimal digits.')
     if it.kind(-1) == 'number' and it.kind() == 'number':
         return Hint('There must be an operator between two numbers.')
-    if it.word() == '(' and it.word(-1) in LENGTHS and not it.has_method(it.word(-1)):
-        return Hint(f'There is no `{it.word(-1)}`: the length of an array is not part of it.', 'Keep the length in a variable.')
+    if it.word() == '(' and it.word(-1) in FOREIGN_METHODS and not it.has_method(it.word(-1)):
+        return foreign_method(it.word(-1))
+    if it.word() == '(' and it.has_array(it.word(-1)):
+        edits = it.changes(0, 0, '[') + it.changes(2, 2, ']') if it.word(2) == ')' else ()
+        return Hint(f'An element must be written with brackets: `{it.word(-1)}[..]`.', '', edits, 'Write brackets' if edits else '')
     if it.word() in UPDATES | {'<=>'} and it.word(-2) in ('fi', 'until') and it.kind(-1) == 'name':
         return of_missing_condition(it.word(-2))
     if it.word() == '(' and it.kind(-1) == 'name':
         return Hint('A call is a statement and has no value: let the method add its result to an argument.',
                     f'Write `call {it.word(-1)}(..)` with one argument more.')
-    if it.word() in UPDATES | {'<=>'}:
+    if it.word() in UPDATES | {'<=>'} and not it.expects(']'):
         return Hint(f'A statement must change one place: there must be no second `{it.word()}` in it.', 'Write two statements.')
     if it.word() == '::':
         return Hint('A value must not be a call, and fields of other objects are not seen.',
@@ -473,10 +563,18 @@ def of_argument(it: Place) -> Optional[Hint]:
         return None
     local = 'Put it into a local around the call: `local int v = ..` .. `delocal int v = ..`.'
     if it.expected == {'('}:
+        if it.word() == '::':
+            return Hint(f'A call must name one object: `{it.word(-1)}` must be a method of `{it.word(-3)}`, whose fields are not seen here.',
+                        f'Let a method of `{it.word(-3)}` make the call.')
         if it.expects('('):
-            return Hint(f'A call must have parentheses: `call {it.word(-1)}()`.', '', (Edit(it.end(-1), it.end(-1), '()'),), 'Write `()`')
-    if it.word() == 'int' or it.kind() == 'name' and it.kind(-1) == 'name':
+            named = it.written(-3, -1) if it.word(-2) == '::' else it.word(-1)
+            return Hint(f'A call must have parentheses: `call {named}()`.', '', (Edit(it.end(-1), it.end(-1), '()'),), 'Write `()`')
+    if it.word() in ('&', '*') and it.kind(1) == 'name' and it.word(-1) in ('(', ',') or it.kind() == 'name' and it.word(-1) in BY_REFERENCE:
+        return of_argument_by_reference(it)
+    if it.word() == 'int' or it.kind() == 'name' and it.kind(-1) == 'name' and it.has_class(it.word(-1)):
         return Hint('An argument must be a variable without its type.', 'Leave the type out.')
+    if it.kind() == 'name' and it.kind(-1) == 'name':
+        return Hint(f'There must be a `,` between `{it.word(-1)}` and `{it.word()}`.', '', (Edit(it.end(-1), it.end(-1), ','),), 'Write `,`')
     if it.word() == '[':
         name = it.word(-1)
         return Hint(f'An argument must be a variable, not an element: `{name}[..]` cannot move into the call.',
@@ -494,6 +592,14 @@ def of_argument(it: Place) -> Optional[Hint]:
     if it.word() == ')' and it.word(-1) == ',':
         return Hint('There must be a variable after the `,`.', 'Leave it out.', it.changes(-1, -1, ''), 'Remove the `,`')
     return None
+
+
+def of_argument_by_reference(it: Place) -> Hint:
+    """`&x`, `&mut x`, `mut x`, `ref x`."""
+    first, last = (0, 1 if it.word(1) in BY_REFERENCE else 0) if it.kind() != 'name' else (-1, -1)
+    edits = (Edit(it.begin(first), it.begin(last + 1), ''),)
+    return Hint(f'There is no `{it.written(first, last)}` before an argument: the value of `{it.word(last + 1)}` moves into the call and back, '
+                'so a method can change it.', 'Leave it out.', edits, f'Remove `{it.written(first, last)}`')
 
 
 def of_call_parentheses(it: Place) -> Optional[Hint]:
@@ -584,17 +690,21 @@ def of_missing_word(it: Place) -> Optional[Hint]:
     if opened is None or it.inside in ('arguments', 'parentheses', 'index', 'length'):
         return None
     closers = CLOSERS[opened.what]
+    if of_value_with_if(it, opened):
+        return of_value_with_if(it, opened)
     missing = next((word for word in closers if it.expects(word)), '')
     line = it.line_of(opened.first)
     if it.word() in closers and missing and closers.index(missing) < closers.index(it.word()):
         text = {'else': 'else skip ', 'loop': 'loop skip ', 'then': 'then ', 'do': 'do skip '}.get(missing, '')
         if missing == 'do' and it.word() != 'loop':
             text = 'do '
+        is_chain = missing == 'else' and it.tokens[opened.first - 1].text == 'else'
+        fix = 'Each `if` has its own `else` and `fi`. ' if is_chain else ''
         return Hint(f'The `{opened.what}` of line {line} must have `{missing}` before this `{it.word()}`.',
-                    f'An empty block is `{missing} skip`.' if 'skip' in text else '', it.puts(text), f'Write `{text.strip()}`')
-    if missing in ('then', 'do') and it.inside == 'expression' or missing in ('then', 'do'):
-        return Hint(f'The `{opened.what}` of line {line} must have `{missing}` after its condition.', '',
-                    (Edit(it.end(-1), it.end(-1), f' {missing}'),), f'Write `{missing}`')
+                    f'{fix}An empty block is `{missing} skip`.' if 'skip' in text else '', it.puts(text), f'Write `{text.strip()}`')
+    if missing in ('then', 'do'):
+        edits = it.changes(0, 0, missing) if it.word() in ('then', 'do') else (Edit(it.end(-1), it.end(-1), f' {missing}'),)
+        return Hint(f'The `{opened.what}` of line {line} must have `{missing}` after its condition.', '', edits, f'Write `{missing}`')
     if missing and it.word() in ('', 'method', 'class'):
         rest = {'else': '`else` .. `fi`', 'fi': '`fi` with its assertion', 'loop': '`loop` .. `until`', 'until': '`until` with its condition',
                 'delocal': '`delocal`', 'destruct': '`destruct`'}[missing]
@@ -603,12 +713,27 @@ def of_missing_word(it: Place) -> Optional[Hint]:
     return None
 
 
+def of_value_with_if(it: Place, opened: Open) -> Optional[Hint]:
+    """`x += 1 if y > 0 else 2`."""
+    before, first = it.tokens[opened.first - 1], it.tokens[opened.first]
+    is_value = before.kind in ('name', 'number') or before.text in (')', ']')
+    is_one_line = b'\n' not in it.text[before.end:first.at]
+    if opened.what != 'if' or it.word() != 'else' or not it.expects('then') or not is_value or not is_one_line:
+        return None
+    if it.kind(1) not in ('name', 'number') or it.word(2) in UPDATES | {'<=>', '::', '['}:
+        return None
+    return Hint('An `if` is a statement and has no value.', 'Write the change in both of its blocks: `if a then x += 1 else x += 2 fi a`.')
+
+
 def of_stray_word(it: Place) -> Optional[Hint]:
     """A word that ends what is not open, or not the innermost."""
     owner = next((what for what, words in CLOSERS.items() if it.word() in words), '')
     if not owner or not (it.is_statement() or it.expects('method')):
         return None
     opened = it.opened('if', 'from', 'local', 'construct')
+    if it.opened(owner) is None and owner == 'from':
+        return Hint(f'There must be an open `from` before this `{it.word()}`: a loop is `from a do s loop t until b`, where a holds only when '
+                    'it begins.')
     if it.opened(owner) is None:
         return Hint(f'There must be an open `{owner}` before this `{it.word()}`.')
     if opened is not None and opened.what != owner:
@@ -625,6 +750,8 @@ def of_parentheses(it: Place) -> Optional[Hint]:
         inner = it.spot.open[-2].what
         closer = {'parentheses': ')', 'index': ']', 'length': ']'}.get(inner, '')
     opened = it.opened(inner) if closer and it.expects(closer) else None
+    if opened is not None and inner == 'index' and it.word() == ',':
+        return Hint('An element must have one index: there are no arrays of arrays.', 'Keep the rows one after the other in one array.')
     if opened is not None:
         first = it.tokens[opened.first].text
         return Hint(f'The `{first}` of line {it.line_of(opened.first)} must be closed by `{closer}` before `{it.word() or "the end"}`.', '',
@@ -644,6 +771,9 @@ def of_statement_begin(it: Place) -> Optional[Hint]:
         return comment
     if it.kind() == 'number':
         return Hint('A statement must not begin with a number.')
+    if it.word() == 'int' and it.kind(1) == 'name' and it.word(2) == '(':
+        return Hint(f'A method must begin with `method`, and has no type: `method {it.word(1)}(..)`.',
+                    'Let it add what it computes to a parameter.', it.changes(0, 0, 'method'), 'Write `method`')
     if it.word() == 'int' or it.word() in TYPES_OF_OTHERS:
         name = it.word(1) if it.kind(1) == 'name' else 'x'
         return Hint(f'A variable of a method must be declared by `local int {name} = ..` .. `delocal int {name} = ..`.',
@@ -652,8 +782,11 @@ def of_statement_begin(it: Place) -> Optional[Hint]:
         return Hint(f'There is no `{it.word()}{it.word()}`: write `{it.word(2) or "x"} {it.word()}= 1`.')
     if it.word() in ('inherits', 'nil'):
         return Hint(f'`{it.word()}` must not begin a statement.')
-    if it.word() == ',':
+    if it.word() == ',' and it.inside == 'local' and it.at <= it.opened('local').first + 5:
         return Hint('A statement must not begin with `,`: a `local` declares one variable, and a statement changes one.')
+    if it.word() == ',':
+        return Hint('There must be no `,` between statements, which follow one another.', 'Leave it out.', it.changes(0, 0, ''),
+                    'Remove the `,`')
     if it.word() in OPERATORS or it.word() in UPDATES or it.word() in ('<=>', '::', '(', '['):
         return Hint(f'A statement must not begin with `{it.word()}`: the variable that it changes comes first.')
     return None
@@ -676,7 +809,7 @@ def of_word_behind_statement(it: Place) -> Optional[Hint]:
 
 
 HINTS: List[Callable[[Place], Optional[Hint]]] = [
-    of_first_word, of_extends, of_modifier, of_operator_name, of_keyword_as_variable, of_missing_word,
+    of_first_word, of_comment_as_quotient, of_arrow, of_extends, of_modifier, of_operator_name, of_keyword_as_variable, of_missing_word,
     of_stray_word, of_keyword_as_name, of_method_head, of_field, of_type, of_argument, of_call_parentheses,
     of_local, of_construct, of_new_with_arguments, of_new, of_copy, of_update, of_call_without_word,
     of_word_at_begin, of_value, of_value_end, of_parentheses, of_statement_begin, of_end, of_word_behind_statement]
@@ -693,70 +826,3 @@ def syntax_hint(text: bytes, at: int) -> Hint:
     found = f'`{it.word()}`' if it.word() else 'the end of the source'
     hint = next(filter(None, (rule(it) for rule in HINTS)), Hint(''))
     return hint._replace(expected=spelled(spot.expected), found=found)
-
-
-# ---- bytes
-
-BYTES = {
-    ';': Hint('No statement ends with `;`.', 'Leave it out.'),
-    '{': Hint('There are no braces: a method goes on to the next `method` or `class`, and `then`, `do`, `fi` and so on mark blocks.',
-              'Leave it out.'),
-    '}': Hint('There are no braces: a method goes on to the next `method` or `class`.', 'Leave it out.'),
-    '.': Hint('There is no `.`: a call on an object is `call x::m(..)`, fields of other objects are not seen, and numbers are whole.',
-              'Let a method of the object add the value to a parameter. The length of an array is kept in a variable.'),
-    '!': Hint('There is no `!`: write the opposite comparison, as `x = 0` for `!x`, and `!=` without a space.'),
-    "'": Hint('There are no characters: a character is its number, 104 for `h`.'),
-    '"': Hint('There are no strings: keep the numbers of the characters in an `int[]`.', 'Nothing is printed; a comment begins with `//`.'),
-    ':': Hint('There is no single `:`: a call on an object is `x::m(..)`, and a variable is changed by `+=`.',
-              'Blocks are marked by `then`, `else`, `do`, `loop`, and locals are declared as `local int x = 0`.'),
-    '#': Hint('A comment must begin with `//`.', '', (), 'Write `//`'),
-    '~': Hint('There is no `~`: `0 - x - 1` inverts all bits.'),
-    '@': Hint('There is no `@`.', 'Leave it out.'),
-    '?': Hint('There is no `?`: write an `if`.'),
-    '$': Hint('There is no `$`: a variable is its name.', 'Leave it out.'),
-    '`': Hint('There is no such quote.', 'Leave it out.'),
-    '\\': Hint('There is no `\\`: a statement may go over lines by itself.', 'Leave it out.'),
-    '_': Hint('A name must begin with a letter, not with `_`.'),
-    '\ufeff': Hint('The source must not begin with a byte order mark.', 'Save it as UTF-8 without one.', (), 'Remove the mark'),
-    '\xa0': Hint('This is a no-break space, which must not be in a source though it looks like a space.', 'Write a space.', (),
-                 'Write a space'),
-    '\u200b': Hint('This is a space without width, which must not be in a source.', 'Remove it.', (), 'Remove it'),
-    '\u2212': Hint('This is a minus sign that only looks like `-`.', 'Write `-`.', (), 'Write `-`'),
-    '\u2013': Hint('This is a dash that only looks like `-`.', 'Write `-`.', (), 'Write `-`'),
-    '\u2018': Hint('This is a quotation mark of a word processor.', 'Leave it out.'),
-    '\u2019': Hint("This is a quotation mark of a word processor, which only looks like `'`.", "Write `'` in names."),
-    '\u201c': Hint('This is a quotation mark of a word processor, and there are no strings.', 'Leave it out.'),
-    '\u201d': Hint('This is a quotation mark of a word processor, and there are no strings.', 'Leave it out.'),
-    '\u2264': Hint('This sign must be written `<=`.', '', (), 'Write `<=`'),
-    '\u2265': Hint('This sign must be written `>=`.', '', (), 'Write `>=`'),
-    '\u2260': Hint('This sign must be written `!=`.', '', (), 'Write `!=`'),
-    '\u21d4': Hint('This sign must be written `<=>`.', '', (), 'Write `<=>`'),
-    '\x00': Hint('The source must not have a byte 0: it is no text, or UTF-16.', 'Save it as UTF-8.'),
-    '\x0c': Hint('This is a form feed, which must not be in a source outside of comments.', 'Write a line feed.', (), 'Write a line feed'),
-    '\x0b': Hint('This is a vertical tab, which must not be in a source outside of comments.', 'Write a space.', (), 'Write a space'),
-}
-WRITES = {'#': '//', '\ufeff': '', '\xa0': ' ', '\u200b': '', '\u2212': '-', '\u2013': '-', '\u2264': '<=', '\u2265': '>=',
-          '\u2260': '!=', '\u21d4': '<=>', '\x0c': '\n', '\x0b': ' ', ';': ''}
-
-
-def byte_hint(text: bytes, at: int) -> Optional[Hint]:
-    """What is said of the byte at which no token begins."""
-    if text[at:at + 1] in (b'!', b':') and text[at + 1:at + 2] == b'=':
-        return Hint('There is no `:=`, which would lose the old value: `+=` sets a variable that is 0.', 'Write `+=`.',
-                    (Edit(at, at + 2, '+='),), 'Write `+=`')
-    if text[at:at + 2] in (b'\xff\xfe', b'\xfe\xff'):
-        return Hint('The source must not be UTF-16.', 'Save it as UTF-8.')
-    character = text[at:at + 4].decode('utf-8', 'ignore')[:1]
-    if text[at:at + len(character.encode())] != character.encode():
-        character = ''
-    if character.isalpha():
-        return Hint(f'`{character}` must not be in a name: letters are those of ASCII.', 'Write the name with a to z.')
-    hint = BYTES.get(character)
-    if hint is None:
-        return None
-    if character not in WRITES:
-        return hint
-    end = at + len(character.encode())
-    if character == ';':
-        return hint._replace(edits=(Edit(at, end, ''),), title='Remove the `;`')
-    return hint._replace(edits=(Edit(at, end, WRITES[character]),))

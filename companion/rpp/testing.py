@@ -27,7 +27,7 @@ WHOLE_SECONDS = 30.0
 COLUMNS = ('submission', 'exercise', 'verdict', 'held', 'expected', 'seconds', 'why')
 TOLD = {'right': 'all expectations hold', 'wrong': 'not all expectations hold', 'open': 'answers are still open',
         'refused': 'the text is refused', 'fault': 'a run stopped with a fault', 'endless': 'a run did not end',
-        'late': 'a run took too long', 'unreadable': 'it could not be read', 'none': 'it expects nothing'}
+        'late': 'a run took too long', 'unreadable': 'it cannot be checked', 'none': 'it expects nothing'}
 
 
 class Trouble(Exception):

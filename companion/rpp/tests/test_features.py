@@ -74,6 +74,24 @@ class Session(unittest.TestCase):
         self.assertEqual(self.client.diagnostics(URI, 2), [])
         self.assertEqual(self.client.ask('textDocument/codeAction', asked), [])
 
+    def test_quick_fixes_of_names_and_forms(self):
+        """What is wrong is put right by the edit: a name, a type, a call as in Java, an exchange as in Python."""
+        right = CALLS.replace('call c::two(x, )', 'call c::two(x, a)').replace('  C c\n', '  C c\n  int[] a\n')
+        for version, (old, new, title) in enumerate((
+                ('class C', 'class D', None), ('  C c\n', '  Cc c\n', 'Write `C`'), ('c::two', 'c::twoo', 'Write `two`'),
+                ('(x, a)', '(X, a)', 'Write `x`'), ('(x, a)', '(x a)', 'Write `,`'), ('call c::two(x, a)', 'c.two(x, a)', 'Write `::`'),
+                ('(int first', '(first: int', 'Write `int first`'), ('  skip\n', '  rest, first = first, rest\n', 'Write `<=>`')), 1):
+            text = right.replace(old, new)
+            (self.client.open(URI, text) if version == 1 else self.client.change(URI, text, version))
+            asked = {'textDocument': {'uri': URI}, 'range': span(0, 0, 0), 'context': {'diagnostics': self.client.diagnostics(URI, version)}}
+            actions = self.client.ask('textDocument/codeAction', asked)
+            with self.subTest(new=new):
+                self.assertEqual([each['title'] for each in actions], [title] if title else [])
+                if title and '<=>' not in title:
+                    self.assertEqual(applied(text, actions[0]['edit']['changes'][URI]), right)
+                elif title:
+                    self.assertEqual(applied(text, actions[0]['edit']['changes'][URI]), right.replace('skip', 'rest <=> first'))
+
     def test_colours_of_names(self):
         self.client.open(URI, RIGHT)
         legend = self.able['semanticTokensProvider']['legend']['tokenTypes']

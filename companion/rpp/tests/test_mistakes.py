@@ -17,7 +17,8 @@ from .base import Case
 PAGE = os.path.join(TOP, 'docs', 'reference', 'messages.md')
 HEADING = re.compile(r'^### (Fault )?(\d+) (\w+)\n(.*?)(?=^##|\Z)', re.S | re.M)
 WRONG = re.compile(r'^```\n(// wrong\.rpp\n.*?)^```', re.S | re.M)
-MOST_WITHOUT = 5
+RIGHT = re.compile(r'^```\n(// right\.rpp\n.*?)^```', re.S | re.M)
+MOST_WITHOUT = 2
 
 
 def mistakes():
@@ -49,7 +50,7 @@ class Mistakes(Case):
     def test_each_has_its_sentence(self):
         rows = list(mistakes())
         files = [self.write(f'{name}.rpp', text) for name, _, text in rows]
-        self.assertGreater(len(rows), 180)
+        self.assertGreater(len(rows), 300)
         for (name, said, _), verdict in zip(rows, self.verdicts(files)):
             with self.subTest(name=name):
                 self.assertIn(said, verdict['message'])
@@ -65,7 +66,7 @@ class Mistakes(Case):
         """A text with its edits is accepted, or refused later, or for something else."""
         before = [verdict for verdict in self.verdicts([self.write(f'{name}.rpp', text) for name, _, text in mistakes()])
                   if verdict.get('edits')]
-        self.assertGreater(len(before), 40)
+        self.assertGreater(len(before), 100)
         for verdict in before:
             with open(verdict['file'], 'rb') as file:
                 content = file.read()
@@ -123,21 +124,43 @@ class Pages(Case):
 
     def test_wrong_programs_of_refusals(self):
         for fault, number, _, body in self.sections():
-            for text in WRONG.findall(body) if not fault else ():
+            for place, text in enumerate(WRONG.findall(body) if not fault else ()):
                 with self.subTest(number=number, text=text):
                     found = re.match(r'refused (\d+) \w+ at (\d+)', self.program.call('check', self.write('wrong.rpp', text)).output)
                     self.assertEqual(found[1], number)
                     self.good(of_refusal(text.encode(), int(number), int(found[2])))
+                    if place == 0:
+                        self.assertEqual(found[2], re.search(r'(?:Here: |refused \d+ \w+ at )(\d+)', body)[1])
 
     def test_wrong_programs_of_faults(self):
         for fault, number, name, body in self.sections():
             for text in WRONG.findall(body) if fault else ():
-                heap, depth = map(int, re.search(r'go wrong\.rpp (\d+) (\d+)', body).groups())
+                heap, depth = self.limits(body)
                 source = self.write('wrong.rpp', text)
                 found = find_fault(self.program, Wanted(source, heap, depth, 100000, None, False), Text.read(source))
                 at = found.statement if found.statement is not None else found.point.place
+                output = self.program.call('go', source, str(heap), str(depth), '100000').output
                 with self.subTest(name=name):
+                    self.assertEqual(output.split('\n')[0], f'fault {number} {name}')
                     self.good(of_fault(int(number), Where(text.encode(), at, found.moment, found.is_back, heap, depth)))
+
+    def test_right_programs(self):
+        """Each is accepted, and those of faults finish. Only the fault of a heap that is full has no second program."""
+        missing = []
+        for fault, number, name, body in self.sections():
+            if not RIGHT.search(body):
+                missing.append(name)
+            for text in RIGHT.findall(body):
+                source = self.write('right.rpp', text)
+                words = ('go', source, *map(str, self.limits(body)), '100000') if fault else ('check', source)
+                with self.subTest(name=name, number=number, text=text):
+                    self.assertEqual(self.program.call(*words).status, 0)
+        self.assertEqual(missing, ['HeapFull'])
+
+    def limits(self, body):
+        """The heap and the depth of the session of a fault, or those of the first one."""
+        found = re.search(r'go wrong\.rpp (\d+) (\d+)', body)
+        return (int(found[1]), int(found[2])) if found else (4, 8)
 
     def good(self, message):
         self.assertTrue(message.is_own, message.sentence)

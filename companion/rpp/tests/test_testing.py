@@ -152,7 +152,8 @@ class TestingTest(Case):
             with self.assertRaises(BadExpectation, msg=text):
                 Expectations.read(f'//? {text}\nclass P'.encode())
         self.assertIn('line 1', self.said_of('//? hello\nclass P int x method main() skip'))
-        self.assertIn('no comment', self.said_of('class P int x method main() skip'))
+        said = self.said_of('class P int x method main() skip')
+        self.assertIn('f.rpp: it cannot be checked\n  it has no comment `//?`', said)
 
     def test_questions(self):
         asked = '//? -> ends ?\nclass P int[] a method main() new int[0] a'

@@ -135,7 +135,11 @@ async function renaming() {
 }
 
 async function debugging() {
-  assert.deepStrictEqual(provided.descriptor.createDebugAdapterDescriptor().given, [path.join(top, 'rpp'), ['dap']]);
+  const { platform } = process, adapter = () => provided.descriptor.createDebugAdapterDescriptor().given;
+  assert.deepStrictEqual(adapter(), [path.join(top, 'rpp'), ['dap']]);
+  Object.defineProperty(process, 'platform', { value: 'win32' });
+  assert.deepStrictEqual(adapter(), ['cmd.exe', ['/d', '/c', path.join(top, 'rpp'), 'dap']]);
+  Object.defineProperty(process, 'platform', { value: platform });
   assert.strictEqual(provided.configuration.resolveDebugConfiguration(undefined, {}).program, '${file}');
 }
 
