@@ -16,8 +16,8 @@ import urllib.error
 import urllib.request
 
 ELEMENT = 'element-6066-11e4-a52e-4f735466cecf'
-START_SECONDS = 300
-ANSWER_SECONDS = 1200
+# The longest waits on a busy machine: for the start of a browser, for an answer, and for what the page is to show.
+START_SECONDS, ANSWER_SECONDS, SHOWN_SECONDS = 600, 1200, 300
 
 
 class BrowserFailed(Exception):
@@ -37,6 +37,26 @@ def descendants(root):
         found += children
         open_ones += children
     return found
+
+
+def port_in(file, name):
+    """The port that a browser writes into a file of its profile when it has started: the first word of the first line."""
+    end = time.monotonic() + START_SECONDS
+    while time.monotonic() < end:
+        with contextlib.suppress(OSError, ValueError, IndexError):
+            with open(file, encoding='ascii') as it:
+                return int(it.read().split()[0])
+        time.sleep(0.1)
+    raise BrowserFailed(f'{name} did not start')
+
+
+def ended(process):
+    process.terminate()
+    try:
+        process.wait(20)
+    except subprocess.TimeoutExpired:
+        process.kill()
+        process.wait()
 
 
 class Browser:
@@ -75,25 +95,29 @@ class Browser:
 
     def press(self, *keys):
         """Presses the keys one upon the other, as for a shortcut, and lets them go."""
-        actions = [{'type': 'keyDown', 'value': key} for key in keys] + [{'type': 'keyUp', 'value': key} for key in reversed(keys)]
-        self.command('PerformActions', 'actions', {'actions': [{'type': 'key', 'id': 'keys', 'actions': actions}]})
+        self.move_keys([('keyDown', key) for key in keys] + [('keyUp', key) for key in reversed(keys)])
 
     def type(self, text):
-        for key in text:
-            self.press(key)
+        """Presses the keys one after the other."""
+        self.move_keys([(kind, key) for key in text for kind in ('keyDown', 'keyUp')])
+
+    def move_keys(self, moves):
+        """Has keys go down or up, one after the other."""
+        actions = [{'type': kind, 'value': key} for kind, key in moves]
+        self.command('PerformActions', 'actions', {'actions': [{'type': 'key', 'id': 'keys', 'actions': actions}]})
 
     def resize(self, width, height):
         self.command('SetWindowRect', 'window/rect', {'width': width, 'height': height})
 
-    def processor_seconds(self):
-        """The time for which processors worked at the pages: in their main threads, which run the scripts and draw."""
+    def processor_seconds(self, of_all=False):
+        """The time for which processors worked at the pages: in their main threads, which run the scripts and draw, or in all threads."""
         ticks = 0
         for it in descendants(self.root()):
             with contextlib.suppress(OSError):
                 with open(f'/proc/{it}/cmdline', encoding='latin-1') as file:
                     is_of_page = self.of_page in file.read()
                 if is_of_page:
-                    with open(f'/proc/{it}/task/{it}/stat', encoding='latin-1') as file:
+                    with open(f'/proc/{it}/{"" if of_all else f"task/{it}/"}stat', encoding='latin-1') as file:
                         ticks += sum(map(int, file.read().rpartition(')')[2].split()[11:13]))
         return ticks / os.sysconf('SC_CLK_TCK')
 
@@ -101,15 +125,15 @@ class Browser:
         with open(file, 'wb') as it:
             it.write(base64.b64decode(self.command('TakeScreenshot', 'screenshot', None)))
 
-    def until(self, script, *given, seconds=60):
+    def until(self, script, *given):
         """Waits until the script returns something true, and returns that."""
-        end = time.monotonic() + seconds
+        end = time.monotonic() + SHOWN_SECONDS
         while True:
             value = self.run(script, *given)
             if value:
                 return value
             if time.monotonic() > end:
-                raise BrowserFailed(f'waited {seconds} seconds for: {script}')
+                raise BrowserFailed(f'waited {SHOWN_SECONDS} seconds for: {script}')
             time.sleep(0.05)
 
     @contextlib.contextmanager
@@ -132,7 +156,7 @@ class Browser:
 
 
 class Chromium(Browser):
-    """Chromium, driven over HTTP by chromedriver."""
+    """Chromium, driven over HTTP by chromedriver. It is begun here, because chromedriver waits for a minute only."""
 
     name = 'chromium'
     needs = ('chromium', 'chromedriver')
@@ -140,6 +164,10 @@ class Chromium(Browser):
 
     def __init__(self):
         self.folder = tempfile.mkdtemp(prefix='chromium')
+        words = ['chromium', '--headless=new', '--disable-dev-shm-usage', '--remote-debugging-port=0', f'--user-data-dir={self.folder}']
+        words += ['--no-first-run', '--disable-background-networking', '--disable-component-update', '--disable-sync']
+        words += ['--no-sandbox'] * (os.geteuid() == 0)
+        self.process = subprocess.Popen(words, stdout=subprocess.DEVNULL, stderr=subprocess.DEVNULL)
         self.driver = subprocess.Popen(['chromedriver', '--port=0'], stdout=subprocess.PIPE, stderr=subprocess.DEVNULL, text=True)
         self.address = ''
         with self.closed_on_failure():
@@ -147,16 +175,14 @@ class Chromium(Browser):
 
     def begin(self):
         """Begins the session; its address is that of each later command."""
+        browser = f'127.0.0.1:{port_in(f"{self.folder}/DevToolsActivePort", self.name)}'
         self.address = f'http://127.0.0.1:{self.port()}/session'
-        words = ['--headless=new', '--disable-dev-shm-usage', f'--user-data-dir={self.folder}']
-        words += ['--no-sandbox'] * (os.geteuid() == 0)
-        wanted = {'browserName': 'chrome', 'goog:chromeOptions': {'binary': shutil.which('chromium'), 'args': words}}
-        session = self.send('POST', '', {'capabilities': {'alwaysMatch': wanted}})
+        session = self.send('POST', '', {'capabilities': {'alwaysMatch': {'browserName': 'chrome', 'goog:chromeOptions': {'debuggerAddress': browser}}}})
         self.address += f'/{session["sessionId"]}'
         self.set_limits()
 
     def root(self):
-        return self.driver.pid
+        return self.process.pid
 
     def emulate(self, medium='', **features):
         """Has the page drawn as for a medium, such as print, and for what a reader prefers, such as prefers_color_scheme='dark'."""
@@ -189,9 +215,9 @@ class Chromium(Browser):
         with contextlib.suppress(BrowserFailed, OSError):
             if self.address:
                 self.send('DELETE', '', None)
-        self.driver.terminate()
-        self.driver.wait()
+        ended(self.driver)
         self.driver.stdout.close()
+        ended(self.process)
         shutil.rmtree(self.folder, ignore_errors=True)
 
 
@@ -210,7 +236,8 @@ class Firefox(Browser):
         self.process = subprocess.Popen(words, stdout=subprocess.DEVNULL, stderr=subprocess.DEVNULL)
         self.socket, self.got, self.number = None, b'', 0
         with self.closed_on_failure():
-            self.socket = socket.create_connection(('127.0.0.1', self.port()), ANSWER_SECONDS)
+            port = port_in(f'{self.folder}/MarionetteActivePort', self.name)
+            self.socket = socket.create_connection(('127.0.0.1', port), ANSWER_SECONDS)
             self.message()
             self.command('NewSession', '', {})
             self.set_limits()
@@ -230,15 +257,6 @@ class Firefox(Browser):
             self.command('ExecuteScript', '', {'script': script, 'args': given})
         finally:
             self.command_of('Marionette', 'SetContext', {'value': 'content'})
-
-    def port(self):
-        end = time.monotonic() + START_SECONDS
-        while time.monotonic() < end:
-            with contextlib.suppress(OSError, ValueError):
-                with open(f'{self.folder}/MarionetteActivePort', encoding='ascii') as it:
-                    return int(it.read())
-            time.sleep(0.1)
-        raise BrowserFailed('firefox did not start')
 
     def message(self):
         """The next message: its length in bytes, a colon, and that many bytes of JSON."""
@@ -275,12 +293,7 @@ class Firefox(Browser):
     def close(self):
         if self.socket:
             self.socket.close()
-        self.process.terminate()
-        try:
-            self.process.wait(20)
-        except subprocess.TimeoutExpired:
-            self.process.kill()
-            self.process.wait()
+        ended(self.process)
         shutil.rmtree(self.folder, ignore_errors=True)
 
 

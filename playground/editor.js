@@ -28,7 +28,8 @@ class Editor {
   constructor(area, patterns, keys, onEdit) {
     defineMode('rpp', patterns);
     // The tabulator leaves the editor, so that the keyboard reaches all of the page.
-    const extraKeys = { Tab: false, 'Shift-Tab': false, 'Ctrl-/': 'toggleComment', 'Cmd-/': 'toggleComment', ...keys };
+    const extraKeys = { Tab: false, 'Shift-Tab': false, 'Ctrl-/': 'toggleComment', 'Cmd-/': 'toggleComment',
+      F9: code => this.toggleBreak(code.getCursor().line), ...keys };
     this.code = CodeMirror.fromTextArea(area, { mode: 'rpp', extraKeys, lineNumbers: true, lineWrapping: true, matchBrackets: true, indentUnit: 2,
       screenReaderLabel: 'Program text', gutters: ['breaks', 'CodeMirror-linenumbers', 'ways'] });
     Object.assign(this, { marks: [], lines: [], widget: undefined, breaks: new Set(), hueLines: [] });

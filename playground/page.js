@@ -52,6 +52,22 @@ class Workbench {
     addEventListener('hashchange', () => this.openAddress());
     new ResizeObserver(() => this.drawStore()).observe($('store'));
     this.connectSplit();
+    this.connectMore();
+  }
+
+  // What a narrow header has no space for: a key opens it, and it closes when one goes elsewhere.
+  connectMore() {
+    const isOpen = () => $('more').getAttribute('aria-expanded') === 'true', open = it => $('more').setAttribute('aria-expanded', it);
+    const leave = ({ target }) => { if (!target.closest?.('#more, #extras')) open(false); };
+    $('more').onclick = () => open(!isOpen());
+    for (const kind of ['pointerdown', 'focusin']) document.addEventListener(kind, leave);
+    const close = () => {
+      if (!isOpen()) return;
+      open(false);
+      $('more').focus();
+    };
+    $('embed').addEventListener('click', close);
+    $('head').onkeydown = event => { if (event.key === 'Escape') close(); };
   }
 
   connectSplit() {

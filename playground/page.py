@@ -12,6 +12,7 @@ import re
 import shutil
 import subprocess
 import sys
+import tempfile
 
 import translate
 
@@ -22,8 +23,9 @@ EDITOR = '/usr/share/javascript/codemirror'
 EDITOR_SCRIPTS = ('lib/codemirror.js', 'addon/mode/simple.js', 'addon/edit/matchbrackets.js', 'addon/comment/comment.js')
 LAYOUT = '/usr/share/nodejs/dagre/dist/dagre.min.js'
 RIGHTS = ('libjs-codemirror', 'node-dagre-layout', 'node-graphlibrary', 'node-lodash')
-# Debian's package uglifyjs.
+# Debian's packages uglifyjs, and zopfli, which packs smaller than Python's library.
 MINIFIER = 'uglifyjs'
+PACKER = 'zopfli'
 # In the order in which they use each other: what the page begins with, and what it unpacks then.
 FIRST_SCRIPTS = ('common.js', 'sharing.js', 'lessons.js', 'start.js')
 SCRIPTS = ('source.js', 'texts.js', 'messages.js', 'caller.js', 'run.js', 'failure.js', 'faults.js', 'places.js', 'arrows.js', 'store.js',
@@ -156,7 +158,14 @@ def grammar():
 
 
 def packed(data):
-    return base64.b64encode(gzip.compress(data, 9, mtime=0)).decode()
+    """Bytes as the base64 text of a gzip file."""
+    with tempfile.NamedTemporaryFile() as file:
+        file.write(data)
+        file.flush()
+        done = subprocess.run([PACKER, '--i5', '-c', file.name], stdout=subprocess.PIPE, check=False)
+    if done.returncode or not done.stdout:
+        raise CannotBuild(f'{PACKER} did not pack {len(data)} bytes')
+    return base64.b64encode(done.stdout).decode()
 
 
 def unpacked(text):
@@ -177,16 +186,15 @@ def shortened(text, what):
 
 def missing_packages():
     """Debian's packages that the page is made with and that are not here."""
-    files = {'libjs-codemirror': os.path.isdir(EDITOR), 'node-dagre-layout': os.path.isfile(LAYOUT), 'uglifyjs': bool(shutil.which(MINIFIER))}
-    return [name for name, is_here in files.items() if not is_here]
+    files = {'libjs-codemirror': os.path.isdir(EDITOR), 'node-dagre-layout': os.path.isfile(LAYOUT)}
+    programs = {'uglifyjs': MINIFIER, 'zopfli': PACKER}
+    lacking = [name for name, is_here in files.items() if not is_here]
+    return lacking + [name for name, program in programs.items() if not shutil.which(program)]
 
 
 def packed_scripts():
     """The editor, the layout, the companion's rules and the page's own scripts, as one script that begins with the words of who may
     use the first two."""
-    lacking = missing_packages()
-    if lacking:
-        raise CannotBuild(f'the page is made with Debian\'s packages {" ".join(lacking)}, which are not here')
     own = minified(PAIRS, *(f'{HERE}/{it}' for it in SCRIPTS))
     parts = [minified(*(f'{EDITOR}/{it}' for it in EDITOR_SCRIPTS)), read(LAYOUT), shortened(messages(), 'the rules of the companion'), own]
     return '\n'.join([rights(), *parts])
@@ -244,6 +252,9 @@ def marked_up(sentence):
 
 def page(module, made):
     """The page over the bytes of a WebAssembly module of 32-bit addresses."""
+    lacking = missing_packages()
+    if lacking:
+        raise CannotBuild(f'the page is made with Debian\'s packages {" ".join(lacking)}, which are not here')
     scripts = minified(*(f'{HERE}/{it}' for it in FIRST_SCRIPTS))
     if '</script' in scripts:
         raise CannotBuild('a script would end the element of which it is a part')

@@ -40,7 +40,7 @@ function startWithoutRuns(carried, lessons, error) {
     $('task').textContent = task ? `Exercise ${task.name}: ${task.task}` : '';
   };
   Object.assign(lessons, { onOpen: open, textNow: () => $('text').value });
-  for (const key of ['share', 'embed', 'large', 'dark']) $(key).hidden = true;
+  for (const key of ['share', 'embed', 'large', 'dark', 'more']) $(key).hidden = true;
   open(lessons.example(FIRST.example));
 }
 

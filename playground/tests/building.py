@@ -30,6 +30,19 @@ def empty_tables_fail():
     refuses('steps without an example', lambda: pages.lessons({**pages.examples(), 'new': {}}))
 
 
+def missing_packages_are_named():
+    """A build without a package that the page is made with says which one is missing."""
+    minifier, pages.MINIFIER = pages.MINIFIER, 'a program that no machine has'
+    try:
+        pages.page(b'', {})
+    except pages.CannotBuild as error:
+        holds('uglifyjs' in str(error), str(error))
+    else:
+        raise AssertionError('the build takes no minifier')
+    finally:
+        pages.MINIFIER = minifier
+
+
 def what_is_not_translated_fails():
     """A module of the companion that uses more of Python than what is translated is no part of a page."""
     for text in ('with open(a) as b:\n    pass', 'def f(*, a):\n    return a', 'a = 2 ** 3', 'from os import path\nb = path', 'a = [b for b in b]'):
@@ -66,5 +79,5 @@ def nothing_is_fetched(text):
     equal(re.findall(r'<(?:script|link|img)[^>]*(?:src|href)=[^>]*>', text), [])
 
 
-TESTS = (empty_tables_fail, what_is_not_translated_fails)
+TESTS = (empty_tables_fail, missing_packages_are_named, what_is_not_translated_fails)
 OF_PAGE = (the_page_is_small, the_module_is_of_32_bits, nothing_is_fetched)

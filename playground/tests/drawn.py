@@ -4,11 +4,13 @@ import contextlib
 import os
 import re
 
-SHIFT, CONTROL, TAB, ESCAPE, ENTER = '\ue008', '\ue009', '\ue004', '\ue00c', '\ue007'
+SHIFT, CONTROL, TAB, ESCAPE, ENTER, F9 = '\ue008', '\ue009', '\ue004', '\ue00c', '\ue007', '\ue039'
 SPACE, END, HOME, LEFT, UP, RIGHT, DOWN = ' ', '\ue010', '\ue011', '\ue012', '\ue013', '\ue014', '\ue015'
 WIDE, TALL = 1440, 1000
 TOP = os.path.dirname(os.path.dirname(os.path.dirname(os.path.realpath(__file__))))
 
+# The tests that open the page themselves.
+OPENING = set()
 # Whether an element is drawn: it has a size, and a point of it is on the screen and belongs to it or to what it holds.
 IS_DRAWN = '''
 const isDrawn = it => {
@@ -41,6 +43,13 @@ return [...document.querySelectorAll('#store .box')].filter(isDrawn).map(box => 
 '''
 
 PARTS = 4
+# Waits for at most a second until two frames are drawn and nothing is under way, and says whether that is so.
+SETTLES = '''
+const frame = () => new Promise(done => requestAnimationFrame(() => setTimeout(done, 0))), end = performance.now() + 1000;
+const isBusy = it => it && (it.running || Number(document.body.dataset.asked) !== it.asked);
+do { await frame(); await frame(); } while (isBusy(globalThis.playground) && performance.now() < end);
+return !isBusy(globalThis.playground);
+'''
 # Makes moves, each as soon as the last one is drawn.
 MOVES = '''
 const [key, count, told] = arguments, frame = () => new Promise(done => requestAnimationFrame(() => setTimeout(done, 0)));
@@ -84,6 +93,12 @@ def holds(is_so, what):
         raise AssertionError(what)
 
 
+def opening(test):
+    """Marks a test that opens the page itself."""
+    OPENING.add(test)
+    return test
+
+
 class Page:
     """The page in a browser."""
 
@@ -99,11 +114,16 @@ class Page:
         """Opens the page anew; what it kept of the last visit is cleared first, if not told otherwise."""
         address = f'file://{file or self.file}{query}{fragment}'
         if clears:
-            self.browser.open(f'file://{self.file}?embed')
-            self.run('localStorage.clear()')
+            self.clear()
         self.browser.open('about:blank')
         self.browser.open(address)
         self.browser.until('return document.body && document.body.dataset.ready')
+
+    def clear(self):
+        """Clears what the page kept. If it is open, it keeps nothing more from then on."""
+        if self.run('return location.pathname') != self.file:
+            self.browser.open(f'file://{self.file}?embed')
+        self.run('localStorage.clear(); Storage.prototype.setItem = () => {}')
 
     def reload(self):
         self.browser.reload()
@@ -114,8 +134,7 @@ class Page:
 
     def settled(self):
         """Waits until nothing is under way, as the page shows by its key Stop and counts by its questions."""
-        self.browser.until('await new Promise(done => setTimeout(done, 60)); const p = globalThis.playground;'
-                           'return !p || (!p.running && Number(document.body.dataset.asked) === p.asked)')
+        self.browser.until(SETTLES)
 
     # ---- what is drawn
 
@@ -199,7 +218,6 @@ class Page:
     def go(self, name):
         """Presses a key of the transport."""
         self.click(f'[data-go={name}]')
-        self.run('await new Promise(done => setTimeout(done, 30))')
         self.settled()
 
     def move_cost(self, key, count, told='#where'):

@@ -4,7 +4,7 @@ import os
 import re
 import tempfile
 
-from drawn import END, TALL, TOP, WIDE, equal, holds, read
+from drawn import END, HOME, TALL, TOP, WIDE, equal, holds, opening, read
 from reaching import RATIO
 
 # After this time the browser and the address have what is shown.
@@ -34,19 +34,13 @@ SOLUTIONS = {'1.1': ('01', 'three.rpp'), '1.3': ('01', 'change.rpp'), '2.2': ('0
 
 
 def the_ladder_has_all(page):
-    """Each example has a title and a sentence, and the picker names the one that is open."""
+    """Each example and each exercise has a title and a sentence."""
     page.click('#pick')
     rows = page.run('return [...document.querySelectorAll("#rungs button")].map(it => [it.querySelector("b").innerText, it.querySelector("span").innerText])')
     page.click('#ladder [data-close]')
     lessons = json.loads(read('playground/lessons.json'))
     equal(len(rows), sum(len(rung) for _, rung in lessons['ladder']) + len(lessons['exercises']))
     holds(all(title and sentence for title, sentence in rows), 'a row has no title or no sentence')
-    for _, rung in lessons['ladder']:
-        name, title, _ = rung[0]
-        page.choose(title)
-        holds(page.text('#picked').endswith(title), f'{page.text("#picked")!r} for {title!r}')
-        first = next(it for it in page.lines() if it['text'].strip())
-        holds(first['text'] in read(f'examples/{name}.rpp'), f'{name} is not what the editor shows')
 
 
 def solution(name):
@@ -54,10 +48,11 @@ def solution(name):
     return re.search(rf'```\n(// {re.escape(file)}\n.*?)```', read(f'examples/solutions/{page}.md'), re.S)[1]
 
 
+@opening
 def exercises_check_themselves(page):
     """An exercise opens by its link; its start is not yet right, and its solution of the course is."""
-    for name, title, _ in json.loads(read('playground/lessons.json'))['exercises']:
-        page.open(f'#exercise={name}')
+    for at, (name, title, _) in enumerate(json.loads(read('playground/lessons.json'))['exercises']):
+        (page.follow if at else page.open)(f'#exercise={name}')
         page.settled()
         equal(page.text('#picked'), f'Exercise: {name} {title}')
         check = page.text('#check')
@@ -90,7 +85,6 @@ def the_help_has_all(page):
 def links_lead_back(page):
     """The address keeps text, inputs and limits as one types; a link has view and position, and the version."""
     text = '// \u00e9\u2192 \U0001f600\nclass P int x int y method main()\nx += 1\ny += 2\nx += y'
-    page.open()
     page.write(text)
     page.put('#field-x', '-3')
     page.put('#heap', '9')
@@ -112,6 +106,7 @@ def links_lead_back(page):
     equal(page.text('#version'), version)
 
 
+@opening
 def a_link_in_the_open_page_is_followed(page):
     """A link opens its program, view and position in the page that is open, also where only one of these is another."""
     page.open('#example=tree&view=store&step=5')
@@ -141,7 +136,6 @@ def a_link_in_the_open_page_is_followed(page):
 
 def the_address_keeps_the_text(page):
     """The address has the text as it was typed last. What Share puts there stays, also if the text before it is still being packed."""
-    page.open()
     page.write('class P int x method main()\nx += 1\nx += 2')
     page.rest(KEPT_SECONDS)
     page.write('class P int x method main()\nx += 1\nx += 7')
@@ -159,7 +153,6 @@ def the_address_keeps_the_text(page):
 
 def a_reload_keeps_the_text(page):
     """Text, field, view and position stay when the page is loaded again, and when it is opened without an address."""
-    page.open()
     page.write('class P int kept method main()\nkept += 4\nkept += 5')
     page.put('#field-kept', '30')
     page.view('output')
@@ -172,6 +165,26 @@ def a_reload_keeps_the_text(page):
         equal((page.position(), page.output()), ((1, 2), [['kept', '30', '34', '39']]))
 
 
+def undo_brings_all_back(page):
+    """Where a program takes the place of one's own, Undo brings back the text with its field, its limit and the position."""
+    page.write('class P int own method main()\nown += 1\nown += 2\nown += 4')
+    page.put('#field-own', '8')
+    page.put('#heap', '9')
+    page.press(HOME)
+    page.go('step-on')
+    page.go('step-on')
+    page.view('output')
+    shown = page.lines(), page.position(), page.output()
+    equal(shown[1:], ((2, 3), [['own', '8', '11', '15']]))
+    page.choose('Queue')
+    holds(page.text('#picked').endswith('Queue') and page.output() != shown[2], page.text('#picked'))
+    page.click('#toast button')
+    page.settled()
+    equal((page.lines(), page.position(), page.output()), shown)
+    equal((page.run('return document.getElementById("heap").value'), page.text('#picked')), ('9', 'Your program'))
+
+
+@opening
 def a_broken_link_says_so(page):
     page.open('#v=0.1.0&program=broken')
     holds('broken' in page.text('#notice'), page.text('#notice'))
@@ -185,6 +198,7 @@ def a_broken_link_says_so(page):
     holds(page.text('#picked').endswith('Search tree'), page.text('#picked'))
 
 
+@opening
 def it_embeds(page):
     """Embedded it has no header, shows the view and position asked for, and keeps nothing."""
     page.open(query='?embed&view=store&step=20', fragment='#example=list')
@@ -207,6 +221,7 @@ def it_embeds(page):
     page.click('#embedding [data-close]')
 
 
+@opening
 def figures_stand_alone(page):
     """The picture as a file has its colours and arrow heads inside, and is drawn by itself as it is on the page."""
     page.open('#example=list')
@@ -228,6 +243,7 @@ def figures_stand_alone(page):
     holds(alone == drawn and len(drawn) > 5, f'the file has {alone}, and the page {drawn}')
 
 
+@opening
 def the_print_has_picture_and_program(page):
     """What is printed is the title, the picture of the store with a caption, and the numbered program, dark on white, and as wide as the paper."""
     for theme in ('light', 'dark'):
@@ -264,5 +280,5 @@ def the_first_view_says_what_to_press(page):
 
 
 TESTS = (the_first_view_says_what_to_press, the_ladder_has_all, exercises_check_themselves, the_help_has_all, links_lead_back,
-         a_link_in_the_open_page_is_followed, the_address_keeps_the_text, a_reload_keeps_the_text, a_broken_link_says_so, it_embeds, figures_stand_alone,
-         the_print_has_picture_and_program)
+         a_link_in_the_open_page_is_followed, the_address_keeps_the_text, a_reload_keeps_the_text, undo_brings_all_back, a_broken_link_says_so,
+         it_embeds, figures_stand_alone, the_print_has_picture_and_program)

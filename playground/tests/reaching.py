@@ -1,8 +1,9 @@
 """Access by keyboard, names, contrast and sizes; no network; browsers that cannot run the program; a worker that dies."""
+import contextlib
 import os
 import tempfile
 
-from drawn import ESCAPE, IS_DRAWN, LEFT, RIGHT, SHIFT, TAB, equal, holds, read
+from drawn import CONTROL, END, ENTER, ESCAPE, F9, HOME, IS_DRAWN, LEFT, RIGHT, SHIFT, SPACE, TAB, UP, equal, holds, opening, read
 from running import FAULTS
 
 UNNAMED = '''
@@ -60,7 +61,7 @@ return [...low];
 FOCUS = '''
 const it = document.activeElement, style = getComputedStyle(it), box = getComputedStyle(it.closest('.CodeMirror, .chip') ?? it);
 const name = it.id || it.dataset.go || it.dataset.step || it.getAttribute('aria-label') || `${it.tagName}.${it.className}`;
-return [name, style.outlineStyle !== 'none' || box.boxShadow !== 'none'];
+return [name, style.outlineStyle !== 'none' || box.boxShadow !== 'none', (it.innerText ?? '').slice(0, 40)];
 '''
 LISTENS = '''
 const spoken = document.getElementById('spoken');
@@ -78,7 +79,20 @@ WIDER = IS_DRAWN + '''
 return [...document.querySelectorAll(arguments[0])].filter(isDrawn).filter(it => it.scrollWidth > it.clientWidth + 1).map(it => it.id || it.className);
 '''
 KEYS = '.controls button, .controls select, #readout, #timeline, #head button, [role=tab], #limits, #limits input, #toast, #toast button'
+WORDS = '.keys button, [role=tab], #head button:not(.picker)'
 SMALL = (320, 720)
+# The names of the keys that are drawn, and the light of the ground, the size of the text and the width of the picture.
+NAMES = IS_DRAWN + '''
+const text = it => [...it.childNodes].filter(part => !part.ariaHidden).map(part => part.textContent).join('');
+return [...document.querySelectorAll('button, select, input')].filter(isDrawn).filter(it => !it.closest('dialog'))
+  .map(it => (it.getAttribute('aria-label') || text(it) || it.title || it.id).trim()).filter(it => it !== 'More');
+'''
+LOOKS = RATIO + '''
+const width = document.querySelector('#store .picture').getBoundingClientRect().width, size = parseFloat(getComputedStyle(document.body).fontSize);
+return [light(numbers(getComputedStyle(document.body).backgroundColor)), size, width];
+'''
+# A telephone, and a window of 1280 by 900 at 200 %.
+NARROW = ((390, 844), (640, 450))
 SIZES = ((320, 700), (390, 844), (720, 500), (1024, 768), (1440, 1000))
 # Tries to reach the network in three ways, and gives the rules of the page's policy that forbid it.
 FETCHES = '''
@@ -96,6 +110,7 @@ await call;
 '''
 
 
+@opening
 def every_control_has_a_name(page):
     page.open('#example=list')
     page.settled()
@@ -110,6 +125,7 @@ def every_control_has_a_name(page):
     page.view('store')
 
 
+@opening
 def assistive_technology_sees_it(page):
     """The accessibility tree of the browser has each part with its role and its name."""
     page.open('#example=list')
@@ -145,10 +161,140 @@ def the_keyboard_reaches_all(page):
         if seen and here[0] == seen[0][0]:
             break
         seen.append(here)
-    names = [name for name, _ in seen]
+    names = [name for name, *_ in seen]
     for wanted in ('pick', 'share', 'help', 'Program text', 'split', 'tab-store', 'start', 'back', 'on', 'end', 'speed', 'gear'):
         holds(wanted in names, f'the tabulator does not come to {wanted}: {names}')
-    equal([name for name, is_shown in seen if not is_shown and name not in ('BODY.', 'HTML.')], [], 'these do not show their focus')
+    equal([name for name, is_shown, _ in seen if not is_shown and name not in ('BODY.', 'HTML.')], [], 'these do not show their focus')
+
+
+def tab_to(page, name, *, keys=(TAB,)):
+    """Presses the tabulator until the focus is at what has this name, or a text that begins so."""
+    for _ in range(90):
+        page.press(*keys)
+        found, _, text = page.run(FOCUS)
+        if found == name or text.startswith(name):
+            return
+    raise AssertionError(f'the tabulator does not come to {name}')
+
+
+def works_by_keyboard_alone(page):
+    """All that a pointer does can be done by keys: choose, write, break, play, fields, limits, help, share, the width of the program."""
+    page.run('document.activeElement.blur(); scrollTo(0, 0)')
+    tab_to(page, 'pick')
+    page.press(ENTER)
+    # Backward: after the last example, Firefox without a screen leaves the page and does not come back.
+    tab_to(page, 'Swap', keys=(SHIFT, TAB))
+    page.press(ENTER)
+    page.browser.until('return document.getElementById("picked").textContent.endsWith("Swap")')
+    page.settled()
+    tab_to(page, 'Program text')
+    page.press(CONTROL, 'a')
+    page.browser.type(ENTER.join(('class P int x method main()', 'x += 1', 'x += 2', 'x += 3')))
+    page.browser.until('return document.getElementById("problems").textContent.startsWith("Accepted. 3")')
+    page.settled()
+    page.press(UP)
+    page.press(F9)
+    holds(page.is_drawn('.break'), 'F9 sets no breakpoint')
+    page.press(ESCAPE)
+    page.press(HOME)
+    page.settled()
+    page.press(SPACE)
+    page.browser.until('return !document.querySelector(".play.playing")')
+    equal(page.here()[0], 3, 'the breakpoint of line 3')
+    tab_to(page, 'end')
+    page.press(ENTER)
+    page.settled()
+    equal((page.store()['#1 P'], page.run(FOCUS)[0]), ({'x': '6'}, 'end'))
+    by_keys_in_fields(page)
+
+
+def by_keys_in_fields(page):
+    tab_to(page, 'field-x')
+    page.press(CONTROL, 'a')
+    page.browser.type('10')
+    page.press(TAB)
+    page.settled()
+    tab_to(page, 'gear')
+    page.press(ENTER)
+    equal(page.run(FOCUS)[0], 'heap')
+    page.press(ESCAPE)
+    equal((page.run(FOCUS)[0], page.is_drawn('#limits')), ('gear', False))
+    page.press(END)
+    page.settled()
+    equal(page.store()['#1 P'], {'x': '16'})
+    tab_to(page, 'split', keys=(SHIFT, TAB))
+    width = page.run('return document.getElementById("program").offsetWidth')
+    page.press(RIGHT)
+    holds(page.run('return document.getElementById("program").offsetWidth') > width, 'the program does not get wider')
+    tab_to(page, 'help', keys=(SHIFT, TAB))
+    page.press(ENTER)
+    holds(page.is_drawn('#helping'), 'the help does not open')
+    page.press(ESCAPE)
+    equal((page.run(FOCUS)[0], page.is_drawn('#helping')), ('help', False))
+    tab_to(page, 'share', keys=(SHIFT, TAB))
+    page.press(ENTER)
+    page.browser.until('return /step=3&/.test(location.hash)')
+
+
+@opening
+def a_narrow_page_has_all_keys(page):
+    """On a telephone, and at 200 %, the page has all keys that a wide one has, and they work."""
+    page.open('#example=tree&step=60', query='?theme=light')
+    page.settled()
+    wide = {*page.run(NAMES)}
+    holds({'Dark', 'Larger text', 'Embed', 'Larger', 'Smaller', 'field-first'} <= wide, f'{wide}')
+    for size in NARROW:
+        page.browser.resize(*size)
+        page.run('playground.openSheet("views")')
+        page.settled()
+        page.click('#more')
+        names = {*page.run(NAMES)}
+        page.press(ESCAPE)
+        page.click('#gear')
+        names |= {*page.run(NAMES)}
+        page.press(ESCAPE)
+        equal(wide - names - {'Close the welcome'}, set(), f'{size}: keys that are not there')
+        narrow_keys_work(page, size)
+
+
+def narrow_keys_work(page, size):
+    light, text, picture = page.run(LOOKS)
+    high = page.run('return document.querySelector("#store .canvas").clientHeight')
+    holds(high > 80, f'{size}: the picture has a height of {high}')
+    page.click('#tools [aria-label=Larger]')
+    holds(page.run(LOOKS)[2] > picture, f'{size}: the picture is not larger')
+    page.click('#tools [aria-label^=Fit]')
+    page.click('#more')
+    equal(page.run(OFF_SCREEN, '#extras *'), [], f'{size}: off the screen')
+    holds(page.text('#extras small').startswith('Version '), page.text('#extras'))
+    page.click('#dark')
+    page.click('#large')
+    other = page.run(LOOKS)
+    holds(light > 0.8 > 0.05 > other[0] and other[1] > text, f'{size}: {light, text} is then {other}')
+    equal(page.run(CONTRAST), [], f'{size}: contrast')
+    page.click('#dark')
+    page.click('#large')
+    page.click('#embed')
+    page.browser.until('return document.getElementById("embedding").open')
+    holds(page.is_drawn('#embedding') and not page.is_drawn('#extras'), f'{size}: Embed does not open')
+    page.press(ESCAPE)
+    equal(page.run(FOCUS)[0], 'more', f'{size}: the focus')
+
+
+def what_is_wrong_is_spoken_once(page):
+    """A refusal and a fault are each spoken once, with the place and what is wrong."""
+    page.run(LISTENS)
+    for text, key, words in (('class P int x method main()\nx += x', '', ('Line 2, column 1', 'self update')),
+                             (FAULTS[0][0], 'end', ('line 8', 'fault Fi', 'x is 1'))):
+        page.run('playground.heard.length = 0')
+        page.write(text)
+        if key:
+            page.rest(0.5)
+            page.run('playground.heard.length = 0')
+            page.go(key)
+        heard = page.run('await new Promise(done => setTimeout(done, 500)); return playground.heard')
+        equal(len(heard), 1, repr(heard))
+        holds(all(it in heard[0] for it in words), f'{words} in {heard[0]!r}')
 
 
 def one_voice(page):
@@ -170,6 +316,7 @@ def one_voice(page):
     holds('of 60, line' in told, f'the slider has {told!r}')
 
 
+@opening
 def colours_have_contrast(page):
     """Text has a contrast of 4.5 and shapes one of 3, in all views, both themes, and where something is wrong."""
     for theme in ('light', 'dark'):
@@ -194,6 +341,7 @@ def colours_have_contrast(page):
             page.click(f'{dialog} [data-close]')
 
 
+@opening
 def it_fits(page):
     """Nothing is wider than the screen, at all widths, in all views and dialogs, with a fault and with a refusal. All keys are on the
     screen, also at 320 wide and at twice the size."""
@@ -213,7 +361,7 @@ def fits(page, size):
     for view in ('store', 'output', 'inverse', 'machine'):
         page.run('playground.openView(arguments[0]); playground.openSheet("views")', view)
         page.settled()
-        equal((page.run(TOO_WIDE), page.run(OFF_SCREEN, KEYS)), ([False, False], []), f'{size}, {view}')
+        equal((page.run(TOO_WIDE), page.run(OFF_SCREEN, KEYS), page.run(WIDER, WORDS)), ([False, False], [], []), f'{size}, {view}')
         holds(page.is_drawn(f'#{view} *'), f'{size}: {view} is not drawn')
     page.run('playground.openView("store"); playground.openSheet("program")')
     page.click('#gear')
@@ -272,13 +420,13 @@ def it_follows_what_the_reader_prefers(page):
 
 def it_asks_no_network(page):
     """The page fetches nothing, and the browser lets it fetch nothing."""
-    page.open()
     asked = 'return performance.getEntriesByType("resource").map(it => it.name).filter(it => !/^(blob|data):/.test(it))'
     equal(page.run(asked), [])
     blocked = page.run(FETCHES)
     holds('connect-src' in blocked and 'img-src' in blocked, f'the policy blocks {blocked} alone')
 
 
+@opening
 def a_worker_that_dies_is_begun_anew(page):
     page.open('#example=first')
     page.settled()
@@ -291,19 +439,46 @@ def a_worker_that_dies_is_begun_anew(page):
     holds(page.text('#problems').startswith('Accepted'), page.text('#problems'))
 
 
-def without_runs_it_reads(page):
-    """If the browser has no runs the page says why, and shows texts, examples, exercises and help."""
-    lacks = {'WebAssembly': 'delete globalThis.WebAssembly', 'workers': 'delete globalThis.Worker',
-             'DecompressionStream': 'delete globalThis.DecompressionStream', 'it refuses to': 'globalThis.Worker = function () { throw new Error("a policy forbids it"); }'}
+@contextlib.contextmanager
+def changed_page(page, part, other):
+    """The page with another text in the place of a part of it, opened."""
     with open(page.file, encoding='utf-8') as it:
         text = it.read()
-    for what, script in lacks.items():
-        with tempfile.TemporaryDirectory() as folder:
-            with open(os.path.join(folder, 'page.html'), 'w', encoding='utf-8') as it:
-                it.write(text.replace('<body', f'<script>{script}</script>\n<body', 1))
-            page.open(file=os.path.join(folder, 'page.html'))
+    holds(part in text, f'the page has no {part}')
+    with tempfile.TemporaryDirectory() as folder:
+        file = os.path.join(folder, 'page.html')
+        with open(file, 'w', encoding='utf-8') as it:
+            it.write(text.replace(part, other, 1))
+        page.open(file=file)
+        yield
+
+
+@opening
+def it_runs_without_newer_parts_of_browsers(page):
+    """A run with many active calls is the same where the module runs on the worker's own stack."""
+    outputs = []
+    for more in ('', 'delete WebAssembly.promising;delete WebAssembly.Suspending;'):
+        with changed_page(page, '"worker": "', f'"worker": "{more}'):
+            page.choose('Deep recursion')
+            page.view('output')
+            page.go('end')
+            holds(page.text('#problems').startswith('Accepted'), page.text('#problems'))
+            outputs.append((page.position(), page.output(), page.text('#output pre')))
+    equal(outputs[1], outputs[0])
+
+
+@opening
+def without_runs_it_reads(page):
+    """If the browser has no runs, or the policy of a page forbids them, the page says why, and shows texts, examples, exercises and help."""
+    script = lambda text: ('<body', f'<script>{text}</script>\n<body')
+    lacks = (('WebAssembly', script('delete globalThis.WebAssembly')), ('workers', script('delete globalThis.Worker')),
+             ('DecompressionStream', script('delete globalThis.DecompressionStream')),
+             ('it refuses to', script('globalThis.Worker = function () { throw new Error("a policy forbids it"); }')),
+             ('it refuses to', (" 'wasm-unsafe-eval'", '')), ('it refuses to', ('worker-src blob:', "worker-src 'none'")))
+    for what, change in lacks:
+        with changed_page(page, *change):
             told = page.text('#cannot')
-            holds(told.startswith('This browser cannot run the program') and what in told, told)
+            holds(told.startswith('This browser cannot run the program') and what in told, f'{change}: {told}')
             holds('class List' in page.run('return document.querySelector("#text").value'), 'no text is shown')
             page.click('#pick')
             page.click_text('#rungs button', 'Search tree')
@@ -315,5 +490,6 @@ def without_runs_it_reads(page):
             holds(not page.is_drawn('#transport'), 'keys are shown that can do nothing')
 
 
-TESTS = (every_control_has_a_name, assistive_technology_sees_it, tabs_keep_the_focus, the_keyboard_reaches_all, one_voice, colours_have_contrast,
-         it_fits, it_follows_what_the_reader_prefers, it_asks_no_network, a_worker_that_dies_is_begun_anew, without_runs_it_reads)
+TESTS = (every_control_has_a_name, assistive_technology_sees_it, tabs_keep_the_focus, the_keyboard_reaches_all, works_by_keyboard_alone,
+         a_narrow_page_has_all_keys, one_voice, what_is_wrong_is_spoken_once, colours_have_contrast, it_fits, it_follows_what_the_reader_prefers,
+         it_asks_no_network, a_worker_that_dies_is_begun_anew, it_runs_without_newer_parts_of_browsers, without_runs_it_reads)

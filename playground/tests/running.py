@@ -1,5 +1,5 @@
 """Runs: what is shown at each position, forward and back; faults at their place; limits; the editor."""
-from drawn import CONTROL, END, ENTER, HOME, IS_DRAWN, LEFT, RIGHT, SHIFT, SPACE, equal, holds, read
+from drawn import CONTROL, DOWN, END, ENTER, HOME, IS_DRAWN, LEFT, RIGHT, SHIFT, SPACE, UP, equal, holds, read
 
 COUNTER = 'class P\n  int x\nmethod main()\n  x += 5\n'
 ENDLESS = 'class P int x int y method main()\n  from x = 0 do\n    skip\n  loop\n    x += 2\n  until y = 1'
@@ -47,6 +47,8 @@ def faults_are_where_they_are(page):
         page.go('end')
         marked = [it for it in page.lines() if 'fault-line' in it['kinds']]
         equal([(it['number'], it['sign']) for it in marked], [(line, '■')], name)
+        begins = text.split('\n')[line - 1].strip()
+        holds(' ' in marked[0]['marked'] and begins.startswith(marked[0]['marked']), f'{name}: {marked[0]["marked"]!r} is marked in {begins!r}')
         told = ' '.join(marked[0]['told'].split())
         holds(name in told, f'{name} is not shown at its place: {told!r}')
         holds(found in told and wanted in told, f'{name}: wanted {found!r} and {wanted!r} in {told!r}')
@@ -81,14 +83,15 @@ def back_is_back(page):
 
 
 def plays_both_ways(page):
-    """Space plays to the end and back again to the start; the same key pauses, and a breakpoint stops both ways."""
+    """Space and the keys of the transport play to the end and back again to the start, and a breakpoint stops both ways."""
     page.write(LIST)
     page.run('document.getElementById("speed").value = "60"')
     page.go('start')
-    page.run('document.activeElement.blur()')
     last = page.position()[1]
-    for keys, stop in (((SPACE,), last), ((SHIFT, SPACE), 0)):
-        page.press(*keys)
+    for play, stop in ((lambda: page.click('[data-go=on]'), last), (lambda: page.click('[data-go=back]'), 0),
+                       (lambda: page.press(SPACE), last), (lambda: page.press(SHIFT, SPACE), 0)):
+        page.run('document.activeElement.blur()')
+        play()
         page.browser.until('return document.getElementById("where").textContent.startsWith(arguments[0])', f'{stop} /')
         holds(not page.is_drawn('.play.playing'), 'it still plays at the end')
     page.click_line_number(8)
@@ -117,10 +120,40 @@ def keys_move(page):
         page.press(key)
         page.settled()
         holds(page.is_drawn(f'#{view}'), f'the key {key} does not open {view}')
+
+
+def keys_belong_to_what_has_the_focus(page):
+    """In the editor and in a field keys write, and do not move the run. The editor and the listing have keys of their own."""
+    page.write(LIST)
+    page.run('document.getElementById("speed").value = "60"')
+    page.go('start')
+    last = page.position()[1]
+    page.click('#field-n')
+    page.press(CONTROL, 'a')
+    page.press('2')
+    page.press(END)
+    page.settled()
+    equal((page.position()[0], page.is_drawn('#store'), page.run('return document.getElementById("field-n").value')), (0, True, '2'))
     page.click('.CodeMirror-lines')
+    page.press(RIGHT)
+    page.settled()
+    equal(page.position()[0], 0, 'after an arrow key in the editor')
     page.press(CONTROL, ENTER)
-    page.press(CONTROL, ENTER)
-    equal(page.position(), (last, last), 'keys of the editor do not move the run')
+    page.browser.until('return document.getElementById("where").textContent.startsWith(arguments[0])', f'{last} /')
+    for line in ('// class P', 'class P'):
+        page.press(CONTROL, HOME)
+        page.press(CONTROL, '/')
+        equal(page.lines()[0]['text'], line)
+    page.settled()
+    page.view('machine')
+    page.run('document.querySelector("#machine .listing").focus()')
+    told = [page.text('#machine .caption')]
+    for key in (UP, UP, DOWN, DOWN):
+        page.press(key)
+        page.settled()
+        told.append(page.text('#machine .caption'))
+    equal((len({*told}), told[3:]), (3, told[1::-1]), f'the machine after each key: {told}')
+    page.view('store')
 
 
 # The timeline: its bars with their spans and heights, how much of it is done, and the handle.
@@ -211,8 +244,7 @@ def all_views_agree(page):
         if here:
             equal(page.text('#inverse li.here .number'), str(here[0]), f'the inverse at {at}')
         page.view('machine')
-        cells = page.run('return [...document.querySelectorAll(".cells .named")].map(it => [it.querySelector("small").textContent, it.lastChild.textContent])')
-        equal(dict(cells)['sum'], main['sum'], f'the memory at {at}')
+        equal(named_cells(page)['sum'], main['sum'], f'the memory at {at}')
         holds('forward' in page.text('#machine .caption') or 'backward' in page.text('#machine .caption'), 'no direction is shown')
     page.view('store')
 
@@ -254,15 +286,35 @@ def questions_say_what_they_rest_on(page):
     page.view('store')
 
 
+def named_cells(page):
+    """The words of the memory that have the names of fields."""
+    return dict(page.run('return [...document.querySelectorAll(".cells .named")].map(it => [it.querySelector("small").textContent, it.lastChild.textContent])'))
+
+
 def the_machine_begins_again(page):
-    """Another input or limit begins the machine's run again, at the position that is shown."""
+    """Another field begins the machine's run again. After another limit it is at the position that is shown."""
     page.write(COUNTER)
     page.view('machine')
     page.go('end')
     page.put('#field-x', '9')
     page.go('end')
-    cells = dict(page.run('return [...document.querySelectorAll(".cells .named")].map(it => [it.querySelector("small").textContent, it.lastChild.textContent])'))
-    equal(cells['x'], '14')
+    equal(named_cells(page)['x'], '14')
+    page.write(COUNTER + '  x += 6\n  x += 7\n')
+    page.put('#field-x', '0')
+    page.press(HOME)
+    page.go('step-on')
+    page.go('step-on')
+    told, areas = page.text('#machine .caption'), page.text('#machine .cells')
+    equal((page.position(), named_cells(page)['x']), ((2, 3), '11'))
+    page.click('#gear')
+    page.put('#heap', '9')
+    equal((page.position(), page.text('#machine .caption'), named_cells(page)['x']), ((2, 3), told, '11'), 'after another limit')
+    holds(page.text('#machine .cells') != areas, f'the memory of another size is {areas!r}')
+    page.click('#machine [data-step="1"]')
+    page.settled()
+    holds(page.text('#machine .caption') != told and page.position()[0] >= 2, f'a step of the machine leads to {page.position()}')
+    page.click('#usual')
+    page.settled()
     page.view('store')
 
 
@@ -294,6 +346,7 @@ def mistakes_are_told(page):
     holds('its own value' in problems or 'what changes it' in problems, problems)
     holds('How to fix it: ' in problems and 'local' in problems.split('How to fix it: ')[1], problems)
     equal([it['marked'] for it in page.lines() if it['marked']], ['x'])
+    equal(page.text('#picked'), 'Your program')
     holds(page.is_drawn('#views.stale'), 'the last run is not faded')
     page.write('class P\n  int x\nmethod main()\n  if x = 0 then skip fi x = 0\n')
     problems = page.text('#problems')
@@ -328,6 +381,6 @@ def the_editor_shows_what_runs(page):
     page.browser.resize(1440, 1000)
 
 
-TESTS = (faults_are_where_they_are, back_is_back, plays_both_ways, keys_move, the_timeline_shows_the_run, it_plays_at_a_speed,
-         the_editor_is_next_to_the_views, all_views_agree, takes_inputs_and_limits, questions_say_what_they_rest_on, the_machine_begins_again,
+TESTS = (faults_are_where_they_are, back_is_back, plays_both_ways, keys_move, keys_belong_to_what_has_the_focus, the_timeline_shows_the_run,
+         it_plays_at_a_speed, the_editor_is_next_to_the_views, all_views_agree, takes_inputs_and_limits, questions_say_what_they_rest_on, the_machine_begins_again,
          a_run_without_end_stops, mistakes_are_told, the_editor_shows_what_runs)

@@ -1,15 +1,18 @@
 """Pictures of the store, the listing, and long runs."""
 import json
+import re
 
 from drawn import IS_DRAWN, equal, holds, read
 
 # The most milliseconds of the processor for a move: of a run with 1,000 nodes, and of a program with 20,000 tokens.
 MOST_OF_NODES, MOST_OF_TOKENS, MEASURED, BEFORE = 60, 50, 20, 4
+# The most seconds of the processor in which a run opens.
+MOST_TO_OPEN, MOST_TO_OPEN_LONG = 0.3, 2
 # Examples that are stepped through. Then how many positions are looked at, of these and of the others, and at which of them arrows are.
 STEPPED, ALL_POSITIONS, SOME_POSITIONS = ('list', 'tree', 'doubly', 'queue', 'visitor'), (80, 9), (12, 1)
 
-# Goes through positions of the run, at most so many, and looks at arrows at each that this number divides. Gives the objects that move while they live, places that two objects have at
-# once, arrows that go through a box, and how many objects it saw.
+# Goes through positions of the run, at most so many, and looks at arrows at each that this number divides. Gives the objects that move
+# while they live, places that two objects have at once, arrows that go through a box, and how many objects it saw.
 PLACES = IS_DRAWN + '''
 const line = document.querySelector('#timeline input'), last = Number(line.max), frame = () => new Promise(done => requestAnimationFrame(done));
 const moved = new Set(), shared = new Set(), crossed = new Set(), seen = new Set();
@@ -43,6 +46,21 @@ for (let next = 0; next <= last; next += Math.max(1, last / arguments[0])) {
   }
 }
 return [[...moved], [...shared], [...crossed], seen.size];
+'''
+# The listing of a text, as the program prints it.
+LISTING = '''
+const { files } = await playground.caller.call(['compile', 'p', 'i'], [['p', arguments[0]]]);
+const listed = await playground.caller.call(['list', 'i', 'l'], [['i', files.get('i')]]);
+return new TextDecoder().decode(listed.files.get('l'));
+'''
+# The colours of the rows of the listing that are drawn, by their cells, and those of the lines of the editor.
+ROW_COLOURS = IS_DRAWN + '''
+const colour = it => it && getComputedStyle(it).backgroundColor;
+const rows = [...document.querySelectorAll('#machine .listing li:not(.here)')].filter(isDrawn);
+const lines = [...document.querySelectorAll('.CodeMirror-code > div')].filter(isDrawn);
+const text = it => it.querySelector('.CodeMirror-linenumber').textContent;
+return [rows.map(it => [Number(it.querySelector('.number').textContent), colour(it)]),
+  lines.map(it => [Number(text(it)), colour(it.querySelector('[class*=hue-]'))])];
 '''
 LONG = '''class Main
   int x
@@ -89,11 +107,16 @@ method hang(Node list, int v)
 '''
 
 
-def objects_keep_their_places(page):
-    """In all examples, no object moves while it lives, no two objects have one place, and no arrow goes through a box."""
+def examples_are_drawn(page):
+    """Each example is the program in the editor and has its title in the picker. No object moves while it lives, no two objects have one
+    place, and no arrow goes through a box."""
     ladder = json.loads(read('playground/lessons.json'))['ladder']
     for name, title, _ in (it for _, rung in ladder for it in rung):
         page.choose(title)
+        equal(page.text('#picked').split(': ')[1], title)
+        lines = read(f'examples/{name}.rpp').split('\n')
+        shown = {it['number']: it['text'] for it in page.lines()}
+        equal(shown, {number: lines[number - 1] for number in shown or [1]}, f'{title}: the editor')
         *wrong, count = page.run(PLACES, *(ALL_POSITIONS if name in STEPPED else SOME_POSITIONS))
         equal(wrong, [[], [], []], f'{title}: objects that move, objects on one place, arrows through boxes')
         holds(count, f'{title}: no object is drawn')
@@ -158,7 +181,7 @@ def one_object_has_one_name(page):
 
 
 def long_runs_open(page):
-    """A run of tens of thousands of positions opens, and each of its positions shows the store as it is there."""
+    """A run of tens of thousands of positions opens, and each of its positions shows the store as it is there, with objects in their places."""
     page.write(LONG)
     at, last = page.position()
     holds(last > 20000, f'the run has {last} positions')
@@ -173,6 +196,20 @@ def long_runs_open(page):
     equal(page.store(), middle, 'the store at position 12,000 is another one when it is come to by steps')
     page.go('start')
     equal(page.store()['#1 Main'], {'x': '0', 'a': 'nil'})
+    equal(page.run(PLACES, *SOME_POSITIONS)[:3], [[], [], []], 'objects that move, objects on one place, arrows through boxes')
+
+
+def runs_open_at_once(page):
+    """A run of 60 positions opens in 0.3 seconds of a processor, and one of 8,000 in 2, with its picture."""
+    for text, least, most in ((read('examples/list.rpp'), 60, MOST_TO_OPEN), (LONG.replace('3000', '1000'), 8000, MOST_TO_OPEN_LONG)):
+        costs = []
+        for _ in range(3):
+            page.write('class P int x method main() x += 1')
+            before = page.browser.processor_seconds(of_all=True)
+            page.write(text)
+            costs.append(page.browser.processor_seconds(of_all=True) - before)
+            holds(page.position()[1] >= least and page.boxes(), f'a run of {page.position()}')
+        holds(min(costs) <= most, f'a run of {page.position()[1]} positions takes {costs} seconds to open')
 
 
 def runs_have_no_end(page):
@@ -251,6 +288,30 @@ def the_listing_is_coloured(page):
     page.view('store')
 
 
+def rows_have_the_colours_of_their_lines(page):
+    """Each instruction has the colour of the line that the image's marks say it is of; lines next to each other have other colours."""
+    text = read('examples/counter.rpp')
+    page.choose('A counter')
+    page.view('machine')
+    marks = sorted(((int(behind) - int(first), int(first), int(behind), int(place)) for first, behind, place in
+                    re.findall(r'^MARK (\d+) (\d+) (\d+)', page.run(LISTING, text), re.M)), reverse=True)
+    holds(marks, 'the image has no marks')
+    of_cell = {cell: text.encode()[:place].count(b'\n') + 1 for _, first, behind, place in marks for cell in range(first, behind)}
+    page.run('document.querySelector("#machine .listing").scrollTop = arguments[0] * parseFloat(getComputedStyle(document.documentElement)'
+             '.getPropertyValue("--listing-row"))', min(of_cell) - 4)
+    page.rest(0.3)
+    rows, lines = page.run(ROW_COLOURS)
+    lines = dict(lines)
+    coloured = [cell for cell, _ in rows if cell in of_cell]
+    holds(len(coloured) > 10 and len({of_cell[cell] for cell in coloured}) > 1, f'{len(coloured)} rows with colours are drawn')
+    clear = {colour for cell, colour in rows if cell not in of_cell}
+    equal([(cell, colour) for cell, colour in rows if cell in of_cell and (colour != lines[of_cell[cell]] or colour in clear)], [],
+          f'rows with another colour than their lines, which have {lines}')
+    neighbours = [line for line in {*of_cell.values()} if line + 1 in of_cell.values() and lines[line] == lines[line + 1]]
+    equal(neighbours, [], 'lines that have the colour of the next one')
+    page.view('store')
+
+
 def large_programs_step(page):
     """A program of 20,000 tokens steps in less than 50 ms, with any view open. The listing draws only what is in sight, and the next
     moves wait for no call."""
@@ -291,5 +352,6 @@ def the_inverse_is_paired(page):
     page.view('store')
 
 
-TESTS = (objects_keep_their_places, a_tree_looks_like_one, a_change_is_marked, one_object_has_one_name, long_runs_open, runs_have_no_end,
-         long_chains_fold, a_thousand_nodes_move, the_listing_is_coloured, large_programs_step, the_inverse_is_paired)
+TESTS = (examples_are_drawn, a_tree_looks_like_one, a_change_is_marked, one_object_has_one_name, long_runs_open, runs_have_no_end,
+         runs_open_at_once, long_chains_fold, a_thousand_nodes_move, the_listing_is_coloured, rows_have_the_colours_of_their_lines,
+         large_programs_step, the_inverse_is_paired)

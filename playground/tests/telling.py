@@ -7,7 +7,7 @@ import page as pages
 from drawn import TOP, equal, holds, read
 from running import FAULTS
 
-MUTATED, DRAWN, SEED = 300, 24, 20
+MUTATED, DRAWN, SEED = 300, 16, 20
 WORDS = ('class inherits method int nil skip if then else fi from do loop until local delocal construct destruct new delete copy uncopy call uncall + - * / % ^ & | '
          '&& || = != < > <= >= ( ) [ ] , :: += -= ^= <=> x y 0 1 99999999999 ; . { } ! true this self while for return print Foo elsif é “').split()
 # What is drawn below the line of a test that fails: what it found and what it needed, in place of the companion's sentence.
