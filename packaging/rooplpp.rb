@@ -1,12 +1,15 @@
 # rooplpp and its companion rpp for Homebrew, over the package for node. In a clone:
 #   tools/release --packages && brew install --formula packaging/rooplpp.rb
+require "digest"
+
 class Rooplpp < Formula
   desc "Compiler and debugger of ROOPL++, a reversible object-oriented language"
   release = File.expand_path("../release", __dir__)
   archive = Dir["#{release}/rooplpp-*-node.tgz"].max
   odie "there is no #{release}/rooplpp-*-node.tgz: tools/release --packages makes it" if archive.nil?
   url "file://#{archive}"
-  sha256 File.readlines("#{release}/SHA256SUMS").find { |line| line.end_with?("  #{File.basename(archive)}\n") }.split.first
+  # SHA256SUMS may name other bytes: those that another zlib packs. tools/release has compared the modules in it with PROVED.txt.
+  sha256 Digest::SHA256.file(archive).hexdigest
   version archive[/rooplpp-(.+)-node\.tgz/, 1]
 
   depends_on "node"

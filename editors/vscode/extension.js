@@ -5,6 +5,8 @@ const { spawn } = require('child_process');
 
 const LANGUAGE = 'rpp';
 const command = () => vscode.workspace.getConfiguration('rpp').get('command') || 'rpp';
+// What starts the command with an argument. On Windows npm's command is a script, which only the shell starts.
+const started = word => (process.platform === 'win32' ? ['cmd.exe', ['/d', '/c', command(), word]] : [command(), [word]]);
 
 // The messages of a language server: requests wait for their answers, all else goes to `heard`.
 class Connection {
@@ -13,7 +15,7 @@ class Connection {
     this.waiting = new Map();
     this.last = 0;
     this.unread = Buffer.alloc(0);
-    this.server = spawn(command(), ['lsp'], { stdio: ['pipe', 'pipe', 'ignore'] });
+    this.server = spawn(...started('lsp'), { stdio: ['pipe', 'pipe', 'ignore'] });
     this.server.stdout.on('data', piece => this.read(piece));
     this.server.stdin.on('error', () => {});
     this.server.on('error', error => this.end(ended, error.message));
@@ -268,7 +270,7 @@ function providers(client) {
 function debugging() {
   return [
     vscode.debug.registerDebugAdapterDescriptorFactory(LANGUAGE, {
-      createDebugAdapterDescriptor: () => new vscode.DebugAdapterExecutable(command(), ['dap']),
+      createDebugAdapterDescriptor: () => new vscode.DebugAdapterExecutable(...started('dap')),
     }),
     vscode.debug.registerDebugConfigurationProvider(LANGUAGE, {
       resolveDebugConfiguration: (_, given) => given.type

@@ -21,8 +21,9 @@ FOLDERS = {'docs': 'share/doc/rooplpp/docs', 'examples': 'share/doc/rooplpp/exam
 LEFT_OUT = ('.png',)
 # The files that were installed, one in a line.
 LIST = 'share/rooplpp/installed'
-# Folders that stay, also where nothing is in them any more.
-SHARED = ('bin', 'share', 'share/doc', 'share/man', 'share/man/man1')
+# Folders that stay, also where nothing is in them any more, except those that the installation made: the list names these with a slash
+# at the end. The first is the prefix.
+SHARED = ('.', 'bin', 'share', 'share/doc', 'share/man', 'share/man/man1')
 # The companion's package in a clone, and where an installation has it, as the command `rpp` finds it.
 BESIDE_CLONE = "os.path.dirname(os.path.realpath(__file__)), 'companion'"
 BESIDE_INSTALLED = "os.path.dirname(os.path.realpath(__file__)), '..', 'share', 'rooplpp'"
@@ -71,8 +72,11 @@ def tree(programs, proved):
 
 
 def put(files, prefix):
-    """Puts the files below a prefix, with a list of them."""
-    listed = ''.join(f'{path}\n' for path in sorted([*files, LIST])).encode()
+    """Puts the files below a prefix, with a list of them. An earlier installation there is taken away first."""
+    if os.path.isfile(os.path.join(prefix, LIST)):
+        take_away(prefix)
+    made = [f'{folder}/' for folder in SHARED if not os.path.isdir(os.path.join(prefix, folder))]
+    listed = ''.join(f'{path}\n' for path in sorted([*files, LIST, *made])).encode()
     for path, (mode, data) in {**files, LIST: (FILE, listed)}.items():
         target = os.path.join(prefix, path)
         os.makedirs(os.path.dirname(target), FOLDER, exist_ok=True)
@@ -88,26 +92,29 @@ def take_away(prefix):
     except those that other programs use too. Returns the number of files."""
     try:
         with open(os.path.join(prefix, LIST), encoding='utf-8') as it:
-            files = it.read().split()
+            listed = it.read().split()
     except OSError:
         raise CannotRelease(f'there is no {os.path.join(prefix, LIST)}, which --install writes') from None
+    files = [path for path in listed if not path.endswith('/')]
     for path in files:
         if os.path.lexists(os.path.join(prefix, path)):
             os.remove(os.path.join(prefix, path))
     folders = {os.path.dirname(path) for path in files}
-    for folder in folders:
+    for folder in (it for it in folders if it.startswith(COMPANION)):
         shutil.rmtree(os.path.join(prefix, folder, '__pycache__'), ignore_errors=True)
     for folder in sorted(folders, reverse=True):
-        remove_empty(prefix, folder)
+        remove_empty(prefix, folder, {it for it in SHARED if f'{it}/' not in listed})
     return len(files)
 
 
-def remove_empty(prefix, folder):
-    """Removes an empty folder below the prefix, and those above it that are empty then."""
-    while folder and folder not in SHARED:
+def remove_empty(prefix, folder, stays):
+    """Removes an empty folder below the prefix, and those above it that are empty then, up to one that stays."""
+    while (folder or '.') not in stays:
         path = os.path.join(prefix, folder)
         if os.path.isdir(path):
             if os.listdir(path):
                 return
             os.rmdir(path)
+        if not folder:
+            return
         folder = os.path.dirname(folder)

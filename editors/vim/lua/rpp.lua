@@ -1,8 +1,11 @@
 -- Neovim's own clients for ROOPL++: the language server, and the debug adapter for the plugin nvim-dap.
 local rpp = {}
 
+-- The command by its path, because on Windows only that says that it is a script.
 local function command()
-  return vim.g.rpp_command or 'rpp'
+  local name = vim.g.rpp_command or 'rpp'
+  local path = vim.fn.exepath(name)
+  return path ~= '' and path or name
 end
 
 -- Attaches the language server to the current buffer; one server serves all buffers.
