@@ -45,7 +45,7 @@ pub enum Ending<'a> {
 }
 
 /// What the block that runs ends in.
-fn block_ending<'a>(frames: &Vec<Frame<'a>>) -> Ending<'a>
+pub fn block_ending<'a>(frames: &Vec<Frame<'a>>) -> Ending<'a>
     ensures { IsEnding result (map open_of (reverse frames.now.items)) }
 {
     match frames.last() {
@@ -172,7 +172,7 @@ fn close_variable(run: &mut Run)
 }
 
 /// The innermost variable.
-fn innermost(run: &Run) -> Value
+pub fn innermost(run: &Run) -> Value
     requires sound { IsSound run.now }
     ensures { value_of result ≡ read (state_in run.now) (Slot 0) }
 {
