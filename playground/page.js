@@ -136,7 +136,7 @@ class Workbench {
     this.transport?.pause();
     this.editor?.clear();
     clearTimeout(this.later);
-    if (isTyped) this.later = setTimeout(() => this.judge(), EDIT_MILLISECONDS);
+    this.later = isTyped ? setTimeout(() => this.judge(), EDIT_MILLISECONDS) : undefined;
   }
 
   // A field or a limit has another value: the run begins again.
@@ -234,6 +234,7 @@ class Workbench {
   // Judges the text; where it is accepted, runs it.
   judge() {
     clearTimeout(this.later);
+    this.later = undefined;
     return this.guarded(async still => {
       this.keepSetting();
       const text = this.editor.text;

@@ -46,7 +46,7 @@ PARTS = 4
 # Waits for at most a second until two frames are drawn and nothing is under way, and says whether that is so.
 SETTLES = '''
 const frame = () => new Promise(done => requestAnimationFrame(() => setTimeout(done, 0))), end = performance.now() + 1000;
-const isBusy = it => it && (it.running || Number(document.body.dataset.asked) !== it.asked);
+const isBusy = it => it && (it.running || it.later !== undefined || Number(document.body.dataset.asked) !== it.asked);
 do { await frame(); await frame(); } while (isBusy(globalThis.playground) && performance.now() < end);
 return !isBusy(globalThis.playground);
 '''
@@ -133,7 +133,7 @@ class Page:
         self.run('await new Promise(done => setTimeout(done, 1000 * arguments[0]))', seconds)
 
     def settled(self):
-        """Waits until nothing is under way, as the page shows by its key Stop and counts by its questions."""
+        """Waits until nothing is under way, as the page shows by its key Stop and counts by its questions, and no edit waits to be read."""
         self.browser.until(SETTLES)
 
     # ---- what is drawn
