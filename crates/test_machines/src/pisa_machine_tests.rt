@@ -9,6 +9,7 @@ use std::marker::Brand;
 use std::process::Abort;
 use std::sync::ledger::{Blank, Ledger};
 use std::test::Fail;
+use two_way_debugger::Debugger;
 
 fn cell(op: Op, a: u8, b: u8, imm: u32) -> Cell {
     Cell {
@@ -104,5 +105,16 @@ fn probes_watch_a_run(rt: HostRuntime) -> Result<(), Fail> {
         assert_eq!(rt; text.as_str(), said);
         assert_eq!(rt; probes.len() + dropped, 3);
     }
+    Ok(())
+}
+
+#[test]
+fn a_debugger_has_its_machine(rt: HostRuntime) -> Result<(), Fail> {
+    let alloc = rt.alloc();
+    let cells = vec![in alloc; 7, 8]?;
+    let machine = Machine::start_with(alloc, subroutine(&rt, alloc)?, [0; 32], cells)?;
+    let debugger = Debugger::new(machine);
+    assert_eq!(rt; debugger.machine().made(), 0);
+    assert_eq!(rt; debugger.machine().cell(1), Some(8));
     Ok(())
 }
