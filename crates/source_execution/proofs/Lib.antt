@@ -5,3 +5,6 @@ pub use Rattle.source_statements.proofs.source_steps_laws
 pub mod Undone
 pub mod Walked
 pub mod Started
+pub mod AtEnds
+pub mod Leading
+pub mod Failed

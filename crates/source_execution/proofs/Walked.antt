@@ -29,7 +29,7 @@ gone_nowhere first fuel whole = record {
   less = omega arith;
 }
 
-one_step : (setting : Setting) (steps : ℕ) (x y : Config) (before fuel : ℕ)
+pub one_step : (setting : Setting) (steps : ℕ) (x y : Config) (before fuel : ℕ)
     → metered before (walk setting steps x) ≡ Went y fuel
     → metered before (walk setting (plus steps 1) x) ≡ metered fuel (next setting y >>= walk setting 0)
 one_step setting steps x y before fuel e =

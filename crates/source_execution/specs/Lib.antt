@@ -9,3 +9,7 @@ pub use Rattle.source_statements.specs.source_steps
 pub use Rattle.source_statements.specs as source_statements
 pub mod Standing
 pub mod Variables
+pub mod Failures
+pub mod TestedView
+pub mod Falls
+pub mod FailureLaws

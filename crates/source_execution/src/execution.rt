@@ -13,16 +13,19 @@ ghost use Rattle.source_statements.specs.source_steps.Metered.{Gives, metered};
 ghost use Rattle.source_statements.specs.source_blocks.Tasks.{task_of};
 ghost use Rattle.source_statements.specs.Steps.{StepFalls, step_in, MayStopAt};
 ghost use Rattle.source_execution.specs.Variables.{binding_of};
+ghost use Rattle.source_execution.specs.Failures.{tested as tested_at};
+ghost use Rattle.source_execution.specs.TestedView.{tested_of};
 ghost use Rattle.source_execution.specs.Standing.{IsOver, Walks, config_at, setting_at, next_place, starting_heap};
 
 use crate::places::line_place;
+use crate::testing::{Tested, test_next};
 use crate::variables::{Variable, variables_in};
 use class_table::Checked;
 use rpp_words::{FieldWord, Input, Limits, NoMemory};
 use source_blocks::{Run, Task, line_at, turn};
 use source_statements::{method_at, step};
 use source_steps::{Setting, Stop, put_value, zeros};
-use source_store::{Head, Heap, Value};
+use source_store::{Head, Heap, Lack, Value};
 use std::alloc::Global;
 use std::marker::Model;
 
@@ -250,6 +253,15 @@ impl<'a> Execution<'a> {
             None => None,
             Some(line) => Some(line_place(&line)),
         }
+    }
+
+    /// What the next step tests. An expression that costs more than 2 ^ 64 is refused as `Full`.
+    pub fn tested(&self) -> Result<Tested, Lack>
+        requires { self.now.broken ≡ false }
+        ensures { IfOk result (λ it. tested_of it
+            ≡ tested_at (setting_at self.now).program (config_at self.now)) }
+    {
+        test_next(&self.run)
     }
 
     /// How many calls are open, the main method among them.
