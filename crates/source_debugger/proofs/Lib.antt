@@ -6,3 +6,4 @@ pub mod Endings
 pub mod Longer
 pub mod Following
 pub mod Finished
+pub mod Stopping

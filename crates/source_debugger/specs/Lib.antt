@@ -8,4 +8,5 @@ pub mod Placed
 pub mod Looks
 pub mod Shown
 pub mod Standing
+pub mod Failures
 pub mod DebuggerLaws

@@ -1,5 +1,5 @@
 // Debuggers of the source.
-ghost use Rattle.std.specs.Prelude.{◌≡◌, ◌≤◌, ◌++◌, ◌∷◌, [], List, ℕ, Some, IfOk, OnOk, OnErr, string_bytes};
+ghost use Rattle.std.specs.Prelude.{◌≡◌, ◌≤◌, ◌++◌, ◌∷◌, [], List, ℕ, Some, IfOk, OnOk, OnErr, option_map, string_bytes};
 ghost use Rattle.rpp_tree.specs.Views.{source_of};
 ghost use Rattle.source_meaning.specs.meaning_points.Trail.{trail};
 ghost use Rattle.source_debugger.specs.declared.running.TheConstants.{MOST_COST};
@@ -8,8 +8,10 @@ ghost use Rattle.source_debugger.specs.Shown.{told_by, walked};
 ghost use Rattle.source_debugger.specs.Standing.{IsValidRun, run_of, Leads, IsAlong};
 ghost use Rattle.source_debugger.specs.Courses.{Holds};
 ghost use Rattle.source_debugger.specs.Looks.{seen_of};
+ghost use Rattle.source_debugger.specs.Failures.{account_of, fails_at};
 ghost use Rattle.source_debugger.specs.Walks.{stand_at};
 
+use crate::failing::tell_failure;
 use crate::looking::{Seen, look_at};
 use crate::moves::{Walk, backward, forward};
 use crate::running::{Course, Run, begin};
@@ -255,6 +257,23 @@ impl<'a> SourceDebugger<'a> {
             input: self.input,
         };
         look_at(&run, &mut self.course, self.position)
+    }
+
+    /// The lines on what fails if one more move is made; none if the move can be made. They name the
+    /// fault, the test that fails, its offset and that of its statement. Then come the values that it
+    /// compares, how many calls are active, and the fields and variables at that moment.
+    pub fn failure(&mut self, alloc: Global) -> Result<Option<String>, NoMemory>
+        ensures told { IfOk result (λ text. option_map string_bytes text
+            ≡ fails_at (account_of self.old) self.old.position) }
+        ensures stays { self.new ≡ self.old }
+    {
+        let run = Run {
+            alloc,
+            checked: self.checked,
+            limits: self.limits,
+            input: self.input,
+        };
+        tell_failure(&run, &mut self.course, self.position)
     }
 
     /// The position.

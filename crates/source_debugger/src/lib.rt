@@ -6,6 +6,7 @@
 #![tactic(auto)]
 
 mod debugger;
+mod failing;
 pub mod laws;
 mod lines;
 mod looking;

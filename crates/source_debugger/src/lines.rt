@@ -29,8 +29,8 @@ fn add_word(out: &mut String, word: u32) -> Result<(), AllocError>
     }
 }
 
-// A word, nil or the name of a reference.
-fn add_value(out: &mut String, value: Value) -> Result<(), AllocError>
+/// A word, nil or the name of a reference.
+pub(crate) fn add_value(out: &mut String, value: Value) -> Result<(), AllocError>
     ensures { OnOk result (string_bytes out.new ≡ string_bytes out.old ++ value_named (value_of value)) }
 {
     match value {

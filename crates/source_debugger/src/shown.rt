@@ -121,8 +121,8 @@ pub(crate) fn walk_text<'a>(
     Ok(line_text(run.alloc, walk, &place)?)
 }
 
-// The lines of the fields of an object, and of the variables of a method.
-fn add_state(
+/// The lines of the fields of an object, and of the variables of a method.
+pub(crate) fn add_state(
     text: &mut String,
     checked: &Checked,
     heap: &Heap,
