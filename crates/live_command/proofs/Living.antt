@@ -6,7 +6,8 @@ use Rattle.std.specs.declared.option.Option.{Option}
 use Rattle.run_settings.specs.rpp_tree.Views.{source_of}
 use Rattle.run_settings.specs.rpp_ports.declared.sink.SinkFault.{SinkFault}
 use Rattle.source_debugger.specs.declared.running.TheConstants.{MOST_COST}
-use Rattle.source_debugger.specs.Standing.{Standing, run_of}
+use Rattle.source_debugger.specs.Standing.{Standing}
+use Rattle.source_debugger.specs.Failures.{account_of}
 use Rattle.run_settings.specs.Runnable.{RefusesRun, CanRun}
 use Rattle.run_settings.specs.Readied.{IsReadied}
 use Rattle.run_settings.specs.declared.setting.Ready.{Ready}
@@ -64,7 +65,7 @@ lives_some it begun rose shelf shelf' before after status is h =
 pub greets : (d : Standing) (talk : Talk) (new : Printed) (after : Talk) (status : ℕ)
     (answer : Result (Unit {0}) SinkFault)
     → d.position ≡ 0 → answer ≡ Ok tt → Puts greeting answer talk.out new
-    → IsSession (source_of d.program) (run_of d) d.position (talk_with talk new) after status
+    → IsSession (source_of d.program) (account_of d) d.position (talk_with talk new) after status
     → OpensRun talk after status (source_of d.program) d.limits d.input
 greets d talk new after status answer start is puts session = inr (inr (record {
   fuel = MOST_COST;
@@ -74,7 +75,7 @@ greets d talk new after status answer start is puts session = inr (inr (record {
     lines = refl;
     heard = refl;
   };
-  session = subst (λ (j : ℕ). IsSession (source_of d.program) (run_of d) j (talk_with talk new) after status) start
+  session = subst (λ (j : ℕ). IsSession (source_of d.program) (account_of d) j (talk_with talk new) after status) start
       session;
 }))
 

@@ -15,7 +15,7 @@ use Rattle.command_plan.specs.Files.{Needed, source, input_files}
 use Rattle.command_plan.specs.Reads.{Gave, StopsAt, ReadsSome}
 use Rattle.command_plan.specs.Plans.{Planned, code_of}
 use Rattle.plan_serving.specs.Outside.{Shelved}
-use Rattle.source_debugger.specs.meaning_points.Trail.{trail}
+use Rattle.source_debugger.specs.Failures.{account}
 use Rattle.live_session.specs.Talks.{Talk, Printed, Puts, Says, status_by}
 use Rattle.live_session.specs.Sessions.{IsSession}
 use Rattle.live_command.specs.Beginnings.{Begun}
@@ -49,7 +49,7 @@ pub record HoldsSession (program : Source) (limits : Limits) (input : List Field
   pub fuel : ℕ
   pub talk : Talk
   pub greets : Says greeting (Ok tt) before talk
-  pub session : IsSession program (trail program limits input fuel) 0 talk after status
+  pub session : IsSession program (account program limits input fuel) 0 talk after status
 
 -- the greeting was not taken
 pub record FailsToGreet (before after : Talk) (status : ℕ) : Type 0 where

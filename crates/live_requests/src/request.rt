@@ -16,13 +16,15 @@ pub enum Request {
     Nothing,
     /// A command of a script.
     Carry(Command),
+    /// `fault`: what fails if one more move is made.
+    Fault,
     /// `quit`: the end of the session.
     Quit,
     /// The line is no request.
     Bad,
 }
 
-/// What a line asks. It is read as a script of this one line, except `quit`.
+/// What a line asks. It is read as a script of this one line, except `quit` and `fault`.
 pub fn read_request(alloc: Global, line: &[u8]) -> Result<Request, NoMemory>
     requires { length line.now ≤ MOST_SCRIPT }
     ensures request { IfOk result (λ request. request ≡ request_of line.now) }
@@ -30,6 +32,7 @@ pub fn read_request(alloc: Global, line: &[u8]) -> Result<Request, NoMemory>
 {
     match line {
         b"quit" => Ok(Request::Quit),
+        b"fault" => Ok(Request::Fault),
         _ => read_commands(alloc, line),
     }
 }

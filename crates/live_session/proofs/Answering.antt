@@ -1,20 +1,23 @@
 -- What is put of the reply to a request.
-use Rattle.std.proofs.Common.{◌≡◌, ◌∙◌, refl, sym, ap, subst, ℕ, List, ◌∷◌, Bool, false, true, Some, None, Ok, Err, inl}
-use Rattle.std.proofs.Common.{inr}
+use Rattle.std.proofs.Common.{◌≡◌, ◌∙◌, refl, sym, ap, subst, ℕ, List, ◌∷◌, ◌++◌, Bool, false, true, Some, None, Ok}
+use Rattle.std.proofs.Common.{Err}
+use Rattle.std.proofs.Common.{inl, inr}
 use Rattle.std.specs.Prelude.{Option, Result, ⊤}
 use Rattle.source_debugger.specs.meaning_points.rpp_tree.Views.{source_of}
-use Rattle.source_debugger.specs.Standing.{Standing, run_of}
+use Rattle.source_debugger.specs.Standing.{Standing}
+use Rattle.source_debugger.specs.Failures.{account_of, fails_at}
 use Rattle.pisa_scripts.specs.declared.command.Command.{Command}
 use Rattle.pisa_scripts.specs.Lines.{pieces}
 use Rattle.live_port.specs.rpp_ports.declared.sink.SinkFault.{SinkFault}
 use Rattle.live_port.specs.Heard.{Heard, Line, Long, Lost, Over, Failed, Tells}
 use Rattle.live_requests.specs.declared.request.Request.{Request}
-use Rattle.live_requests.specs.declared.request.Request.TheVariants.{Nothing, Carry, Quit, Bad}
+use Rattle.live_requests.specs.declared.request.Request.TheVariants.{Nothing, Carry, Fault, Quit, Bad}
 use Rattle.live_requests.specs.Requests.{request_of, is_quit}
 use Rattle.live_searches.specs.declared.asks.Ask.{Ask}
 use Rattle.live_searches.specs.Asks.{ask_of}
 use Rattle.live_session.specs.declared.ends.End.TheVariants as end
 use Rattle.live_session.specs.Ends.{end_line}
+use Rattle.live_session.specs.Replies.{failure_reply}
 use Rattle.live_session.specs.Talks.{Talk, Printed, Puts, status_by}
 use Rattle.live_session.specs.Sessions.{IsReply, IsLine, quits}
 use Rattle.live_session.specs.Serving.{IsSameRun, Answers, Moves, IsReplyTo, IsReplyBy, IsMoves, PutsText, PutsBye}
@@ -24,21 +27,24 @@ use Rattle.live_session.proofs.Putting.{by_text, goes}
 -- what is put of the reply to a request
 abbrev pub PutsTo : Request → (quit : Bool) → (before after : Standing) → (old new : Printed) → Option ℕ → Type 0
 PutsTo request quit before after old new result =
-    PutsBy (IsReplyTo (source_of before.program) (run_of before) request before.position) quit ⊤ before after old new
+    PutsBy (IsReplyTo (source_of before.program) (account_of before) request before.position) quit ⊤ before after old
+    new
     result
 
 -- the same by the line
 abbrev pub PutsByLine : Request → (line : List ℕ) → (quit : Bool) → (before after : Standing) → (old new : Printed)
     → Option ℕ → Type 0
 PutsByLine request line quit before after old new result =
-    PutsBy (IsReplyBy (source_of before.program) (run_of before) request line before.position) quit ⊤ before after old
+    PutsBy (IsReplyBy (source_of before.program) (account_of before) request line before.position) quit ⊤ before after
+    old
     new result
 
 pub carried_said : (before after : Standing) (command : Command) (text shown : List ℕ) (old new : Printed)
     (result : Option ℕ) → Answers before (Carry command) after text → shown ≡ text → PutsText shown old new result
     → PutsTo (Carry command) false before after old new result
 carried_said before after command text shown old new result answers is puts =
-    by_text (IsReplyTo (source_of before.program) (run_of before) (Carry command) before.position) false ⊤ before after
+    by_text (IsReplyTo (source_of before.program) (account_of before) (Carry command) before.position) false ⊤ before
+    after
     old new result text (subst (λ (t : List ℕ). PutsText t old new result) is puts) (inl answers.replied) refl
     answers.same
 
@@ -46,9 +52,45 @@ pub unsaid : (before after : Standing) (request : Request) (quit : Bool) (old ne
     → after ≡ before → quit ≡ false → PutsText (end_line end.Memory) old new result
     → PutsTo request quit before after old new result
 unsaid before after request quit old new result same on puts =
-    by_text (IsReplyTo (source_of before.program) (run_of before) request before.position) quit ⊤ before after old new
+    by_text (IsReplyTo (source_of before.program) (account_of before) request before.position) quit ⊤ before after old
+    new
     result (end_line end.Memory) puts (inr (refl, ap (λ (d : Standing). d.position) same)) on
     (subst (λ (d : Standing). IsSameRun before d) (sym same) refl)
+
+-- what fails, if something does
+failure_told : (d : Standing) (o : Option (List ℕ)) (reply : List ℕ) → o ≡ fails_at (account_of d) d.position
+    → failure_reply d.position o ≡ Some (record { position = d.position; text = reply }) → Answers d Fault d reply
+failure_told d o reply is told = record { replied = sym (ap (failure_reply d.position) is) ∙ told; same = refl }
+
+pub nothing_fails : (before after : Standing) (reply : List ℕ) → after ≡ before
+    → None ≡ fails_at (account_of before) before.position → reply ≡ end_line end.None
+    → Answers before Fault after reply
+nothing_fails before after reply stays is shown =
+    subst (λ (d : Standing). Answers before Fault d reply) (sym stays)
+    (failure_told before None reply is
+    (ap (λ (t : List ℕ). Some (record { position = before.position; text = t })) (sym shown)))
+
+pub something_fails : (before after : Standing) (text reply : List ℕ) → after ≡ before
+    → Some text ≡ fails_at (account_of before) before.position → reply ≡ text ++ end_line end.Done
+    → Answers before Fault after reply
+something_fails before after text reply stays is shown =
+    subst (λ (d : Standing). Answers before Fault d reply) (sym stays)
+    (failure_told before (Some text) reply is
+    (ap (λ (t : List ℕ). Some (record { position = before.position; text = t })) (sym shown)))
+
+pub failure_said : (before after : Standing) (text shown : List ℕ) (old new : Printed) (result : Option ℕ)
+    → Answers before Fault after text → shown ≡ text → PutsText shown old new result
+    → PutsTo Fault false before after old new result
+failure_said before after text shown old new result answers is puts =
+    by_text (IsReplyTo (source_of before.program) (account_of before) Fault before.position) false ⊤ before after
+    old new result text (subst (λ (t : List ℕ). PutsText t old new result) is puts) (inl answers.replied) refl
+    answers.same
+
+pub fault_said : (before after : Standing) (request : Request) (line : List ℕ) (old new : Printed)
+    (result : Option ℕ) → request ≡ Fault → PutsTo Fault false before after old new result
+    → PutsByLine request line (is_quit request) before after old new result
+fault_said before after request line old new result is puts =
+    subst (λ (r : Request). PutsByLine r line (is_quit r) before after old new result) (sym is) puts
 
 pub roomless : (before after : Standing) (request : Request) (quit : Bool) (old : Printed)
     → PutsTo request quit before after old old (Some 7)
@@ -59,7 +101,7 @@ pub nothing_said : (d : Standing) (request : Request) (line : List ℕ) (old new
     → PutsByLine request line (is_quit request) d d old new result
 nothing_said d request line old new result is puts =
     subst (λ (r : Request). PutsByLine r line (is_quit r) d d old new result) (sym is)
-    (by_text (IsReplyTo (source_of d.program) (run_of d) Nothing d.position) false ⊤ d d old new result
+    (by_text (IsReplyTo (source_of d.program) (account_of d) Nothing d.position) false ⊤ d d old new result
     (end_line end.Done) puts (inl refl) refl refl)
 
 pub carry_said : (before after : Standing) (request : Request) (line : List ℕ) (command : Command) (old new : Printed)
@@ -101,14 +143,16 @@ quit_said d request line old new status is puts =
 abbrev pub PutsMoves : Option Ask → (words : List (List ℕ)) → (before after : Standing) → (old new : Printed)
     → Option ℕ → Type 0
 PutsMoves ask words before after old new result =
-    PutsBy (IsMoves (source_of before.program) (run_of before) ask words before.position) false ⊤ before after old new
+    PutsBy (IsMoves (source_of before.program) (account_of before) ask words before.position) false ⊤ before after old
+    new
     result
 
 pub moves_said : (before after : Standing) (ask : Ask) (words : List (List ℕ)) (text shown : List ℕ)
     (old new : Printed) (result : Option ℕ) → Moves before ask words after text → shown ≡ text
     → PutsText shown old new result → PutsMoves (Some ask) words before after old new result
 moves_said before after ask words text shown old new result moves is puts =
-    by_text (IsMoves (source_of before.program) (run_of before) (Some ask) words before.position) false ⊤ before after
+    by_text (IsMoves (source_of before.program) (account_of before) (Some ask) words before.position) false ⊤ before
+    after
     old new result text (subst (λ (t : List ℕ). PutsText t old new result) is puts) (inl moves.replied) refl
     moves.same
 
@@ -116,7 +160,8 @@ pub moves_unsaid : (before after : Standing) (ask : Option Ask) (words : List (L
     (result : Option ℕ) → after ≡ before → PutsText (end_line end.Memory) old new result
     → PutsMoves ask words before after old new result
 moves_unsaid before after ask words old new result same puts =
-    by_text (IsMoves (source_of before.program) (run_of before) ask words before.position) false ⊤ before after old new
+    by_text (IsMoves (source_of before.program) (account_of before) ask words before.position) false ⊤ before after old
+    new
     result (end_line end.Memory) puts (inr (refl, ap (λ (d : Standing). d.position) same)) refl
     (subst (λ (d : Standing). IsSameRun before d) (sym same) refl)
 
@@ -128,7 +173,7 @@ pub no_moves : (d : Standing) (ask : Option Ask) (words : List (List ℕ)) (old 
     → ask ≡ None → PutsText (end_line end.Bad) old new result → PutsMoves ask words d d old new result
 no_moves d ask words old new result is puts =
     subst (λ (a : Option Ask). PutsMoves a words d d old new result) (sym is)
-    (by_text (IsMoves (source_of d.program) (run_of d) None words d.position) false ⊤ d d old new result
+    (by_text (IsMoves (source_of d.program) (account_of d) None words d.position) false ⊤ d d old new result
     (end_line end.Bad) puts (inl refl) refl refl)
 
 pub some_moves : (before after : Standing) (ask : Option Ask) (it : Ask) (words : List (List ℕ)) (old new : Printed)
@@ -153,7 +198,7 @@ asked_said before after request line old new result is puts =
 -- what is put of the reply to a line
 abbrev pub PutsToHeard : Heard → (N : Type 0) → (before after : Standing) → (old new : Printed) → Option ℕ → Type 0
 PutsToHeard it N before after old new result =
-    PutsBy (IsReply (source_of before.program) (run_of before) it before.position) (quits it) N before after old new
+    PutsBy (IsReply (source_of before.program) (account_of before) it before.position) (quits it) N before after old new
     result
 
 pub line_said : (before after : Standing) (line : List ℕ) (request : Request) (old new : Printed) (result : Option ℕ)
@@ -166,19 +211,21 @@ pub line_unsaid : (d : Standing) (line : List ℕ) (old new : Printed) (result :
     → is_quit (request_of line) ≡ false → PutsText (end_line end.Memory) old new result
     → PutsToHeard (Line line) ⊤ d d old new result
 line_unsaid d line old new result on puts =
-    by_text (IsReply (source_of d.program) (run_of d) (Line line) d.position) (is_quit (request_of line)) ⊤ d d old new
+    by_text (IsReply (source_of d.program) (account_of d) (Line line) d.position) (is_quit (request_of line)) ⊤ d d old
+    new
     result (end_line end.Memory) puts (inr (refl, refl)) on refl
 
 pub long_said : (d : Standing) (old new : Printed) (result : Option ℕ) → PutsText (end_line end.Long) old new result
     → PutsToHeard Long ⊥ d d old new result
 long_said d old new result puts =
-    by_text (IsReply (source_of d.program) (run_of d) Long d.position) false ⊥ d d old new result (end_line end.Long)
+    by_text (IsReply (source_of d.program) (account_of d) Long d.position) false ⊥ d d old new result
+    (end_line end.Long)
     puts (refl, refl) refl refl
 
 pub lost_said : (d : Standing) (old new : Printed) (result : Option ℕ) → PutsText (end_line end.Memory) old new result
     → PutsToHeard Lost ⊥ d d old new result
 lost_said d old new result puts =
-    by_text (IsReply (source_of d.program) (run_of d) Lost d.position) false ⊥ d d old new result
+    by_text (IsReply (source_of d.program) (account_of d) Lost d.position) false ⊥ d d old new result
     (end_line end.Memory) puts (refl, refl) refl refl
 
 -- ---- what comes of what is heard

@@ -3,8 +3,8 @@ use Rattle.std.proofs.Common.{◌≡◌, ◌∙◌, refl, sym, ap, subst, add-on
 use Rattle.std.specs.Prelude.{Option, ◌⊎◌, Result, IfSome, IsSome}
 use Rattle.source_debugger.specs.meaning_points.rpp_tree.Tree.{Source}
 use Rattle.source_debugger.specs.meaning_points.rpp_tree.Views.{source_of}
-use Rattle.source_debugger.specs.meaning_points.Trail.{Trail}
-use Rattle.source_debugger.specs.Standing.{Standing, run_of}
+use Rattle.source_debugger.specs.Failures.{Account, account_of}
+use Rattle.source_debugger.specs.Standing.{Standing}
 use Rattle.live_port.specs.rpp_ports.declared.sink.SinkFault.{SinkFault}
 use Rattle.live_port.specs.Heard.{Heard, Tells}
 use Rattle.live_session.specs.Talks.{Talk, Printed, Hears, Puts, Says, status_by, over_by}
@@ -39,7 +39,7 @@ by_text R quit N before after old new result reply puts is goes same =
 
 pub goes : (it : Heard) (N : Type 0) (before after : Standing) (talk between talk' : Talk) (result : Option ℕ)
     → Hears it talk between → (N → IsLine it)
-    → PutsBy (IsReply (source_of before.program) (run_of before) it before.position) (quits it) N before after
+    → PutsBy (IsReply (source_of before.program) (account_of before) it before.position) (quits it) N before after
     between.out talk'.out result
     → talk'.lines ≡ between.lines → talk'.heard ≡ between.heard → Goes before after talk talk' result
 goes it N before after talk between talk' None h line p lines heard = (
@@ -92,18 +92,22 @@ goes it N before after talk between talk' (Some status) h line (inr (inr p)) lin
   status_is = p.2;
 })))
 
--- one more line, of the same run
+-- one more line
+next_one : (program : Source) (account : Account) (n from place to : ℕ) (talk₀ talk talk' : Talk)
+    → Exchanges program account n from place talk₀ talk → Replies program account false (Ok tt) place to talk talk'
+    → Exchanges program account (n + 1) from to talk₀ talk'
+next_one program account n from place to talk₀ talk talk' so_far replies = rw add-one (place, talk, so_far, replies)
+
+-- the same of the same run
 pub one_more : (start before after : Standing) (n : ℕ) (talk₀ talk talk' : Talk)
-    → Exchanges (source_of start.program) (run_of start) n start.position before.position talk₀ talk
+    → Exchanges (source_of start.program) (account_of start) n start.position before.position talk₀ talk
     → IsSameRun start before → Goes before after talk talk' None
-    → Exchanges (source_of start.program) (run_of start) (n + 1) start.position after.position talk₀ talk'
-one_more start before after n talk₀ talk talk' so_far same goes = rw add-one (
-  before.position,
-  talk,
-  so_far,
-  subst (λ (d : Standing). Replies (source_of d.program) (run_of d) false (Ok tt) before.position after.position talk
-      talk') same goes.0,
-)
+    → Exchanges (source_of start.program) (account_of start) (n + 1) start.position after.position talk₀ talk'
+one_more start before after n talk₀ talk talk' so_far same one =
+    next_one (source_of start.program) (account_of start) n start.position before.position after.position talk₀ talk
+    talk' so_far
+    (subst (λ (d : Standing). Replies (source_of d.program) (account_of d) false (Ok tt) before.position after.position
+    talk talk') same one.0)
 
 pub same_run : (start before after : Standing) → IsSameRun start before → IsSameRun before after
     → IsSameRun start after
@@ -111,22 +115,22 @@ same_run start before after one two =
     two ∙ ap (λ (d : Standing). record d { position = after.position }) one
 
 pub over : (start before after : Standing) (n : ℕ) (talk₀ talk talk' : Talk) (status : ℕ)
-    → Exchanges (source_of start.program) (run_of start) n start.position before.position talk₀ talk
+    → Exchanges (source_of start.program) (account_of start) n start.position before.position talk₀ talk
     → IsSameRun start before → Goes before after talk talk' (Some status)
-    → IsSession (source_of start.program) (run_of start) start.position talk₀ talk' status
+    → IsSession (source_of start.program) (account_of start) start.position talk₀ talk' status
 over start before after n talk₀ talk talk' status so_far same goes = record {
   count = n;
   to = before.position;
   talk = talk;
   exchanges = so_far;
-  closes = inl (subst (λ (d : Standing). Closes (source_of d.program) (run_of d) before.position talk talk' status)
+  closes = inl (subst (λ (d : Standing). Closes (source_of d.program) (account_of d) before.position talk talk' status)
       same goes);
 }
 
 -- so many lines end a session
 pub enough : (start now : Standing) (n : ℕ) (talk₀ talk : Talk)
-    → Exchanges (source_of start.program) (run_of start) n start.position now.position talk₀ talk
-    → MOST_LINES ≤ n → IsSession (source_of start.program) (run_of start) start.position talk₀ talk 0
+    → Exchanges (source_of start.program) (account_of start) n start.position now.position talk₀ talk
+    → MOST_LINES ≤ n → IsSession (source_of start.program) (account_of start) start.position talk₀ talk 0
 enough start now n talk₀ talk so_far many = record {
   count = n;
   to = now.position;

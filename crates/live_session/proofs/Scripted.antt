@@ -9,7 +9,7 @@ use Rattle.std.specs.Str.{bytes_eq}
 use Rattle.pisa_scripts.specs.Lines.{is_blank, pieces, begins_with, kept_byte, without_returns}
 use Rattle.pisa_scripts.specs.declared.command.Command.{Command}
 use Rattle.source_debugger.specs.meaning_points.rpp_tree.Tree.{Source}
-use Rattle.source_debugger.specs.meaning_points.Trail.{Trail}
+use Rattle.source_debugger.specs.Failures.{Account}
 use Rattle.source_debugger.specs.Shown.{Told, told, told_by, and_told, behind_text}
 use Rattle.live_requests.specs.two_way_debugger.declared.error.ScriptError.{ScriptError}
 use Rattle.live_requests.specs.two_way_debugger.Scripts.{script_of, command_of, with_command, with_line, and_then}
@@ -86,6 +86,10 @@ quit_is_no_command : command_of (pieces 32 (codes "quit")) ≡ None
 unfolding command_of
 quit_is_no_command = refl
 
+fault_is_no_command : command_of (pieces 32 (codes "fault")) ≡ None
+unfolding command_of
+fault_is_no_command = refl
+
 none_some : (command : Command) → None ≡ Some command → ⊥
 none_some command e = cc
 
@@ -98,28 +102,37 @@ good commands = Ok commands
 ok_ok : {one two : List Command} → good one ≡ good two → one ≡ two
 ok_ok e = cc
 
-no_quit : (line : List ℕ) → (line ≡ codes "quit" → ⊥) → bytes_eq line (codes "quit") ≡ false
-no_quit line other = false_from_ne_true (bytes_eq line (codes "quit"))
-    (λ e. other ((bytes_eq-Decides line (codes "quit")).0 e))
+no_word : (line word : List ℕ) → (line ≡ word → ⊥) → bytes_eq line word ≡ false
+no_word line word other = false_from_ne_true (bytes_eq line word) (λ e. other ((bytes_eq-Decides line word).0 e))
 
 blank_quit : is_blank (codes "quit") ≡ true → ⊥
 blank_quit e = cc
 
+blank_fault : is_blank (codes "fault") ≡ true → ⊥
+blank_fault e = cc
+
 command_quit : (command : Command) → command_of (pieces 32 (codes "quit")) ≡ Some command → ⊥
 command_quit command e = none_some command (sym quit_is_no_command ∙ e)
 
-asks_read : (line : List ℕ) → has_feed line ≡ false → (line ≡ codes "quit" → ⊥)
+command_fault : (command : Command) → command_of (pieces 32 (codes "fault")) ≡ Some command → ⊥
+command_fault command e = none_some command (sym fault_is_no_command ∙ e)
+
+asks_read : (line : List ℕ) → has_feed line ≡ false → (line ≡ codes "quit" → ⊥) → (line ≡ codes "fault" → ⊥)
     → request_of line ≡ read_as (with_line 1 [] line)
-asks_read line none other = rw (no_quit line other, one_line line none) refl
+asks_read line none quits fails =
+    rw (no_word line (codes "quit") quits, no_word line (codes "fault") fails, one_line line none) refl
 
 blank_asks : (line : List ℕ) → has_feed line ≡ false → is_blank line ≡ true → request_of line ≡ Nothing
 blank_asks line none blank =
-    asks_read line none (λ e. blank_quit (subst (λ (l : List ℕ). is_blank l ≡ true) e blank)) ∙ rw blank refl
+    asks_read line none (λ e. blank_quit (subst (λ (l : List ℕ). is_blank l ≡ true) e blank))
+    (λ e. blank_fault (subst (λ (l : List ℕ). is_blank l ≡ true) e blank)) ∙ rw blank refl
 
 command_asks : (line : List ℕ) (command : Command) → has_feed line ≡ false → is_blank line ≡ false
     → command_of (pieces 32 line) ≡ Some command → request_of line ≡ Carry command
 command_asks line command none blank is =
     asks_read line none (λ e. command_quit command
+    (subst (λ (l : List ℕ). command_of (pieces 32 l) ≡ Some command) e is))
+    (λ e. command_fault command
     (subst (λ (l : List ℕ). command_of (pieces 32 l) ≡ Some command) e is)) ∙ rw (blank, is) refl
 
 -- ---- line by line
@@ -136,16 +149,17 @@ said_next (Some t) f g same = ap (behind_text t.text) (same t.position)
 record AreLines (before commands : List Command) (lines : List (List ℕ)) : Type 0 where
   rest : List Command
   joined : commands ≡ before ++ rest
-  same : (program : Source) (trail : Trail) (j : ℕ) → said_of program trail lines j ≡ told program trail rest j
+  same : (program : Source) (account : Account) (j : ℕ) → said_of program account lines j
+      ≡ told program account.trail rest j
 
 blank_line : (before commands : List Command) (line : List ℕ) (lines : List (List ℕ)) → request_of line ≡ Nothing
     → AreLines before commands lines → AreLines before commands (line ∷ lines)
 blank_line before commands line lines is h = record {
   rest = h.rest;
   joined = h.joined;
-  same = λ program trail j.
-      ap (λ (r : Request). and_told (said_to program trail r line j) (said_of program trail lines)) is
-      ∙ behind_nothing (said_of program trail lines j) ∙ h.same program trail j;
+  same = λ program account j.
+      ap (λ (r : Request). and_told (said_to program account r line j) (said_of program account lines)) is
+      ∙ behind_nothing (said_of program account lines j) ∙ h.same program account j;
 }
 
 command_line : (before commands : List Command) (command : Command) (line : List ℕ) (lines : List (List ℕ))
@@ -154,10 +168,11 @@ command_line : (before commands : List Command) (command : Command) (line : List
 command_line before commands command line lines is h = record {
   rest = command ∷ h.rest;
   joined = h.joined ∙ append_assoc before (command ∷ []) h.rest;
-  same = λ program trail j.
-      ap (λ (r : Request). and_told (said_to program trail r line j) (said_of program trail lines)) is
-      ∙ said_next (told_by program trail command j) (said_of program trail lines) (told program trail h.rest)
-      (h.same program trail);
+  same = λ program account j.
+      ap (λ (r : Request). and_told (said_to program account r line j) (said_of program account lines)) is
+      ∙ said_next (told_by program account.trail command j) (said_of program account lines)
+      (told program account.trail h.rest)
+      (h.same program account);
 }
 
 -- one line, by whether it is blank, and by the command that it is
@@ -180,15 +195,15 @@ unfolding commands_from
 are_lines n before commands [] none e = record {
   rest = [];
   joined = sym (ok_ok e) ∙ sym (append-nil before);
-  same = λ program trail j. refl;
+  same = λ program account j. refl;
 }
 are_lines n before commands (line ∷ lines) none e =
     by_line n before commands line lines (is_blank line) (command_of (pieces 32 line)) none.0 refl refl
     (λ more. are_lines (n + 1) more commands lines none.1) e
 
-pub script_is_session : (program : Source) (trail : Trail) (script : List ℕ) (commands : List Command) (j : ℕ)
+pub script_is_session : (program : Source) (account : Account) (script : List ℕ) (commands : List Command) (j : ℕ)
     → script_of script ≡ Ok commands
-    → said_of program trail (pieces 10 (without_returns script)) j ≡ told program trail commands j
-script_is_session program trail script commands j read =
+    → said_of program account (pieces 10 (without_returns script)) j ≡ told program account.trail commands j
+script_is_session program account script commands j read =
     let h = are_lines 1 [] commands (pieces 10 (without_returns script)) (pieces_none (without_returns script)) read in
-    h.same program trail j ∙ ap (λ (c : List Command). told program trail c j) (sym h.joined)
+    h.same program account j ∙ ap (λ (c : List Command). told program account.trail c j) (sym h.joined)

@@ -11,7 +11,7 @@ use Rattle.live_searches.specs.declared.moves.Outcome.{Outcome}
 use Rattle.live_searches.specs.declared.moves.Outcome.TheVariants as outcome
 use Rattle.live_session.specs.declared.ends.End.{End}
 use Rattle.live_session.specs.declared.ends.End.TheVariants.{Done, Met, More, Start, Over, Fault}
-use Rattle.live_session.specs.declared.ends.End.TheVariants.{Bad, Long, Memory, Bye}
+use Rattle.live_session.specs.declared.ends.End.TheVariants.{None, Bad, Long, Memory, Bye}
 
 -- the last line of a reply
 abbrev pub end_line : End → List ℕ
@@ -21,6 +21,7 @@ end_line More = codes ". more" ++ line_end
 end_line Start = codes ". start" ++ line_end
 end_line Over = codes ". end" ++ line_end
 end_line Fault = codes ". fault" ++ line_end
+end_line None = codes ". none" ++ line_end
 end_line Bad = codes ". bad" ++ line_end
 end_line Long = codes ". long" ++ line_end
 end_line Memory = codes ". memory" ++ line_end

@@ -2,10 +2,10 @@
 use Rattle.std.specs.Prelude.{ℕ, List, [], ◌∷◌, ◌++◌, Option, Some, None}
 use Rattle.pisa_scripts.specs.Lines.{pieces}
 use Rattle.source_debugger.specs.meaning_points.rpp_tree.Tree.{Source}
-use Rattle.source_debugger.specs.meaning_points.Trail.{Trail}
+use Rattle.source_debugger.specs.Failures.{Account, fails_at}
 use Rattle.source_debugger.specs.Shown.{Told, told_by, and_told}
 use Rattle.live_requests.specs.declared.request.Request.{Request}
-use Rattle.live_requests.specs.declared.request.Request.TheVariants.{Nothing, Carry, Quit, Bad}
+use Rattle.live_requests.specs.declared.request.Request.TheVariants.{Nothing, Carry, Fault, Quit, Bad}
 use Rattle.live_requests.specs.Requests.{request_of}
 use Rattle.live_searches.specs.declared.asks.Ask.{Ask}
 use Rattle.live_searches.specs.declared.asks.Goal.{Goal}
@@ -16,16 +16,24 @@ use Rattle.live_session.specs.declared.ends.End.{End}
 use Rattle.live_session.specs.declared.ends.End.TheVariants as end
 use Rattle.live_session.specs.Ends.{end_line, end_shown, end_moved}
 
--- what a reply says before its last line, and where it leads: what `trace` prints of a command, and
--- nothing of the other requests
-abbrev pub said : Source → Trail → Request → ℕ → Option Told
-said program trail (Carry command) j = told_by program trail command j
-said program trail _ j = Some (record { position = j; text = [] })
+-- lines, if there are any
+abbrev pub or_nothing : Option (List ℕ) → List ℕ
+or_nothing None = []
+or_nothing (Some text) = text
+
+-- what a reply says before its last line, and where it leads: what `trace` prints of a command, what
+-- fails if the next move does, and nothing of the other requests
+abbrev pub said : Source → Account → Request → ℕ → Option Told
+said program account (Carry command) j = told_by program account.trail command j
+said program account Fault j =
+    Some (record { position = j; text = or_nothing (fails_at account j) })
+said program account _ j = Some (record { position = j; text = [] })
 
 -- how the reply to a request ends that was given at a position
 abbrev pub end_of : Request → (from : ℕ) → Told → End
 end_of Nothing from told = end.Done
 end_of (Carry command) from told = end_shown command from told.position told.text
+end_of Fault from told = end.Done
 end_of Quit from told = end.Bye
 end_of Bad from told = end.Bad
 
@@ -37,9 +45,15 @@ with_end request from (Some told) =
       text = told.text ++ end_line (end_of request from told);
     })
 
+-- the reply on what fails
+abbrev pub failure_reply : ℕ → Option (List ℕ) → Option Told
+failure_reply j None = Some (record { position = j; text = end_line end.None })
+failure_reply j (Some text) = Some (record { position = j; text = text ++ end_line end.Done })
+
 -- the reply to a request at a position, and where it leads; none if the run is not known so far
-abbrev pub replied : Source → Trail → Request → ℕ → Option Told
-replied program trail request j = with_end request j (said program trail request j)
+abbrev pub replied : Source → Account → Request → ℕ → Option Told
+replied program account Fault j = failure_reply j (fails_at account j)
+replied program account request j = with_end request j (said program account request j)
 
 -- ---- lines that are no command of a script
 
@@ -48,10 +62,10 @@ abbrev pub told_of : Option Found → Option Told
 told_of None = None
 told_of (Some found) = Some (record { position = found.position; text = found.text })
 
-abbrev pub said_by : Source → Trail → Option Ask → (words : List (List ℕ)) → ℕ → Option Told
-said_by program trail None words j = Some (record { position = j; text = [] })
-said_by program trail (Some ask) words j =
-    told_of (made program trail ask (arguments ask.back words) j)
+abbrev pub said_by : Source → Account → Option Ask → (words : List (List ℕ)) → ℕ → Option Told
+said_by program account None words j = Some (record { position = j; text = [] })
+said_by program account (Some ask) words j =
+    told_of (made program account.trail ask (arguments ask.back words) j)
 
 -- the same with the last line
 abbrev pub with_end_moved : Goal → Option Found → Option Told
@@ -62,25 +76,25 @@ with_end_moved goal (Some found) =
       text = found.text ++ end_line (end_moved goal found.how found.text);
     })
 
-abbrev pub replied_by : Source → Trail → Option Ask → (words : List (List ℕ)) → ℕ → Option Told
-replied_by program trail None words j = Some (record { position = j; text = end_line end.Bad })
-replied_by program trail (Some ask) words j =
-    with_end_moved ask.goal (made program trail ask (arguments ask.back words) j)
+abbrev pub replied_by : Source → Account → Option Ask → (words : List (List ℕ)) → ℕ → Option Told
+replied_by program account None words j = Some (record { position = j; text = end_line end.Bad })
+replied_by program account (Some ask) words j =
+    with_end_moved ask.goal (made program account.trail ask (arguments ask.back words) j)
 
 -- ---- all lines
 
-abbrev pub said_to : Source → Trail → Request → (line : List ℕ) → ℕ → Option Told
-said_to program trail Bad line j = said_by program trail (ask_of (pieces 32 line)) (pieces 32 line) j
-said_to program trail request line j = said program trail request j
+abbrev pub said_to : Source → Account → Request → (line : List ℕ) → ℕ → Option Told
+said_to program account Bad line j = said_by program account (ask_of (pieces 32 line)) (pieces 32 line) j
+said_to program account request line j = said program account request j
 
 -- the reply to a line, by the request that it is read as
-abbrev pub replied_to : Source → Trail → Request → (line : List ℕ) → ℕ → Option Told
-replied_to program trail Bad line j =
-    replied_by program trail (ask_of (pieces 32 line)) (pieces 32 line) j
-replied_to program trail request line j = replied program trail request j
+abbrev pub replied_to : Source → Account → Request → (line : List ℕ) → ℕ → Option Told
+replied_to program account Bad line j =
+    replied_by program account (ask_of (pieces 32 line)) (pieces 32 line) j
+replied_to program account request line j = replied program account request j
 
 -- what the replies to lines say before their last lines, one after the other
-abbrev pub said_of : Source → Trail → List (List ℕ) → ℕ → Option Told
-said_of program trail [] j = Some (record { position = j; text = [] })
-said_of program trail (line ∷ lines) j =
-    and_told (said_to program trail (request_of line) line j) (said_of program trail lines)
+abbrev pub said_of : Source → Account → List (List ℕ) → ℕ → Option Told
+said_of program account [] j = Some (record { position = j; text = [] })
+said_of program account (line ∷ lines) j =
+    and_told (said_to program account (request_of line) line j) (said_of program account lines)

@@ -3,8 +3,8 @@ use Rattle.std.specs.Prelude.{◌≡◌, ◌⊎◌, ℕ, Bool, true, false, List
 use Rattle.std.specs.declared.option.Option.{Option}
 use Rattle.source_debugger.specs.meaning_points.rpp_tree.Tree.{Source}
 use Rattle.source_debugger.specs.meaning_points.rpp_tree.Views.{source_of}
-use Rattle.source_debugger.specs.meaning_points.Trail.{Trail}
-use Rattle.source_debugger.specs.Standing.{Standing, run_of}
+use Rattle.source_debugger.specs.Failures.{Account, account_of}
+use Rattle.source_debugger.specs.Standing.{Standing}
 use Rattle.live_port.specs.rpp_ports.declared.sink.SinkFault.{SinkFault}
 use Rattle.live_requests.specs.declared.request.Request.{Request}
 use Rattle.live_searches.specs.declared.asks.Ask.{Ask}
@@ -21,34 +21,34 @@ IsSameRun before after = after ≡ record before { position = after.position }
 -- this is the reply to a request
 pub record Answers (before : Standing) (request : Request) (after : Standing) (reply : List ℕ)
     : Type 0 where
-  pub replied : replied (source_of before.program) (run_of before) request before.position
+  pub replied : replied (source_of before.program) (account_of before) request before.position
       ≡ Some (record { position = after.position; text = reply })
   pub same : IsSameRun before after
 
 -- the reply to a request, or that there is no memory for it
-abbrev pub IsReplyTo : Source → Trail → Request → (from : ℕ) → (reply : List ℕ) → (to : ℕ) → Type 0
-IsReplyTo program trail request from reply to =
-    (replied program trail request from ≡ Some (record { position = to; text = reply }))
+abbrev pub IsReplyTo : Source → Account → Request → (from : ℕ) → (reply : List ℕ) → (to : ℕ) → Type 0
+IsReplyTo program account request from reply to =
+    (replied program account request from ≡ Some (record { position = to; text = reply }))
     ⊎ IsAlone Memory from reply to
 
 -- the same by the line
-abbrev pub IsReplyBy : Source → Trail → Request → (line : List ℕ) → (from : ℕ) → (reply : List ℕ)
+abbrev pub IsReplyBy : Source → Account → Request → (line : List ℕ) → (from : ℕ) → (reply : List ℕ)
     → (to : ℕ) → Type 0
-IsReplyBy program trail request line from reply to =
-    (replied_to program trail request line from
+IsReplyBy program account request line from reply to =
+    (replied_to program account request line from
     ≡ Some (record { position = to; text = reply })) ⊎ IsAlone Memory from reply to
 
 -- the reply to moves that words ask for
-abbrev pub IsMoves : Source → Trail → Option Ask → (words : List (List ℕ)) → (from : ℕ)
+abbrev pub IsMoves : Source → Account → Option Ask → (words : List (List ℕ)) → (from : ℕ)
     → (reply : List ℕ) → (to : ℕ) → Type 0
-IsMoves program trail ask words from reply to =
-    (replied_by program trail ask words from
+IsMoves program account ask words from reply to =
+    (replied_by program account ask words from
     ≡ Some (record { position = to; text = reply })) ⊎ IsAlone Memory from reply to
 
 -- moves that are asked for led there, and this is the reply to them
 pub record Moves (before : Standing) (ask : Ask) (words : List (List ℕ)) (after : Standing)
     (reply : List ℕ) : Type 0 where
-  pub replied : replied_by (source_of before.program) (run_of before) (Some ask) words
+  pub replied : replied_by (source_of before.program) (account_of before) (Some ask) words
       before.position ≡ Some (record { position = after.position; text = reply })
   pub same : IsSameRun before after
 
@@ -104,7 +104,7 @@ PutsBy R quit N before after old new (Some status) = PutsLast R quit before.posi
 -- what comes of a line: its reply, and the session goes on, or it ends with a status
 abbrev pub Goes : (before after : Standing) → (talk talk' : Talk) → Option ℕ → Type 0
 Goes before after talk talk' None =
-    Replies (source_of before.program) (run_of before) false (Ok tt) before.position
+    Replies (source_of before.program) (account_of before) false (Ok tt) before.position
     after.position talk talk' × IsSameRun before after
 Goes before after talk talk' (Some status) =
-    Closes (source_of before.program) (run_of before) before.position talk talk' status
+    Closes (source_of before.program) (account_of before) before.position talk talk' status

@@ -3,7 +3,7 @@ use Rattle.std.specs.Prelude.{◌≡◌, ℕ, List, Ok}
 use Rattle.pisa_scripts.specs.Lines.{pieces, without_returns}
 use Rattle.pisa_scripts.specs.declared.command.Command.{Command}
 use Rattle.source_debugger.specs.meaning_points.rpp_tree.Tree.{Source}
-use Rattle.source_debugger.specs.meaning_points.Trail.{Trail}
+use Rattle.source_debugger.specs.Failures.{Account}
 use Rattle.source_debugger.specs.Shown.{told}
 use Rattle.live_requests.specs.two_way_debugger.Scripts.{script_of}
 use Rattle.live_session.specs.Replies.{said_of}
@@ -11,6 +11,6 @@ use Rattle.live_session.specs.Replies.{said_of}
 -- the lines of a script, one by one: without their last lines, the replies are what `trace` prints
 abbrev pub ScriptIsSession : Type 0
 ScriptIsSession =
-    (program : Source) (trail : Trail) (script : List ℕ) (commands : List Command) (j : ℕ)
+    (program : Source) (account : Account) (script : List ℕ) (commands : List Command) (j : ℕ)
     → script_of script ≡ Ok commands
-    → said_of program trail (pieces 10 (without_returns script)) j ≡ told program trail commands j
+    → said_of program account (pieces 10 (without_returns script)) j ≡ told program account.trail commands j

@@ -2,7 +2,7 @@
 use Rattle.std.specs.Prelude.{◌≡◌, ◌⊎◌, ◌≤◌, ℕ, zero, suc, ◌-◌, ◌^◌, Bool, true, false, List, Some}
 use Rattle.std.specs.Prelude.{Result, Ok, Err, ⊤}
 use Rattle.source_debugger.specs.meaning_points.rpp_tree.Tree.{Source}
-use Rattle.source_debugger.specs.meaning_points.Trail.{Trail}
+use Rattle.source_debugger.specs.Failures.{Account}
 use Rattle.live_port.specs.rpp_ports.declared.sink.SinkFault.{SinkFault}
 use Rattle.live_port.specs.Heard.{Heard, Line, Long, Lost, Over, Failed}
 use Rattle.live_requests.specs.Requests.{request_of, is_quit}
@@ -18,14 +18,14 @@ IsAlone it from reply to = (reply ≡ end_line it) × (to ≡ from)
 
 -- The reply to what is heard at a position, and where it leads. Where there is no memory for the
 -- reply to a line, it says so and leads nowhere.
-abbrev pub IsReply : Source → Trail → Heard → (from : ℕ) → (reply : List ℕ) → (to : ℕ) → Type 0
-IsReply program trail (Line bytes) from reply to =
-    (replied_to program trail (request_of bytes) bytes from
+abbrev pub IsReply : Source → Account → Heard → (from : ℕ) → (reply : List ℕ) → (to : ℕ) → Type 0
+IsReply program account (Line bytes) from reply to =
+    (replied_to program account (request_of bytes) bytes from
     ≡ Some (record { position = to; text = reply })) ⊎ IsAlone end.Memory from reply to
-IsReply program trail Long from reply to = IsAlone end.Long from reply to
-IsReply program trail Lost from reply to = IsAlone end.Memory from reply to
-IsReply program trail Over from reply to = ⊥
-IsReply program trail Failed from reply to = ⊥
+IsReply program account Long from reply to = IsAlone end.Long from reply to
+IsReply program account Lost from reply to = IsAlone end.Memory from reply to
+IsReply program account Over from reply to = ⊥
+IsReply program account Failed from reply to = ⊥
 
 -- whether the end of the session is heard
 abbrev pub quits : Heard → Bool
@@ -33,27 +33,27 @@ quits (Line bytes) = is_quit (request_of bytes)
 quits _ = false
 
 -- a line was heard, and then the reply to it was put, once, with this answer
-pub record Replies (program : Source) (trail : Trail) (quit : Bool)
+pub record Replies (program : Source) (account : Account) (quit : Bool)
     (answer : Result (Unit {0}) SinkFault) (from to : ℕ) (before after : Talk) : Type 0 where
   pub it : Heard
   pub between : Talk
   pub reply : List ℕ
   pub hears : Hears it before between
   pub quit_is : quits it ≡ quit
-  pub is_reply : IsReply program trail it from reply to
+  pub is_reply : IsReply program account it from reply to
   pub says : Says reply answer between after
 
 -- so many lines and their replies, one after the other
-abbrev pub Exchanges : Source → Trail → ℕ → (from to : ℕ) → (before after : Talk) → Type 0
-Exchanges program trail zero from to before after = (to ≡ from) × (after ≡ before)
-Exchanges program trail (suc n) from to before after =
-    (place : ℕ) × (talk : Talk) × Exchanges program trail n from place before talk
-    × Replies program trail false (Ok tt) place to talk after
+abbrev pub Exchanges : Source → Account → ℕ → (from to : ℕ) → (before after : Talk) → Type 0
+Exchanges program account zero from to before after = (to ≡ from) × (after ≡ before)
+Exchanges program account (suc n) from to before after =
+    (place : ℕ) × (talk : Talk) × Exchanges program account n from place before talk
+    × Replies program account false (Ok tt) place to talk after
 
 -- input ended, or `quit` was heard and answered
-abbrev pub EndsWell : Source → Trail → (from : ℕ) → (before after : Talk) → (status : ℕ) → Type 0
-EndsWell program trail from before after status =
-    (Hears Over before after ⊎ Replies program trail true (Ok tt) from from before after)
+abbrev pub EndsWell : Source → Account → (from : ℕ) → (before after : Talk) → (status : ℕ) → Type 0
+EndsWell program account from before after status =
+    (Hears Over before after ⊎ Replies program account true (Ok tt) from from before after)
     × (status ≡ 0)
 
 -- input failed
@@ -61,12 +61,12 @@ abbrev pub HearsNothing : (before after : Talk) → (status : ℕ) → Type 0
 HearsNothing before after status = Hears Failed before after × (status ≡ 2)
 
 -- a reply was not taken
-pub record SaysNothing (program : Source) (trail : Trail) (from : ℕ) (before after : Talk)
+pub record SaysNothing (program : Source) (account : Account) (from : ℕ) (before after : Talk)
     (status : ℕ) : Type 0 where
   pub quit : Bool
   pub fault : SinkFault
   pub to : ℕ
-  pub replies : Replies program trail quit (Err fault) from to before after
+  pub replies : Replies program account quit (Err fault) from to before after
   pub status_is : status ≡ status_by 0 (Err fault)
 
 abbrev pub IsLine : Heard → Type 0
@@ -81,22 +81,22 @@ pub record FindsNoRoom (before after : Talk) (status : ℕ) : Type 0 where
   pub status_is : status ≡ 7
 
 -- how a session ends, at a position
-abbrev pub Closes : Source → Trail → (from : ℕ) → (before after : Talk) → (status : ℕ) → Type 0
-Closes program trail from before after status =
-    EndsWell program trail from before after status
+abbrev pub Closes : Source → Account → (from : ℕ) → (before after : Talk) → (status : ℕ) → Type 0
+Closes program account from before after status =
+    EndsWell program account from before after status
     ⊎ (HearsNothing before after status
-    ⊎ (SaysNothing program trail from before after status ⊎ FindsNoRoom before after status))
+    ⊎ (SaysNothing program account from before after status ⊎ FindsNoRoom before after status))
 
 -- so many lines end a session
 abbrev pub MOST_LINES : ℕ
 MOST_LINES = 2 ^ 64 - 1
 
 -- a session from a position on: lines and their replies, and how it ended
-pub record IsSession (program : Source) (trail : Trail) (from : ℕ) (before after : Talk)
+pub record IsSession (program : Source) (account : Account) (from : ℕ) (before after : Talk)
     (status : ℕ) : Type 0 where
   pub count : ℕ
   pub to : ℕ
   pub talk : Talk
-  pub exchanges : Exchanges program trail count from to before talk
-  pub closes : Closes program trail to talk after status
+  pub exchanges : Exchanges program account count from to before talk
+  pub closes : Closes program account to talk after status
       ⊎ ((MOST_LINES ≤ count) × (after ≡ talk) × (status ≡ 0))

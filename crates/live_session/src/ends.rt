@@ -20,6 +20,8 @@ pub enum End {
     Over,
     /// The run stops with a fault before all moves are made.
     Fault,
+    /// What is asked for is not there.
+    None,
     /// The line is no request.
     Bad,
     /// The line is too long.
@@ -41,6 +43,7 @@ pub fn end_line(end: End) -> &'static str
         End::Start => ". start\n",
         End::Over => ". end\n",
         End::Fault => ". fault\n",
+        End::None => ". none\n",
         End::Bad => ". bad\n",
         End::Long => ". long\n",
         End::Memory => ". memory\n",

@@ -2,8 +2,8 @@
 ghost use Rattle.std.specs.Prelude.{◌≡◌, ◌++◌, false, ⊤, IfOk, IsErrOf, map, Some, string_bytes};
 ghost use Rattle.pisa_scripts.specs.Lines.{pieces as pieces_of};
 ghost use Rattle.source_debugger.specs.meaning_points.rpp_tree.Views.{source_of};
-ghost use Rattle.source_debugger.specs.Standing.{run_of};
-ghost use Rattle.live_requests.specs.declared.request.Request.TheVariants.{Carry};
+ghost use Rattle.source_debugger.specs.Failures.{account_of};
+ghost use Rattle.live_requests.specs.declared.request.Request.TheVariants.{Carry, Fault};
 ghost use Rattle.live_requests.specs.Requests.{is_quit};
 ghost use Rattle.live_searches.specs.Asks.{ask_of};
 ghost use Rattle.live_session.specs.Ends.{end_line as line_of_end, end_shown as end_of_command, end_moved as end_of_moves};
@@ -97,7 +97,7 @@ fn say_carried<K: Sink>(
     command: Command,
     out: &mut K,
 ) -> Option<u8>
-    ensures { PutsBy (IsReplyTo (source_of debugger.old.program) (run_of debugger.old)
+    ensures { PutsBy (IsReplyTo (source_of debugger.old.program) (account_of debugger.old)
         (Carry command) debugger.old.position) false ⊤ debugger.old debugger.new
         (record { bytes = K.written out.old; puts = K.puts out.old })
         (record { bytes = K.written out.new; puts = K.puts out.new }) result }
@@ -106,6 +106,38 @@ fn say_carried<K: Sink>(
         Ok(text) => say_text(out, text.as_str()),
         Err(Unanswered::Unmoved) => say_end(out, End::Memory),
         Err(Unanswered::Moved) => Some(NO_MEMORY),
+    }
+}
+
+// What fails if one more move is made, and the last line.
+fn tell_failure(alloc: Global, debugger: &mut SourceDebugger<'_>) -> Result<String, NoMemory>
+    ensures told { IfOk result
+        (λ text. Answers debugger.old Fault debugger.new (string_bytes text)) }
+    ensures stays { debugger.new ≡ debugger.old }
+{
+    match debugger.failure(alloc)? {
+        None => {
+            let mut text = String::new(alloc);
+            text.push_str(end_line(End::None))?;
+            Ok(text)
+        }
+        Some(mut text) => {
+            text.push_str(end_line(End::Done))?;
+            Ok(text)
+        }
+    }
+}
+
+// Puts the reply on what fails.
+fn say_failure<K: Sink>(alloc: Global, debugger: &mut SourceDebugger<'_>, out: &mut K) -> Option<u8>
+    ensures { PutsBy (IsReplyTo (source_of debugger.old.program) (account_of debugger.old) Fault
+        debugger.old.position) false ⊤ debugger.old debugger.new
+        (record { bytes = K.written out.old; puts = K.puts out.old })
+        (record { bytes = K.written out.new; puts = K.puts out.new }) result }
+{
+    match tell_failure(alloc, debugger) {
+        Ok(text) => say_text(out, text.as_str()),
+        Err(NoMemory) => say_end(out, End::Memory),
     }
 }
 
@@ -149,7 +181,7 @@ fn say_moves<K: Sink>(
     words: &[&[u8]],
     out: &mut K,
 ) -> Option<u8>
-    ensures { PutsBy (IsMoves (source_of debugger.old.program) (run_of debugger.old) (Some ask)
+    ensures { PutsBy (IsMoves (source_of debugger.old.program) (account_of debugger.old) (Some ask)
         (map (λ word. word.now) words.now) debugger.old.position) false ⊤ debugger.old
         debugger.new (record { bytes = K.written out.old; puts = K.puts out.old })
         (record { bytes = K.written out.new; puts = K.puts out.new }) result }
@@ -168,7 +200,7 @@ fn say_words<K: Sink>(
     words: &[&[u8]],
     out: &mut K,
 ) -> Option<u8>
-    ensures { PutsBy (IsMoves (source_of debugger.old.program) (run_of debugger.old)
+    ensures { PutsBy (IsMoves (source_of debugger.old.program) (account_of debugger.old)
         (ask_of (map (λ word. word.now) words.now)) (map (λ word. word.now) words.now)
         debugger.old.position) false ⊤ debugger.old debugger.new
         (record { bytes = K.written out.old; puts = K.puts out.old })
@@ -187,7 +219,7 @@ fn say_asked<K: Sink>(
     line: &[u8],
     out: &mut K,
 ) -> Option<u8>
-    ensures { PutsBy (IsMoves (source_of debugger.old.program) (run_of debugger.old)
+    ensures { PutsBy (IsMoves (source_of debugger.old.program) (account_of debugger.old)
         (ask_of (pieces_of 32 line.now)) (pieces_of 32 line.now) debugger.old.position) false ⊤
         debugger.old debugger.new (record { bytes = K.written out.old; puts = K.puts out.old })
         (record { bytes = K.written out.new; puts = K.puts out.new }) result }
@@ -207,7 +239,7 @@ pub(crate) fn answer<K: Sink>(
     line: &[u8],
     out: &mut K,
 ) -> Option<u8>
-    ensures { PutsBy (IsReplyBy (source_of debugger.old.program) (run_of debugger.old) request
+    ensures { PutsBy (IsReplyBy (source_of debugger.old.program) (account_of debugger.old) request
         line.now debugger.old.position) (is_quit request) ⊤ debugger.old debugger.new
         (record { bytes = K.written out.old; puts = K.puts out.old })
         (record { bytes = K.written out.new; puts = K.puts out.new }) result }
@@ -215,6 +247,7 @@ pub(crate) fn answer<K: Sink>(
     match request {
         Request::Nothing => say_end(out, End::Done),
         Request::Carry(command) => say_carried(alloc, debugger, command, out),
+        Request::Fault => say_failure(alloc, debugger, out),
         Request::Quit => Some(say_bye(out)),
         Request::Bad => say_asked(alloc, debugger, line, out),
     }

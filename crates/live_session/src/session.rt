@@ -2,7 +2,7 @@
 ghost use Rattle.std.specs.Prelude.{◌≡◌, ◌≤◌, false, length, ⊤};
 ghost use Rattle.pisa_scripts.specs.declared.lines.TheConstants.{MOST_SCRIPT};
 ghost use Rattle.source_debugger.specs.meaning_points.rpp_tree.Views.{source_of};
-ghost use Rattle.source_debugger.specs.Standing.{run_of};
+ghost use Rattle.source_debugger.specs.Failures.{account_of};
 ghost use Rattle.live_port.specs.Heard.{Heard};
 ghost use Rattle.live_session.specs.Sessions.{IsReply, quits, IsSession};
 ghost use Rattle.live_session.specs.Serving.{PutsBy, Goes};
@@ -24,7 +24,7 @@ fn answer_line<K: Sink>(
     out: &mut K,
 ) -> Option<u8>
     requires { length line.now ≤ MOST_SCRIPT }
-    ensures { PutsBy (IsReply (source_of debugger.old.program) (run_of debugger.old)
+    ensures { PutsBy (IsReply (source_of debugger.old.program) (account_of debugger.old)
         (Heard.Line line.now) debugger.old.position) (quits (Heard.Line line.now)) ⊤ debugger.old
         debugger.new (record { bytes = K.written out.old; puts = K.puts out.old })
         (record { bytes = K.written out.new; puts = K.puts out.new }) result }
@@ -71,7 +71,7 @@ pub fn serve<A: Asker, K: Sink>(
     asker: &mut A,
     out: &mut K,
 ) -> u8
-    ensures { IsSession (source_of debugger.old.program) (run_of debugger.old)
+    ensures { IsSession (source_of debugger.old.program) (account_of debugger.old)
         debugger.old.position
         (record {
           lines = A.lines asker.old;

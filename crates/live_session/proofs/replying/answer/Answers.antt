@@ -1,4 +1,4 @@
-use Rattle.live_session.proofs.Answering.{nothing_said, asked_said, carry_said, quit_said}
+use Rattle.live_session.proofs.Answering.{nothing_said, asked_said, carry_said, fault_said, quit_said}
 use Rattle.live_session.proofs.replying.answer.Goals as goal
 
 pub returns-in-Nothing : goal.returns-in-Nothing
@@ -31,3 +31,10 @@ returns-in-Bad g c =
     (record { bytes = g.K.Sink.written c.args.out.now; puts = g.K.Sink.puts c.args.out.now })
     (record { bytes = g.K.Sink.written c.say_asked.new.out; puts = g.K.Sink.puts c.say_asked.new.out })
     c.say_asked.result c.in-Bad.is c.say_asked.ensures
+
+pub returns-in-Fault : goal.returns-in-Fault
+returns-in-Fault g c =
+    fault_said c.args.debugger.now c.say_failure.new.debugger c.args.request c.args.line.now
+    (record { bytes = g.K.Sink.written c.args.out.now; puts = g.K.Sink.puts c.args.out.now })
+    (record { bytes = g.K.Sink.written c.say_failure.new.out; puts = g.K.Sink.puts c.say_failure.new.out })
+    c.say_failure.result c.in-Fault.is c.say_failure.ensures
