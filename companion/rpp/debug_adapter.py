@@ -217,7 +217,7 @@ class Adapter:
         try:
             was_at_end = self.session.point.at_end
             stop = action()
-            failed = failing(self.session) if stop.reason == 'fault' else None
+            failed = failing(self.session, with_objects=True) if stop.reason == 'fault' else None
             shown = self.session.moment.variables if stop.reason == 'end' and not was_at_end else ()
         except (Refused, Killed) as error:
             self.event('output', category='stderr', output=f'{told_of(error)}\n')
@@ -402,8 +402,8 @@ class Adapter:
         found = self.standing().point.fault
         if found is None:
             raise Declined('no fault stopped the run')
-        failed = failing(self.session)
-        message = of_fault(found.number, fault_where(self.session, Stop(self.session.point, 'fault'), failed))
+        failed = failing(self.session, with_objects=True)
+        message = of_fault(found.number, fault_where(self.session, failed))
         said = [failed.test.title] if failed.test else []
         said += [spoken(message)] if message.rule else []
         told = {'exceptionId': found.title, 'breakMode': 'always'}

@@ -1,8 +1,10 @@
 """The test that fails at the end of a statement (of `fi`, a loop, a `local` or a call), with the variables at that moment.
 
-`trace` ends at the last statement that began, which then is inside the one that fails. So this module writes a `skip` at both ends
-of each block of the failing statement, and asks `trace` about that text: its last statement is the `skip` next to the test. For a
-call whose argument or receiver was changed during it, the block is the body of the method.
+A session says which test it is, what it found, and the variables; `test_of` reads this. Where there is none, `failed_test` finds it.
+`trace` ends at the last statement that began, which then is inside the one that fails. So a `skip` is written at both ends of each
+block of the failing statement, and `trace` is asked about that text: its last statement is the `skip` next to the test. For a call
+whose argument or receiver was changed during it, the block is the body of the method. So the objects at that moment are found too,
+which a session does not say.
 
     # (a SourceRun, the byte of the statement, the fault, whether its body runs backward, and the active calls)
     found = failed_test(run, place, 3, False, session.stack())
@@ -19,11 +21,14 @@ from .program import OutOfTime
 from .session import Frame
 from .slots import Slots, spelled
 from .source import Source, Statement, parsed
-from .trace import Moment, Point, Refused, SourceRun
+from .trace import Failure, Moment, Point, Refused, SourceRun, Thing
 
 PROBE = b' skip '
 TOUCHED = 15
 FULL = {'if': 3, 'from': 3, 'local': 1}
+# The words of tests: the form of the statement, and whether the test is at its head.
+WORDS = {'if': ('if', True), 'fi': ('if', False), 'from': ('from', True), 'until': ('from', False), 'local': ('local', True),
+         'delocal': ('local', False)}
 Tokens = Tuple[int, int]
 
 
@@ -46,9 +51,10 @@ def failed_test(run: SourceRun, place: int, fault: int, is_back: bool, frames: S
     """The test with which the statement at this place fails, if `trace` comes to it; `frames` are the calls that are open at the last
     statement that began."""
     source = parsed(run.text.content)
-    here = next((each for each in source.statements() if source.tokens[each.first].at == place), None)
+    here = statement_at(source, place)
     if here is not None and here.form in ('call', 'uncall') and fault == TOUCHED:
-        return touched(run, source, here, is_back, frames)
+        moment = at_end_of_body(run, source, here, is_back)
+        return touched(source, here, is_back, frames, moment) if moment else None
     if here is None or here.form not in FULL or len(here.closers) != FULL[here.form]:
         return None
     edges = edges_of(source, here)
@@ -57,20 +63,84 @@ def failed_test(run: SourceRun, place: int, fault: int, is_back: bool, frames: S
     return told(source, here, edge, is_back, moment) if edge is not None and edge.is_end != is_back else None
 
 
-def touched(run: SourceRun, source: Source, here: Statement, is_back: bool, frames: Sequence[Frame]) -> Optional[FailedTest]:
-    """The first argument or receiver of a call that is a field and no longer 0 or nil as the body of the method has ended; the
-    variables are the fields of the caller."""
+def statement_at(source: Source, place: int) -> Optional[Statement]:
+    return next((each for each in source.statements() if source.tokens[each.first].at == place), None)
+
+
+def test_of(run: SourceRun, told: Failure, last: Moment, is_back: bool, frames: Sequence[Frame],
+            with_objects: bool) -> Optional[FailedTest]:
+    """The test that a session says; None if a statement fails as it begins, a loop too. `last` and `frames` are of the last statement that began.
+    The objects of the moment are those of the test if that is asked for, or if the values of the test are not said."""
+    source = parsed(run.text.content)
+    here = statement_at(source, told.statement)
+    is_begin = here is not None and here.form == 'from' and (told.statement, told.depth) == (last.point.place, last.point.depth)
+    if here is None or told.word == 'statement' or is_begin:
+        return None
+    objects = objects_then(source, told, last, frames)
+    if objects is None and (with_objects or told.found is None):
+        probe = failed_test(run, told.statement, told.fault.number, is_back, frames)
+        if told.word == 'call' and told.found is None:
+            return probe
+        objects = probe.moment.objects if probe and probe.moment.variables == told.variables else None
+    moment = Moment(Point(last.point.position, told.statement, told.depth), told.variables, objects or {})
+    if told.word == 'call':
+        return element_told(source, here, told, is_back, moment) if told.found else touched(source, here, is_back, frames, moment)
+    form, at_head = WORDS.get(told.word, ('', False))
+    if here.form != form or len(here.closers) != FULL[form]:
+        return None
+    tokens = test_tokens(source, here, at_head)
+    title = titled(source, here, block_told(source, here, told, frames), is_back, spelled(source, *tokens), (told.found, told.wanted))
+    return FailedTest(source.tokens[tokens[0]].at, title, moment, source.tokens[tokens[1]].end)
+
+
+def objects_then(source: Source, told: Failure, last: Moment, frames: Sequence[Frame]) -> Optional[Dict[int, Thing]]:
+    """The objects at the moment of the test if the last statement cannot have changed any but the current one, whose fields are said; else
+    None."""
+    here, number = statement_at(source, last.point.place), frames[0].number if frames else None
+    mine = last.objects.get(number) if number else None
+    if mine is None or last.point.depth != told.depth or here is None or here.form not in ('skip', 'update', 'swap'):
+        return None
+    if any(each.text == '[' for each in source.tokens[here.first:here.last + 1]):
+        return None
+    return {**last.objects, number: mine._replace(cells=told.variables[:len(mine.cells)])}
+
+
+def block_told(source: Source, here: Statement, told: Failure, frames: Sequence[Frame]) -> int:
+    """Which block of a statement has ended: the one that has the last statement."""
+    inner = next((each.place for each in frames if each.depth == told.depth), told.statement)
+    return sum(source.tokens[each].at < inner for each in here.closers[1:len(here.blocks)])
+
+
+def element_told(source: Source, here: Statement, told: Failure, is_back: bool, moment: Moment) -> Optional[FailedTest]:
+    """That an element was filled during a call on it."""
     slots = Slots.over(source, Names(source))
-    place, name = source.tokens[here.first].at, slots.method_named(here)
+    token, last = here.first + 1, slots.method_named(here)
+    if last is None:
+        return None
+    title = call_title(spelled(source, token, last - 2), told.found, told.wanted, is_back)
+    return FailedTest(source.tokens[token].at, title, moment, source.tokens[last - 2].end)
+
+
+def at_end_of_body(run: SourceRun, source: Source, here: Statement, is_back: bool) -> Optional[Moment]:
+    """The moment at which the body of a called method ends, and the call then fails."""
+    slots = Slots.over(source, Names(source))
+    name = slots.method_named(here)
     if name is None:
         return None
     is_undone = is_back != (here.form == 'uncall')
     bodies = [each.body for each in source.methods() if each.name == slots.word_at(name) and each.body]
     ends = [source.tokens[body[0].first].at if is_undone else source.tokens[body[-1].last].end for body in bodies]
-    moment, _ = probed(run, sorted(ends), TOUCHED)
-    caller = next((each for each in frames if moment and each.depth == moment.point.depth - 1), None)
-    owner = moment.objects.get(caller.number) if caller else None
-    if owner is None:
+    return probed(run, sorted(ends), TOUCHED)[0]
+
+
+def touched(source: Source, here: Statement, is_back: bool, frames: Sequence[Frame], moment: Moment) -> Optional[FailedTest]:
+    """The first argument or receiver of a call that is a field and no longer 0 or nil at this moment, as the body of the method has ended;
+    the variables are the fields of the caller."""
+    slots = Slots.over(source, Names(source))
+    place, name = source.tokens[here.first].at, slots.method_named(here)
+    caller = next((each for each in frames if each.depth == moment.point.depth - 1), None)
+    owner = moment.objects.get(caller.number) if caller and caller.number else None
+    if owner is None or name is None:
         return None
     cells, arguments = dict(owner.cells), slots.arguments(here)
     changed = [each for each in slots.variables(here) if (each in arguments or each < name) and
@@ -78,13 +148,13 @@ def touched(run: SourceRun, source: Source, here: Statement, is_back: bool, fram
     if not changed:
         return None
     then = moment._replace(point=Point(moment.point.position, place, caller.depth), variables=owner.cells)
-    return FailedTest(source.tokens[changed[0]].at, touched_title(slots, changed[0], is_back, cells), then, source.tokens[changed[0]].end)
+    value = cells[slots.word_at(changed[0])]
+    title = call_title(slots.word_at(changed[0]), value, 'nil' if value.startswith('#') else '0', is_back)
+    return FailedTest(source.tokens[changed[0]].at, title, then, source.tokens[changed[0]].end)
 
 
-def touched_title(slots: Slots, token: int, is_back: bool, cells: Dict[str, str]) -> str:
-    name = slots.word_at(token)
-    after = 'after the call was undone' if is_back else 'after the call'
-    return f'`{name}` is {cells[name]} {after}, and must be {"nil" if cells[name].startswith("#") else 0}'
+def call_title(place: str, value: str, wanted: str, is_back: bool) -> str:
+    return f'`{place}` is {value} {"after the call was undone" if is_back else "after the call"}, and must be {wanted}'
 
 
 def edges_of(source: Source, here: Statement) -> List[Edge]:
@@ -117,24 +187,29 @@ def probed(run: SourceRun, places: List[int], fault: int) -> Tuple[Optional[Mome
 
 
 def told(source: Source, here: Statement, edge: Edge, is_back: bool, moment: Moment) -> Optional[FailedTest]:
-    """The test at this end of the block, and what was found."""
-    tokens = test_tokens(source, here, is_back)
-    at, end = source.tokens[tokens[0]].at, source.tokens[tokens[1]].end
-    after = f'after {block_name(source, here, edge.block)}{" was undone" if is_back else ""}'
+    """The test at this end of the block, and what was found. That is the assertion of `fi` or of `from`, or the final value of a local;
+    on the way back it is the test at the other end."""
+    tokens = test_tokens(source, here, is_back == (here.form != 'from'))
     test = spelled(source, *tokens)
     value = evaluated(test, moment)
-    if value is None:
-        return FailedTest(at, after, moment, end)
+    found = moment.value(here.variable.name) if here.form == 'local' else str(value)
+    title = titled(source, here, edge.block, is_back, test, (found, str(value)) if value is not None else (None, None))
+    return FailedTest(source.tokens[tokens[0]].at, title, moment, source.tokens[tokens[1]].end)
+
+
+def titled(source: Source, here: Statement, block: int, is_back: bool, test: str, values: Tuple[Optional[str], Optional[str]]) -> str:
+    """What was found after a block, and for a local what must be, where that is known."""
+    found, wanted = values
+    after = f'after {block_name(source, here, block)}{" was undone" if is_back else ""}'
+    if found is None:
+        return after
     if here.form == 'local':
-        name = here.variable.name
-        return FailedTest(at, f'`{name}` is {moment.value(name)} {after}, and must be {value}', moment, end)
-    return FailedTest(at, f'`{test}` is {"false" if value == 0 else "true"} {after}', moment, end)
+        return f'`{here.variable.name}` is {found} {after}, and must be {wanted}'
+    return f'`{test}` is {"false" if found == "0" else "true"} {after}'
 
 
-def test_tokens(source: Source, here: Statement, is_back: bool) -> Tokens:
-    """The first and the last token of the test at the end of a statement. That is the assertion of `fi` or of `from`, or the final
-    value of a local; on the way back it is the test at the other end."""
-    at_head = is_back == (here.form != 'from')
+def test_tokens(source: Source, here: Statement, at_head: bool) -> Tokens:
+    """The first and the last token of a test at the head of a statement, or at its end."""
     if here.form == 'local':
         if at_head:
             return here.variable.name_at + 2, here.blocks[0][0].first - 1

@@ -1,23 +1,27 @@
-"""Where the run of a source stopped with a fault: the statement in whose code the machine stopped, as `run` prints it (`from
-A`), and the last statement that began, as `trace` prints it. They differ if a test at the end of a statement fails."""
+"""Where the run of a source stopped with a fault: the statement that fails, and the last one that began, as `trace` prints it. They
+differ if a test at the end of a statement fails.
+
+A session says which statement fails, and which test of it. Where there is none, it is the statement in whose code the machine stopped,
+as `run` prints it (`from A`), and the test is looked for."""
 from typing import List, NamedTuple, Optional, Tuple
 
-from .failing import FailedTest, failed_test
+from .failing import FailedTest, failed_test, test_of
 from .messages import read_answer
 from .options import STEPS
 from .places import Text
 from .program import OutOfTime, Program
 from .session import Frame, Session
 from .state import field_cells, loaded_state, read_input, with_numbers
-from .trace import Moment, Point, Refused
+from .trace import Failure, Moment, Point, Refused
 
 PATIENCE = 60.0
 
 
 class Failing(NamedTuple):
-    """The place of the statement that fails, and the test that fails at its end, if it is one."""
+    """The place of the statement that fails, the test that fails at its end, if it is one, and whether its body runs backward."""
     place: Optional[int]
     test: Optional[FailedTest]
+    is_back: bool
 
 
 class FaultPlaces(NamedTuple):
@@ -34,40 +38,53 @@ class FaultPlaces(NamedTuple):
 
 
 def find_fault(program: Program, wanted, text: Text) -> FaultPlaces:
-    """Asks both commands; `wanted` has source, heap, depth, steps and inputs."""
-    stopped = machine_place(program, wanted.source, (wanted.heap, wanted.depth), wanted.steps, wanted.inputs)
+    """Runs the source again; `wanted` has source, heap, depth, steps and inputs."""
     try:
-        with Session.begun(program, wanted.source, wanted.heap, wanted.depth, wanted.inputs) as session:
+        with Session.begun(program, wanted.source, wanted.heap, wanted.depth, wanted.inputs, is_held=True) as session:
             session.run.patience = PATIENCE
             stop = session.run_on()
             if stop.reason == 'fault':
-                place = stop.point.place if stopped is None else stopped
-                frames = session.stack()
-                test = of_place(session, stopped).test
-                return FaultPlaces(place, stop.point, session.moment, frames, '', runs_back(session, frames, place), test)
+                place, test, is_back = failing(session, wanted.steps)
+                return FaultPlaces(place, stop.point, session.moment, session.stack(), '', is_back, test)
             why = why_not(stop.reason)
     except OutOfTime:
         why = f'`trace` did not reach it within {PATIENCE:.0f} seconds.'
     except Refused as refused:
         why = why_not(refused.told.kind)
+    stopped = machine_place(program, wanted.source, (wanted.heap, wanted.depth), wanted.steps, wanted.inputs)
     return FaultPlaces(stopped, None, None, [], why)
 
 
-def failing(session: Session) -> Failing:
-    """The statement in whose code the machine stops with the fault of a session; it is asked for once."""
+def failing(session: Session, steps: int = STEPS, with_objects: bool = False) -> Failing:
+    """What fails where a session is at its fault; it is asked for once. `with_objects` asks for the objects at the moment of a test."""
     if session.failing is None:
         run = session.run
-        session.failing = of_place(session, machine_place(run.program, run.copy, run.bounds, STEPS, *(run.inputs or [None])))
+        told = run.failure()
+        if told is not None:
+            session.failing = as_told(session, told, with_objects)
+        else:
+            session.failing = of_place(session, machine_place(run.program, run.copy, run.bounds, steps, *(run.inputs or [None])))
     return session.failing
 
 
-def of_place(session: Session, place: Optional[int]) -> Failing:
-    """The statement at this place, in a session that is at its fault."""
-    point = session.point
-    if place is None or place == point.place or point.fault is None:
-        return Failing(place, None)
+def as_told(session: Session, told: Failure, with_objects: bool) -> Failing:
+    """The statement and the test that the session says."""
     frames = session.stack()
-    return Failing(place, failed_test(session.run, place, point.fault.number, runs_back(session, frames, place), frames))
+    # (as a call ends, the body of the method is still open)
+    depth = told.depth - (told.word == 'call' and told.found is None)
+    around = [each.uncalled for each in frames if each.depth == depth]
+    is_back = around[0] if around else runs_back(session, frames, told.statement)
+    return Failing(told.statement, test_of(session.run, told, session.moment, is_back, frames, with_objects), is_back)
+
+
+def of_place(session: Session, stopped: Optional[int]) -> Failing:
+    """The statement in whose code the machine stopped, or the last one that began if that is not known."""
+    point, frames = session.point, session.stack()
+    place = point.place if stopped is None else stopped
+    is_back = runs_back(session, frames, place)
+    if place == point.place or point.fault is None:
+        return Failing(place, None, is_back)
+    return Failing(place, failed_test(session.run, place, point.fault.number, is_back, frames), is_back)
 
 
 def runs_back(session: Session, frames: List[Frame], place: int) -> bool:

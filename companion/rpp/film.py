@@ -126,7 +126,7 @@ def test_at_end(run: SourceRun) -> Optional[FailedTest]:
     """The test at the end of a statement that fails where the run ends."""
     session = Session(run, Outline.made(run.program, run.text))
     session.position = run.last.position
-    return failing(session).test
+    return failing(session, with_objects=True).test
 
 
 def as_text(source: bytes) -> str:

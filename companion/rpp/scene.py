@@ -56,7 +56,7 @@ class Scene:
         self.statements = statements
         self.counting = counting
         self.groups: List[Group] = []
-        self.failed = failed or Failing(None, None)
+        self.failed = failed or Failing(None, None, False)
         # (at the end of the run no call is open)
         self.frames = open_at_fault(session, failed) or [Frame(0, 'the end of the run', -1, session.position, False, 1)]
 
@@ -164,7 +164,7 @@ def open_at_fault(session: Session, failed: Optional[Failing]) -> List[Frame]:
     """The active calls, the innermost first. If another statement than the last one fails, they are those around it, the innermost
     at its test."""
     frames = session.stack()
-    if failed is None or failed.place in (None, session.point.place) or not frames:
+    if failed is None or failed.test is None and failed.place == session.point.place or not frames:
         return frames
     test, method = failed.test, session.outline.method_at(failed.place)
     while len(frames) > 1 and not (frames[0].depth == test.moment.point.depth if test else method and frames[0].method == method.label):

@@ -4,7 +4,7 @@ from typing import List, Optional
 from .changes import PATH, changes, computed, thing_of, value_of
 from .explain import of_fault
 from .fault_slots import Where
-from .faults import Failing, runs_back
+from .faults import Failing
 from .formulas import BadFormula, Formula
 from .reading import title
 from .report import caret_lines, message_lines, test_lines
@@ -48,14 +48,13 @@ def framed(frame: Frame) -> str:
 
 
 def stop_lines(session: Session, stop: Stop, before: Optional[Moment], failing: Optional[Failing] = None) -> List[str]:
-    """Where the session is, its source line, why it stopped, and what changed on the way. `failing` is the statement in whose
-    code the machine stops with a fault, if that is known."""
+    """Where the session is, its source line, why it stopped, and what changed on the way. `failing` is what fails, at a fault."""
     frames = session.stack()
     frame = frames[0] if frames else None
     lines = [place_line(session, frame)]
     if frame:
         lines += caret_lines(session.run.text, stop.point.place)
-    lines += fault_lines(session, stop, failing) if stop.reason == 'fault' else reason_lines(session, stop)
+    lines += fault_lines(session, stop, failing) if failing is not None else reason_lines(session, stop)
     if before is not None and before.point.position != stop.point.position:
         told = changes(before, session.moment, frame.number if frame else 1)
         lines += [f'  {paint("changed", each)}' for each in told[:MOST_CHANGES]]
@@ -64,25 +63,24 @@ def stop_lines(session: Session, stop: Stop, before: Optional[Moment], failing: 
     return lines
 
 
-def fault_lines(session: Session, stop: Stop, failing: Optional[Failing]) -> List[str]:
+def fault_lines(session: Session, stop: Stop, failing: Failing) -> List[str]:
     """The fault after this statement, and where it came if that is at the end of another one."""
     number, name = stop.point.fault
     lines = [f'{paint("wrong", f"fault {number} {name}")}: the run goes no further']
-    place, test = failing or Failing(None, None)
+    place, test, _ = failing
     file, text = title(session.run.source), session.run.text
-    if place is not None and place != stop.point.place:
+    if place != stop.point.place:
         lines[0] += ', and stops within this statement:'
         lines += [paint('where', text.spelled(file, place))] + caret_lines(text, place)
     lines += test_lines(file, text, test) if test is not None else []
-    message = of_fault(number, fault_where(session, stop, failing))
+    message = of_fault(number, fault_where(session, failing))
     return lines + message_lines(message)
 
 
-def fault_where(session: Session, stop: Stop, failing: Optional[Failing]) -> Where:
+def fault_where(session: Session, failing: Failing) -> Where:
     """The statement that fails, with what was there before it, and the direction in which its body runs."""
-    run, (place, test) = session.run, failing or Failing(None, None)
-    place = stop.point.place if place is None else place
-    return Where(run.text.content, place, session.moment, runs_back(session, session.stack(), place), *run.bounds, test and test.moment)
+    run, (place, test, is_back) = session.run, failing
+    return Where(run.text.content, place, session.moment, is_back, *run.bounds, test and test.moment)
 
 
 def reason_lines(session: Session, stop: Stop) -> List[str]:

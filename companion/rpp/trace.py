@@ -33,6 +33,8 @@ REACHES = (100, 3000)
 AROUND = 10
 AROUND_SECONDS = 0.2
 AT_SOURCE = re.compile(r'^at (\d+) (?:place (\d+) depth (\d+)|end)(?: (?:start|fault (-?\d+)(?: (\w+))?))?$')
+FAULT = re.compile(r'^fault (-?\d+)(?: (\w+))?$')
+TEST = re.compile(r'^test (\w+) at (\d+) of (\d+)$')
 AT_IMAGE = re.compile(r'^at (\d+) pc (-?\d+) br (-?\d+) dir (-?1)(?: (start|end .*))?$')
 VARIABLE = re.compile(rf'^({NAME}) = (.+)$')
 OBJECT = re.compile(r'^#(\d+) (\S+) count (\d+)$')
@@ -92,6 +94,19 @@ class Moment(NamedTuple):
         """The value of the innermost variable of this name."""
         found = [value for each, value in self.variables if each == name]
         return found[-1] if found else None
+
+
+class Failure(NamedTuple):
+    """What a session says of the step that stops with a fault: the word of the test that fails, its place and that of its statement,
+    the value that it has and the one that it must have, where it has them, how many calls are open, and the variables then."""
+    fault: Fault
+    word: str
+    at: int
+    statement: int
+    found: Optional[str]
+    wanted: Optional[str]
+    depth: int
+    variables: Tuple[Tuple[str, str], ...]
 
 
 class SourceRun(Closing):
@@ -179,6 +194,13 @@ class SourceRun(Closing):
         """Where a session comes to a point with at most so many open calls, or to the end or the start of the run; None if it cannot be
         asked."""
         return self._special(position, f'{"back " if back else ""}depth {depth} {FAR}')
+
+    def failure(self) -> Optional[Failure]:
+        """What a session says of the fault at the end of the run; None if it cannot be asked."""
+        def question(live: Live) -> Optional[Failure]:
+            reply = live.served('fault', self.patience)
+            return read_failure(reply.lines) if reply is not None and reply.end == 'done' else None
+        return self._asked_at(self.end().position, question)
 
     def looked(self, lines: List[str]) -> Moment:
         """The point after the last move of these lines, with what they showed there."""
@@ -331,7 +353,10 @@ class SourceRun(Closing):
                 return None
             self._stands = self._noted(['step'] * len(reply.lines), reply.lines, False)[-1].point.position
             return self._points[self._stands]
+        return self._asked_at(position, question)
 
+    def _asked_at(self, position: int, question: Callable[[Live], Optional[Answered]]) -> Optional[Answered]:
+        """What a session answers at this position; None if no session is held."""
         if self._is_held:
             self._walk([f'step {position}'])
         try:
@@ -431,6 +456,18 @@ def read_moments(lines: List[str]) -> List[Moment]:
                 read[-1][1].append((variable[1], variable[2]))
     return [Moment(point, tuple(variables), {number: Thing(number, head, count, tuple(cells)) for number, head, count, cells in things})
             for point, variables, things in read]
+
+
+def read_failure(lines: List[str]) -> Optional[Failure]:
+    """The reply to `fault`; None if it has another form."""
+    end = next((number for number, line in enumerate(lines) if line.startswith('depth ')), 0)
+    fault, test = (FAULT.match(lines[0]), TEST.match(lines[1])) if end > 1 else (None, None)
+    if not fault or not test:
+        return None
+    values = dict(line.split(' ', 1) for line in lines[2:end])
+    variables = [VARIABLE.match(line) for line in lines[end + 1:]]
+    return Failure(Fault(int(fault[1]), fault[2] or ''), test[1], int(test[2]), int(test[3]), values.get('found'), values.get('wanted'),
+                   int(lines[end].split()[1]), tuple((each[1], each[2]) for each in variables if each))
 
 
 def source_point(at) -> Point:

@@ -6,7 +6,7 @@ from rpp.places import Text
 
 from .base import EXAMPLES, LIST, Case
 from .protocol_client import DebugClient
-from .test_failing import TOUCHED
+from .test_failing import IN_ARRAY, TOUCHED
 
 # Worked out by hand: its run has 11 points, at the lines of LINES, and then its end.
 RUN = """class Main
@@ -292,6 +292,17 @@ class Session(Case):
         self.assertEqual(client.scope('Fields'), {'x': '1'})
         self.assertEqual(self.moved('stepBack'), ('step', 4))
         self.assertEqual(client.scope('Fields'), {'x': '0'})
+
+    def test_objects_at_a_fault(self):
+        client = self.client
+        client.begin(self.written(IN_ARRAY.format('x += 2 a[1] += 3')))
+        stop = client.moved('continue')
+        self.assertEqual(stop['description'], 'fault 1 Fi: `x = 1` is false after the `then` block')
+        # (the last statement that began changed the element)
+        self.assertEqual(client.scope('Fields'), {'x': '2', 'a': '#2 int[2] count 1'})
+        self.assertEqual(client.ask('evaluate', expression='a[1]', frameId=1)['result'], '8')
+        self.assertEqual(self.moved('stepBack'), ('step', 7))
+        self.assertEqual(client.ask('evaluate', expression='a[1]', frameId=1)['result'], '5')
 
     def test_pause(self):
         client = self.client

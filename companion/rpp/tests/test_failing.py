@@ -1,5 +1,13 @@
-"""The test that fails at the end of a statement, as a person sees it: where it is, what was found, and the variables then."""
-from .base import Case
+"""The test that fails at the end of a statement, as a person sees it: where it is, what was found, and the variables then. Without a
+session it is looked for; with one that knows `fault`, that says it."""
+import unittest
+
+from rpp.faults import failing
+from rpp.live import Live
+from rpp.program import Program
+from rpp.session import Session
+
+from .base import SUMS, Case
 
 HEAD = 'class P\n  int x\n  int y\nmethod main()\n'
 
@@ -47,20 +55,71 @@ method add(int n)
 '''
 
 
+# The inner call of `work` runs backward and is right, and the last statement began in it. The outer one fails.
+BOTH_WAYS = HEAD + '''  local int n = 1
+    call work(n)
+  delocal int n = 1
+method work(int n)
+  if n = 1 then
+    local int m = 0
+      uncall work(m)
+    delocal int m = 0
+  else
+    x += 1
+  fi n + x = 1
+'''
+
+# The element that is called is filled again before its object comes back.
+FILLED = '''class P
+  C[] a
+  C[] b
+method main()
+  new C[2] a
+  new C a[1]
+  copy C[] a b
+  {} a[1]::fill(b)
+class C
+method fill(C[] row)
+  {} C row[1]
+'''
+
+# A step before the test, an element is changed.
+IN_ARRAY = '''class P
+  int x
+  int[] a
+method main()
+  new int[2] a
+  a[1] += 5
+  if x = 0 then {} else skip fi x = 1
+'''
+WAYS = ({}, {'ROOPLPP_LIVE': ''})
+
+
+def serves_fault() -> bool:
+    live = Live.begun(Program.found(), SUMS, 12, 64)
+    if live is None:
+        return False
+    with live:
+        return live.served('fault') is not None
+
+
+HAS_FAULT = serves_fault()
+
+
 class FailingTests(Case):
-    def shown(self, text: str):
+    def shown(self, text: str, env=None):
         """What `rpp run` says of the test: its place and title, and the variables."""
         path = self.write('bad.rpp', HEAD + text)
-        lines = self.rpp('run', path).stdout.split('\n')
+        lines = self.rpp('run', path, env=env).stdout.split('\n')
         begin = lines.index('The test that failed, and the variables at that moment:')
         rows = [line[2:].split(' = ') for line in lines[begin + 4:] if line.startswith('  ')]
         self.assertTrue(rows)
         return lines[begin + 1].split('bad.rpp:')[1], dict(rows), lines[begin + 2:begin + 4]
 
     def check(self, cases):
-        for text, title, variables in cases:
-            with self.subTest(text=text):
-                found, values, (line, caret) = self.shown(text)
+        for text, title, variables, env in [(*each, env) for each in cases for env in WAYS]:
+            with self.subTest(text=text, env=env):
+                found, values, (line, caret) = self.shown(text, env)
                 self.assertEqual(found, title)
                 self.assertEqual(values, variables)
                 # the caret is below the first character of the test
@@ -74,9 +133,10 @@ class FailingTests(Case):
         self.check(BACK)
 
     def test_a_field_that_a_call_changed(self):
-        for word, title, value in (('call', '15:18: `x` is 1 after the call, and must be 0', '1'),
-                                   ('uncall', '15:18: `x` is -1 after the call was undone, and must be 0', '-1')):
-            said = self.rpp('run', self.write('bad.rpp', TOUCHED.format(word))).stdout
+        touched = (('call', '15:18: `x` is 1 after the call, and must be 0', '1'),
+                   ('uncall', '15:18: `x` is -1 after the call was undone, and must be 0', '-1'))
+        for word, title, value, env in [(*each, env) for each in touched for env in WAYS]:
+            said = self.rpp('run', self.write('bad.rpp', TOUCHED.format(word)), env=env).stdout
             self.assertIn('bad.rpp:15:3: fault 15 Touched\n', said)
             self.assertIn(f'bad.rpp:{title}\n   15 |   call self::add(x)\n      |                  ^\n  self = nil\n  x = {value}\n', said)
             self.assertIn('called in P.main at bad.rpp:8:3\n', said)
@@ -93,10 +153,11 @@ class FailingTests(Case):
 
     def test_a_statement_that_fails_as_it_begins_has_no_test(self):
         path = self.write('bad.rpp', HEAD + '  x += 1\n  from x = 0 do skip loop skip until x = 1\n')
-        said = self.rpp('run', path).stdout
-        self.assertIn('bad.rpp:6:3: fault 2 Loop', said)
-        self.assertNotIn('The test that failed', said)
-        self.assertIn('The last statement that began, and the variables before it:', said)
+        for env in WAYS:
+            said = self.rpp('run', path, env=env).stdout
+            self.assertIn('bad.rpp:6:3: fault 2 Loop', said)
+            self.assertNotIn('The test that failed', said)
+            self.assertIn('The last statement that began, and the variables before it:', said)
 
     def test_the_prompt_shows_it(self):
         path = self.write('bad.rpp', HEAD + FORWARD[0][0])
@@ -111,3 +172,55 @@ class FailingTests(Case):
         self.assertEqual((found['line'], found['column']), (7, 37))
         self.assertEqual(found['found'], '`y = 0` is false after the `then` block')
         self.assertIn({'name': 'y', 'value': '6'}, found['variables'])
+
+
+@unittest.skipUnless(HAS_FAULT, 'there is no rooplpp-live that knows `fault`')
+class ToldTests(Case):
+    """A session says which test fails."""
+
+    def pair(self, text: str):
+        """What fails at the end of a run, as a session says it, and as it is looked for; and how many more calls the first took."""
+        found, source = [], self.write('bad.rpp', text)
+        for is_held in (True, False):
+            with Session.begun(Program.found(), source, is_held=is_held) as session:
+                session.run_on()
+                before = session.run.program.calls
+                found.append((failing(session, with_objects=True), session.run.program.calls - before))
+        return found
+
+    def test_it_is_what_is_found_without_it(self):
+        texts = [HEAD + each[0] for each in FORWARD + BACK] + [TOUCHED.format(each) for each in ('call', 'uncall')]
+        for text in texts + [IN_ARRAY.format('x += 1 a[1] += 3 x += 1'), IN_ARRAY.format('x += 2 a[1] <=> a[0]')]:
+            with self.subTest(text=text):
+                (told, calls), (looked, more) = self.pair(text)
+                self.assertEqual(told._replace(test=None), looked._replace(test=None))
+                # (only the place of the moment is another: it was a `skip` of another text)
+                moments = [each.test.moment._replace(point=each.test.moment.point.depth) for each in (told, looked)]
+                self.assertEqual(*[each.test._replace(moment=moment) for each, moment in zip((told, looked), moments)])
+                self.assertLess(calls, more)
+
+    def test_nothing_is_compiled_or_traced(self):
+        (_, calls), _ = self.pair(HEAD + FORWARD[0][0])
+        self.assertEqual(calls, 0)
+
+    def test_both_directions_of_a_method(self):
+        said = self.rpp('run', self.write('bad.rpp', BOTH_WAYS)).stdout
+        self.assertIn('The assertion `n + x = 1` must be true after the `then` block and false after the `else` block.\n', said)
+        self.assertIn('bad.rpp:15:6: `n + x = 1` is false after the `then` block\n', said)
+        self.assertIn('\n  x = -1\n  y = 0\n  n = 1\n', said)
+
+    def test_an_element_that_a_call_filled(self):
+        source, title = self.write('bad.rpp', FILLED.format('call', 'new')), '`a[1]` is #4 after the call, and must be nil'
+        said = self.rpp('run', source).stdout
+        self.assertIn('bad.rpp:8:3: fault 3 Delocal\n', said)
+        self.assertIn(f'bad.rpp:8:8: {title}\n    8 |   call a[1]::fill(b)\n      |        ^\n  a = #2\n  b = #2\n', said)
+        self.assertIn(f'bad.rpp:8:8: {title}\n', self.rpp('debug', source, '-c', 'continue').stdout)
+        source = self.write('bad.rpp', FILLED.format('uncall', 'delete'))
+        self.assertIn(f'bad.rpp:8:10: {title}\n', self.rpp('run', source).stdout)
+
+    def test_what_the_tools_show_is_the_same(self):
+        for text in (HEAD + FORWARD[1][0], HEAD + BACK[1][0], TOUCHED.format('call'), IN_ARRAY.format('a[1] += 3 x += 2')):
+            source = self.write('bad.rpp', text)
+            for words in (['run', source], ['run', source, '--json'], ['debug', source, '-c', 'continue', '-c', 'print', '-c', 'where']):
+                done = [self.rpp(*words, env=env) for env in WAYS]
+                self.assertEqual(*[(each.stdout, each.stderr, each.returncode) for each in done])

@@ -6,6 +6,7 @@ import unittest
 from rpp import film
 from rpp.program import TOP, Program
 from rpp.tests.base import Case
+from rpp.tests.test_failing import IN_ARRAY
 from rpp.trace import SourceRun
 
 # `down` undoes `up` by its own uncall; undone itself, it runs `up` forward
@@ -88,6 +89,16 @@ class FilmTest(Folder):
         self.assertEqual(last['note'], 'fault 3 Delocal: `t` is 4 after the block was undone, and must be 2')
         self.assertEqual((text.place(last['place']), last['uncalled'], last['depth']), ((2, 15), True, 2))
         self.assertEqual(dict(last['variables']), {'x': '0', 't': '4'})
+
+    def test_the_objects_of_a_test_that_fails(self):
+        for body, wanted in (('x += 2 a[1] += 3', {'x': '2', '[1]': '8'}), ('a[1] += 3 x += 2', {'x': '2', '[1]': '8'})):
+            data, _ = self.data(IN_ARRAY.format(body).encode())
+            last = data['positions'][-1]
+            self.assertEqual(last['note'], 'fault 1 Fi: `x = 1` is false after the `then` block')
+            objects = [data['objects'][each] for each in last['objects']]
+            self.assertEqual([each['head'] for each in objects], ['P', 'int[2]'])
+            cells = {label: value for each in objects for label, value in each['cells']}
+            self.assertEqual({label: cells[label] for label in wanted}, wanted)
 
     def test_objects_are_written_once(self):
         data, _ = self.data(b'class P Q q int x method main() new Q q x += 1 x += 1 delete Q q class Q int f method m() skip')

@@ -11,7 +11,7 @@ from rpp.formulas import Formula
 from rpp.live import BATCH, Live, Lost, Reply, batches, path_of
 from rpp.program import Interrupted, OutOfTime, Program
 from rpp.session import Session
-from rpp.trace import FAR, SourceRun
+from rpp.trace import FAR, Failure, Fault, SourceRun, read_failure
 
 from .base import EXAMPLES, Case
 
@@ -121,6 +121,19 @@ class Client(unittest.TestCase):
         self.assertEqual(list(live_module.places_by(os.path.join(folder, 'rooplpp'))),
                          [os.path.join(folder, 'rooplpp-live'), os.path.join(os.sep, 'a', 'crates', 'rooplpp_live', 'out', 'rooplpp_live')])
         self.assertEqual(next(live_module.places_by('/a/bin/rooplpp.mjs')), '/a/bin/rooplpp-live.mjs')
+
+
+class ReplyToFault(unittest.TestCase):
+    """What is read of the reply to `fault`."""
+
+    def test_it_is_read(self):
+        lines = ['fault 3 Delocal', 'test delocal at 218 of 144', 'found 7', 'wanted #5', 'depth 2', 'x = 0', 'depth = 9', 'found = nil']
+        variables = (('x', '0'), ('depth', '9'), ('found', 'nil'))
+        self.assertEqual(read_failure(lines), Failure(Fault(3, 'Delocal'), 'delocal', 218, 144, '7', '#5', 2, variables))
+        lines = ['fault 5 Nil', 'test statement at 7 of 7', 'depth 1']
+        self.assertEqual(read_failure(lines), Failure(Fault(5, 'Nil'), 'statement', 7, 7, None, None, 1, ()))
+        for wrong in ([], ['depth 2'], ['fault 3', 'depth 2'], ['fault 3 Delocal', 'test fi', 'depth 2'], lines[:2]):
+            self.assertIsNone(read_failure(wrong), wrong)
 
 
 class Without(Case):
