@@ -189,7 +189,9 @@ def probed(run: SourceRun, places: List[int], fault: int) -> Tuple[Optional[Mome
 def told(source: Source, here: Statement, edge: Edge, is_back: bool, moment: Moment) -> Optional[FailedTest]:
     """The test at this end of the block, and what was found. That is the assertion of `fi` or of `from`, or the final value of a local;
     on the way back it is the test at the other end."""
-    tokens = test_tokens(source, here, is_back == (here.form != 'from'))
+    # (after its first block, a loop tests whether it ends)
+    is_exit = here.form == 'from' and edge.block == 0
+    tokens = test_tokens(source, here, is_back == (here.form != 'from' or is_exit))
     test = spelled(source, *tokens)
     value = evaluated(test, moment)
     found = moment.value(here.variable.name) if here.form == 'local' else str(value)

@@ -141,6 +141,16 @@ class FailingTests(Case):
             self.assertIn(f'bad.rpp:{title}\n   15 |   call self::add(x)\n      |                  ^\n  self = nil\n  x = {value}\n', said)
             self.assertIn('called in P.main at bad.rpp:8:3\n', said)
 
+    def test_a_test_that_has_no_value(self):
+        text = 'class P\n  int x\n  int[] a\nmethod main()\n  new int[2] a\n  {}\n'
+        loops = (('from x = 0 do x += 1 loop skip until a[x] = 1', 40), ('from a[x] = 0 do x += 2 loop skip until x = 9', 8))
+        for loop, column, env in [(*each, env) for each in loops for env in WAYS]:
+            said = self.rpp('run', self.write('bad.rpp', text.format(loop)), env=env).stdout
+            self.assertIn('bad.rpp:6:3: fault 9 Index\n', said)
+            self.assertIn('The index of `a` must be at least 0 and less than 2, and it is 2.\n', said)
+            self.assertIn(f'bad.rpp:6:{column}: after a round\n', said)
+            self.assertIn('\n  x = 2\n  a = #2\n', said)
+
     def test_a_destruct_begins_as_a_statement(self):
         text = '  construct C c\n    call c::set(x)\n  destruct c\nclass C\n  int n\nmethod set(int m)\n  n += 4\n'
         said = self.rpp('run', self.write('bad.rpp', HEAD + text)).stdout
