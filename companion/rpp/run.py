@@ -184,7 +184,7 @@ def state_lines(wanted: Wanted, text: Text, found: FaultPlaces) -> List[str]:
     the active calls."""
     if found.test is not None:
         lines = test_lines(shown(wanted.source), text, found.test)
-        return lines + caller_lines(wanted, text, found.frames[1:])
+        return lines + caller_lines(wanted, text, [each for each in found.frames if each.depth < found.test.moment.point.depth])
     if found.point is None:
         return wrapped(found.why) if found.statement is not None and found.why else []
     lines = ['The last statement that began, and the variables before it:']

@@ -151,6 +151,13 @@ class FailingTests(Case):
             self.assertIn(f'bad.rpp:6:{column}: after a round\n', said)
             self.assertIn('\n  x = 2\n  a = #2\n', said)
 
+    def test_calls_that_have_ended_are_not_shown(self):
+        path = self.write('bad.rpp', HEAD + '  if x = 0 then call more() else skip fi x = 0\nmethod more()\n  x += 1\n')
+        for env in WAYS:
+            said = self.rpp('run', path, env=env).stdout
+            self.assertIn('`x = 0` is false after the `then` block', said)
+            self.assertNotIn('called in', said)
+
     def test_a_destruct_begins_as_a_statement(self):
         text = '  construct C c\n    call c::set(x)\n  destruct c\nclass C\n  int n\nmethod set(int m)\n  n += 4\n'
         said = self.rpp('run', self.write('bad.rpp', HEAD + text)).stdout
@@ -217,7 +224,8 @@ class ToldTests(Case):
         said = self.rpp('run', self.write('bad.rpp', BOTH_WAYS)).stdout
         self.assertIn('The assertion `n + x = 1` must be true after the `then` block and false after the `else` block.\n', said)
         self.assertIn('bad.rpp:15:6: `n + x = 1` is false after the `then` block\n', said)
-        self.assertIn('\n  x = -1\n  y = 0\n  n = 1\n', said)
+        self.assertIn('\n  x = -1\n  y = 0\n  n = 1\ncalled in P.main at bad.rpp:6:5\n', said)
+        self.assertEqual(said.count('called in'), 1)
 
     def test_an_element_that_a_call_filled(self):
         source, title = self.write('bad.rpp', FILLED.format('call', 'new')), '`a[1]` is #4 after the call, and must be nil'
