@@ -97,8 +97,9 @@ class Moment(NamedTuple):
 
 
 class Failure(NamedTuple):
-    """What a session says of the step that stops with a fault: the word of the test that fails, its place and that of its statement,
-    the value that it has and the one that it must have, where it has them, how many calls are open, and the variables then."""
+    """What a session says of the step that stops with a fault. That is the word of the test that fails, its place and that of its
+    statement, and the value that it has with the one that it must have, if it has them. Then come the number of active calls and the
+    variables."""
     fault: Fault
     word: str
     at: int
