@@ -2,6 +2,7 @@
 
 It checks nothing itself. Whether a text is accepted, also after a rename, is what the program says."""
 import gc
+import ntpath
 import os
 import pathlib
 import sys
@@ -426,8 +427,12 @@ def workspace_symbols(text: Glance, places: Text, uri: str, query: str) -> List[
 
 
 def path_of(uri: str) -> str:
-    """The path of the URI of a file."""
-    return unquote(urlsplit(uri).path)
+    """The path of the URI of a file; on Windows `c:\\a.rpp` for `file:///c:/a.rpp`, and a share for one with a host."""
+    found = urlsplit(uri)
+    path = unquote(found.path)
+    if os.name != 'nt':
+        return path
+    return ntpath.normpath(f'//{found.netloc}{path}' if found.netloc else path[1:] if ntpath.splitdrive(path[1:])[0] else path)
 
 
 def uri_of(path: str) -> str:

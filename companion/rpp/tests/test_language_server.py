@@ -1,7 +1,9 @@
 """Whole sessions of the language server, by a scripted client over its standard input."""
 import os
 import unittest
+from unittest import mock
 
+from rpp.language_server import path_of
 from rpp.program import TOP, Program
 from rpp.tokens import cut
 
@@ -227,3 +229,17 @@ class Life(unittest.TestCase):
         client.tell('exit', None)
         self.assertEqual(client.end(), 0)
         self.assertFalse([it for it in client.heard if it.get('method') == 'window/showMessage'])
+
+
+class Paths(unittest.TestCase):
+    """The paths of URIs, as editors write them."""
+
+    def test_here(self):
+        with mock.patch('rpp.language_server.os.name', 'posix'):
+            self.assertEqual(path_of('file:///home/a%20b/list.rpp'), '/home/a b/list.rpp')
+
+    def test_windows(self):
+        with mock.patch('rpp.language_server.os.name', 'nt'):
+            for uri, path in {'file:///c:/texts/list.rpp': r'c:\texts\list.rpp', 'file:///c%3A/a%20b/list.rpp': r'c:\a b\list.rpp',
+                              'file://host/share/list.rpp': r'\\host\share\list.rpp', 'untitled:Untitled-1': 'Untitled-1'}.items():
+                self.assertEqual(path_of(uri), path)
