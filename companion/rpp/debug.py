@@ -227,7 +227,8 @@ def parser() -> Parser:
     made.add_argument('-x', '--script', metavar='FILE', type=readable, help='execute the commands of this file, and end')
     made.add_argument('-c', '--command', metavar='COMMAND', action='append', default=[],
                         help='execute this command; may be repeated')
-    made.add_argument('--source', dest='source_of_image', metavar='F', help='the source that the image was compiled from')
+    made.add_argument('--source', dest='source_of_image', metavar='F', type=readable,
+                      help='the source that the image was compiled from')
     return made
 
 

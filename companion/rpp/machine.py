@@ -8,7 +8,7 @@ from .options import Unfit
 from .places import Text
 from .program import Program
 from .prompt import Prompt, hold, number_of
-from .reading import title
+from .reading import shown, title
 from .report import failure_lines
 from .state import NOTE
 from .tokens import NAME
@@ -231,8 +231,8 @@ def debug_image(program: Program, given, lines: List[str]) -> int:
 def image_refused(image: str, refused: Refused) -> List[str]:
     told = refused.told
     if told.kind != 'refused':
-        return failure_lines(told, image)
+        return failure_lines(told, shown(image))
     rule = refusal(told.number)
     at = f' at byte {told.at}' if told.at is not None else ''
     page = see(rule) if rule else ''
-    return [f'{image}: refused {told.number} {told.name}{at}', *([rule.sentence] if rule else []), *([f'See {page}'] if page else [])]
+    return [f'{shown(image)}: refused {told.number} {told.name}{at}', *([rule.sentence] if rule else []), *([f'See {page}'] if page else [])]

@@ -13,7 +13,7 @@ from typing import List, Optional
 
 from .messages import placed
 from .program import Folder
-from .reading import readable
+from .reading import is_kept, readable, shown
 from .tokens import NAME
 
 HEAP = 12
@@ -65,6 +65,8 @@ def add_run_options(parser) -> None:
 def input_file(given, folder: Folder) -> Optional[str]:
     """The file with all that is given as input: the lines of --input, and after them the words NAME=NUMBER, which replace
     lines for the same names."""
+    if given.input and given.input == getattr(given, 'source', None) and is_kept(given.input):
+        raise Unfit(f'{shown(given.input)} must not be the source and the input: it is read once')
     words = {}
     for word in given.assignments:
         found = ASSIGNMENT.match(word)

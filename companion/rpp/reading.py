@@ -38,8 +38,13 @@ def shown(path: str) -> str:
 
 
 def title(path: str) -> str:
-    """The last part of what messages say for a path."""
-    return os.path.basename(shown(path))
+    """The last part of what messages say for a path; the whole of what is a pipe."""
+    return _shown.get(path) or os.path.basename(path)
+
+
+def is_kept(path: str) -> bool:
+    """Whether a path is that of a copy, which goes when the command ends."""
+    return path in _shown
 
 
 def keep(word: str) -> str:

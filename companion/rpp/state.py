@@ -6,7 +6,7 @@ from typing import Dict, List
 from .messages import read_answer
 from .options import DEPTH, HEAP, MOST_DEPTH, MOST_HEAP, Parser, Unfit
 from .program import Program, keep_apart
-from .reading import readable
+from .reading import is_kept, readable, shown
 from .report import failure_lines
 from .tokens import NAME
 
@@ -36,7 +36,7 @@ def field_cells(program: Program, image: str) -> Dict[str, int]:
         listing = folder.name('listing')
         told = read_answer(program.call('list', image, listing))
         if told.kind != 'done':
-            raise Unfit('\n'.join(failure_lines(told, image)))
+            raise Unfit('\n'.join(failure_lines(told, shown(image))))
         with open(listing, encoding='utf-8') as file:
             return {name: int(cell) for cell, name in NOTE.findall(file.read())}
 
@@ -47,7 +47,7 @@ def loaded_state(program: Program, image: str, heap: int, depth: int) -> bytes:
         state = folder.name('state')
         told = read_answer(program.call('run', image, heap, depth, 0, '-', state))
         if told.kind not in ('bound', 'done'):
-            raise Unfit('\n'.join(failure_lines(told, image)))
+            raise Unfit('\n'.join(failure_lines(told, shown(image))))
         with open(state, 'rb') as file:
             return file.read()
 
@@ -66,8 +66,8 @@ def parser() -> Parser:
     made = Parser(prog='rpp state', description=__doc__.split(':', 1)[1].strip(),
                     epilog='The state fits only runs of this image with the same --heap and --depth. Among the commands of '
                            'the program, only `run` takes a state: `debug` and `profile` begin with the loaded memory.')
-    made.add_argument('image', metavar='IMG', type=readable)
-    made.add_argument('input', metavar='INPUT', type=readable)
+    made.add_argument('image', metavar='IMG', type=readable, help='an image; - is standard input')
+    made.add_argument('input', metavar='INPUT', type=readable, help='a file of lines NAME = NUMBER; - is standard input')
     made.add_argument('-o', '--out', metavar='STATE', required=True)
     made.add_argument('--heap', type=int, default=HEAP, metavar='H', help=f'1 to {MOST_HEAP} (default {HEAP})')
     made.add_argument('--depth', type=int, default=DEPTH, metavar='D', help=f'1 to {MOST_DEPTH} (default {DEPTH})')
@@ -76,6 +76,8 @@ def parser() -> Parser:
 
 def main(words: List[str]) -> int:
     given = parser().parse_args(words)
+    if given.image == given.input and is_kept(given.image):
+        raise Unfit(f'{shown(given.image)} must not be the image and the input: it is read once')
     keep_apart(given.out, given.image, given.input)
     program = Program.found()
     with open(given.input, encoding='utf-8', errors='replace') as file:
@@ -85,6 +87,7 @@ def main(words: List[str]) -> int:
     with open(given.out, 'wb') as out:
         out.write(changed)
     print(f'{given.out}: a start state with {len(numbers)} number{"s" * (len(numbers) != 1)}')
-    print(f'rooplpp run {given.image} {given.heap} {given.depth} STEPS {given.out} SAVE begins with it; '
+    image = 'IMG' if is_kept(given.image) else given.image
+    print(f'rooplpp run {image} {given.heap} {given.depth} STEPS {given.out} SAVE begins with it; '
           '`debug` and `profile` take no state')
     return 0

@@ -200,7 +200,7 @@ def write_out(out: str, text: str, read: List[str]) -> None:
 def parser() -> Parser:
     made = Parser(prog='rpp test', description='Checks programs by what their comments `//?` expect. For folders it prints a table.',
                   epilog='docs/reference/testing.md has the forms of expectations. The status is 0 if all hold, and 1 otherwise.')
-    made.add_argument('paths', metavar='F', nargs='+', type=readable, help='sources, assembly texts, or folders with them')
+    made.add_argument('paths', metavar='F', nargs='+', type=readable, help='sources, assembly texts, or folders with them; - is standard input')
     made.add_argument('--by', metavar='EXERCISE', help='the file whose expectations count, or a folder of files of the same names')
     made.add_argument('--seconds', type=float, default=WHOLE_SECONDS, metavar='S', help=f'the most time for a file ({WHOLE_SECONDS:.0f})')
     made.add_argument('--each', type=float, default=EACH_SECONDS, metavar='S', help=f'the most processor time for a call of the program ({EACH_SECONDS:.0f})')

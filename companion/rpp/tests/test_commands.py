@@ -104,7 +104,7 @@ class Standing(Case):
         with open(LIST, encoding='utf-8') as file:
             text = file.read()
         for words in (['run', '-'], ['check', '-'], ['debug', '-', '-c', 'step'], ['film', '-'], ['side', '-'], ['heap', '-', '--heap', 5],
-                      ['inverse', '-'], ['list', '-'], ['fmt', '-'], ['fmt', '--check', '-'], ['run', '/dev/stdin'], ['check', '/dev/stdin']):
+                      ['inverse', '-'], ['list', '-'], ['stat', '-'], ['picture', '-', '-o', 'list.svg'], ['fmt', '-'], ['fmt', '--check', '-'], ['run', '/dev/stdin'], ['check', '/dev/stdin']):
             with self.subTest(words=words):
                 piped = self.rpp(*words, stdin=text)
                 self.assertEqual((piped.returncode, piped.stderr), (0, ''))
@@ -133,6 +133,27 @@ class Standing(Case):
     def test_an_input(self):
         done = self.rpp('run', os.path.join(EXAMPLES, 'counter.rpp'), '--input', '-', stdin='count = 4\n')
         self.assertEqual(done.stdout.split('\n')[0], 'count = 7')
+        done = self.rpp('run', '-', '--input', '-', stdin='count = 4\n')
+        self.assertEqual((done.returncode, done.stderr), (1, 'rpp: <stdin> must not be the source and the input: it is read once\n'))
+
+    def test_expectations(self):
+        done = self.rpp('test', '-', stdin='//? x=1 -> x = 6, back\nclass P int x method main() x += 5\n')
+        self.assertEqual((done.returncode, done.stdout.split('\n')[0]), (0, '<stdin>: all expectations hold, 1 of 1'))
+
+    def test_start_states(self):
+        image, source = os.path.join(self.folder, 'counter.img'), os.path.join(EXAMPLES, 'counter.rpp')
+        self.assertEqual(self.program.call('compile', source, image).status, 0)
+        wanted = ('rooplpp run {} 12 64 STEPS state SAVE begins with it; `debug` and `profile` take no state')
+        done = self.rpp('state', image, '-', '-o', 'state', stdin='count = 4\n')
+        self.assertEqual((done.returncode, done.stdout.split('\n')[1]), (0, wanted.format(image)))
+        numbers = self.write('count.txt', 'count = 4\n')
+        line = f'{sys.executable} {COMMAND} state - {numbers} -o state < {image}; {sys.executable} {COMMAND} debug {image} --source - -c here < {source}'
+        done = subprocess.run(['bash', '-c', line], cwd=self.folder, stdout=subprocess.PIPE, check=False)
+        self.assertIn(wanted.format('IMG'), done.stdout.decode())
+
+    def test_the_name_of_a_pipe(self):
+        done = subprocess.run(['bash', '-c', f'{sys.executable} {COMMAND} debug <(cat {LIST}) -c where'], stdout=subprocess.PIPE, check=False)
+        self.assertRegex(done.stdout.decode(), r'^\[0\] /dev/fd/\d+:7:3 in List.main')
 
 
 class Folders(Case):
