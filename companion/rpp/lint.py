@@ -2,16 +2,20 @@
 
     for each in warnings(Analysis(text)): each.begin, each.end, each.name, each.sentence
 """
+import bisect
+import re
 from typing import Dict, Iterator, List, NamedTuple, Set
 
 from .editing import Analysis
 from .expressions import LEVEL, Tree
 from .slots import Slots
 from .source import Method, Statement, Variable
+from .tokens import NAME
 
 COMPARING = frozenset('= != < > <= >='.split())
 BITS = frozenset('& ^ |'.split())
 CALLS = ('call', 'uncall')
+DIVISOR = re.compile(rf'//[ \t]*(?:([0-9]+)|({NAME}))\s*')
 
 
 class Remark(NamedTuple):
@@ -25,7 +29,7 @@ class Remark(NamedTuple):
 def warnings(text: Analysis) -> List[Remark]:
     """The warnings of an accepted text, in its order."""
     lint = _Lint(text)
-    return sorted([*lint.mixed(), *lint.unused(), *lint.endless()])
+    return sorted([*lint.mixed(), *lint.chained(), *lint.divided(), *lint.unused(), *lint.endless()])
 
 
 class _Lint:
@@ -58,6 +62,43 @@ class _Lint:
         parts = [self.slots.spelled(part.first, part.last) for part in tree.parts]
         shown = [f'({text})' if part.parts and part.word in LEVEL and not part.is_closed else text for part, text in zip(tree.parts, parts)]
         return f'`{shown[0]} {tree.word} {shown[1]}`'
+
+    def chained(self) -> Iterator[Remark]:
+        """`0 <= x <= 10`, which is `(0 <= x) <= 10`."""
+        for statement in self.source.statements():
+            for whole in self.slots.expressions(statement):
+                inner: Set[int] = set()
+                for tree in whole.walk():
+                    left = tree.parts[0] if tree.word in COMPARING and tree.parts else tree
+                    if left is tree or left.is_closed or not left.parts or LEVEL.get(left.word) != LEVEL[tree.word]:
+                        continue
+                    inner.add(left.at)
+                    if tree.at not in inner:
+                        yield self.at(tree.first, tree.last, 'Chain', f'This is {self.grouped(tree)}, which compares 0 or 1. Write '
+                                      f'{self.joined(left, tree)}.')
+
+    def joined(self, left: Tree, tree: Tree) -> str:
+        """`a <= b && b <= c` for `a <= b <= c`."""
+        right, middle = tree.parts[1], left.parts[1]
+        return f'`{self.slots.spelled(left.first, left.last)} && {self.slots.spelled(middle.first, middle.last)} {tree.word} ' \
+               f'{self.slots.spelled(right.first, right.last)}`'
+
+    # ---- comments
+
+    def divided(self) -> Iterator[Remark]:
+        """`x += y // 2`, where `//` begins a comment: one space after a value that is no number, a number from 2 on or a variable."""
+        begins = [each.at for each in self.source.tokens]
+        last = {bisect.bisect_left(begins, each.at) - 1: each for each in reversed(self.source.comments)}
+        for statement in self.source.statements():
+            for tree in self.slots.expressions(statement) if statement.form in ('update', 'local') else ():
+                comment = last.get(tree.last)
+                if comment is None or tree.word.isdigit() or self.source.text[self.source.tokens[tree.last].end:comment.at] not in (b'', b' '):
+                    continue
+                found = DIVISOR.fullmatch(comment.text)
+                ints = {each.name for each in self.names.visible(self.source.tokens[tree.last].at) if each.type == 'int'}
+                if found and (int(found[1]) > 1 if found[1] else found[2] in ints):
+                    yield Remark(comment.at, comment.end, 'Comment', f'`//` begins a comment, so this value is only '
+                                 f'`{self.slots.spelled(tree.first, tree.last)}`: there is no quotient.')
 
     # ---- what is never used
 

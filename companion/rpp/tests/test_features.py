@@ -34,6 +34,10 @@ FORMATTED, ANSWERED = 5, 3
 WARNED = [
     ('class P int x int y method main() if x & 1 = 0 then y += 1 else skip fi y = 1', 'Order', 'this is `x & (1 = 0)`'),
     ('class P int x int y method main() y += x | 4 < 2', 'Order', 'this is `x | (4 < 2)`'),
+    ('class P int x int y method main() y += 0 <= x <= 10', 'Chain', 'This is `(0 <= x) <= 10`, which compares 0 or 1. Write `0 <= x && x <= 10`.'),
+    ('class P int x int y method main() if x = y = 0 then skip else skip fi x = 0', 'Chain', 'Write `x = y && y = 0`.'),
+    ('class P int x int y method main() x += y // 2\n', 'Comment', '`//` begins a comment, so this value is only `y`: there is no quotient.'),
+    ('class P int x int y method main() local int h = y + 1 // y\n x += h delocal int h = y + 1', 'Comment', 'only `y + 1`'),
     ('class P int x int y method main() x += 1', 'Unused', 'The field `y` is never used.'),
     ('class P int x method main() local int t = 0 x += 1 delocal int t = 0', 'Unused', 'The local `t` is never used.'),
     ('class P int x method main() x += 1 method f() x += 1', 'Unused', 'The method `f` is never used.'),
@@ -43,6 +47,9 @@ WARNED = [
 NOT_WARNED = [
     'class P int x int y method main() y += (x & 1) = 0',
     'class P int x int y method main() y += x = 1 & x = 2',
+    'class P int x int y method main() y += (0 <= x) <= 10',
+    'class P int x int y method main() y += 0 <= x = x <= 10',
+    'class P int x int y method main() x += y // 1\n y += 3 // 2\n y += x // 2 of them\n y += x\n// 2\n y += x // count\n y += x  // 2\n',
     'class P int x int y method main() y += x > 1 & (x | 4)',
     'class P int x int y method main() call f() uncall f() method f() x += y',
     'class P int x method main() from x = 0 do call f() loop skip until x = 3 method f() x += 1',
