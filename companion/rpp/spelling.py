@@ -64,12 +64,17 @@ ROWS: Tuple[Tuple[str, str, str], ...] = (
     ('pass nop', 'the empty statement is `skip`.', ''),
     ('swap exchange', 'two places are exchanged by `x <=> y`.', ''),
     ('free dispose destroy del', 'an object ends by `delete C x`.', ''),
-    ('try throw raise except catch finally', 'a condition that does not hold stops the run with a fault.', ''),
-    ('struct record interface trait enum impl', 'a class holds its fields and the methods that use them.', 'Write `class`.'),
+    ('try throw throws raise except catch finally', 'a condition that does not hold stops the run with a fault.', ''),
+    ('global nonlocal extern', 'a method names the fields of its object by themselves.', 'Leave it out.'),
+    ('with', 'an object for the time of a block is `construct C x` .. `destruct x`.', ''),
+    ('lambda', 'a method is declared by `method`, and is no value.', ''),
+    ('typedef', 'a type is `int`, a class of the source, or an array of one.', ''),
+    ('enum', 'write its numbers, or keep them in fields that nothing changes.', ''),
+    ('struct record interface trait impl', 'a class holds its fields and the methods that use them.', 'Write `class`.'),
 )
 # These may be the names of methods.
 METHOD_ROWS: Tuple[Tuple[str, str, str], ...] = (
-    ('push pop top peek enqueue dequeue', 'there are no stacks. An array, and a count of what is in it, serve in their place.', ''),
+    ('push pop top peek empty isEmpty enqueue dequeue', 'there are no stacks. An array, and a count of what is in it, serve in their place.', ''),
     ('len length size sizeof', LENGTH, 'Keep the length in a variable.'),
     ('max min abs', 'there are no functions, and a method has no result: let it add what it computes to a parameter.', ''),
 )
@@ -161,6 +166,9 @@ class Spot(NamedTuple):
 HEAD = re.compile(rf'\b(def|fn|func|function|proc|procedure|void|sub)\s+({NAME})\s*\([^()]*\)\s*$')
 LOOPING = re.compile(r'^\s*(for|while|foreach)\b')
 BRANCHING = re.compile(r'^\s*(if|elif)\b.*[^\s]\s*$')
+TYPE_HEAD = re.compile(r'^\s*(?:pub\s+|public\s+|typedef\s+)*(struct|record|interface|trait|enum|impl)\b')
+SLICE = re.compile(r'\[[^\]]*$')
+LAMBDA = re.compile(r'\blambda\b[^:]*$')
 CONDITION = re.compile(r'^\s*(if|elif|while|until|fi|from)\b')
 ELSE = re.compile(r'^\s*(else|do|loop|then)\s*$')
 CLASS = re.compile(rf'\bclass\s+{NAME}\s*$')
@@ -185,6 +193,12 @@ def of_colon(it: Spot) -> Optional[Hint]:
                     'Write `inherits`')
     if CALL.search(it.before) and name:
         return BYTES[':']._replace(edits=it.changes(0, 1, '::'), title='Write `::`')
+    if CLASS.search(it.before):
+        return Hint('No `:` must follow the name of a class.', 'Leave it out.', it.changes(0, 1, ''), 'Remove the `:`')
+    if LAMBDA.search(it.before):
+        return foreign_word('lambda')
+    if SLICE.search(it.before):
+        return Hint('There are no slices: an element has one index.', 'A loop goes over the elements.')
     return of_block_colon(it) or of_typed_name(it, kind) or of_old_swap(it, name)
 
 
@@ -282,14 +296,29 @@ def of_hash(it: Spot) -> Optional[Hint]:
 
 
 def of_brace(it: Spot) -> Optional[Hint]:
-    return LISTS if it.before.strip()[-1:] == '=' else None
+    """`int[] a = {1, 2}`, `enum E {`, `while a {`, `if a {`."""
+    if it.before.strip()[-1:] == '=':
+        return LISTS
+    head, looping = TYPE_HEAD.match(it.before), LOOPING.match(it.before)
+    if head or looping:
+        return foreign_word((head or looping)[1])
+    if BRANCHING.match(it.before) and 'then' not in it.before:
+        return Hint('A condition must be followed by `then`, not by `{`.', 'An `if` is `if a then s else t fi b`.', it.changes(0, 1, 'then'),
+                    'Write `then`')
+    return None
 
 
 MACRO = re.compile(r'\b(println|print|eprintln|format|write|writeln|dbg)$')
+VECTOR = re.compile(r'\bvec$')
+CHECKING = re.compile(r'\b(assert|assert_eq|debug_assert)$')
 
 
 def of_bang(it: Spot) -> Optional[Hint]:
     macro = MACRO.search(it.before)
+    if VECTOR.search(it.before):
+        return LISTS
+    if CHECKING.search(it.before):
+        return foreign_word('assert')
     return Hint(f'There is no `{macro[1]}!`: {REPORTED}') if macro else None
 
 
@@ -300,6 +329,8 @@ ANNOTATION = re.compile(rf'@({NAME})')
 def of_underscore(it: Spot) -> Optional[Hint]:
     if it.after[:8] == '__init__':
         return CONSTRUCTORS
+    if DIGITS.search(it.before) and it.after[1:2].isdigit():
+        return Hint('A number must be only digits, without `_`.', '', it.changes(0, 1, ''), 'Remove the `_`')
     return foreign_word('match') if CHOICE.match(it.after) else None
 
 

@@ -7,7 +7,7 @@ import difflib
 from typing import Callable, List, Optional, Tuple
 
 from .grammar import END, NAME, STATEMENTS, VALUES, Open, Spot, first_wrong, spelled
-from .spelling import ALONE, CONSTRUCTORS, FOREIGN_METHODS, IMPORTS, LISTS, STRUCTURES, UNEQUAL, Edit, Hint, foreign_method, foreign_word
+from .spelling import ALONE, CONSTRUCTORS, FOREIGN_METHODS, IMPORTS, LISTS, LOOP, STRUCTURES, UNEQUAL, Edit, Hint, foreign_method, foreign_word
 from .tokens import KEYWORDS, OPERATORS, UPDATES, Token, cut
 
 CLOSERS = {'if': ('then', 'else', 'fi'), 'from': ('do', 'loop', 'until'), 'local': ('delocal',), 'construct': ('destruct',)}
@@ -19,6 +19,9 @@ CONSTANTS = ('const', 'final', 'readonly', 'constexpr', 'immutable')
 WIDTHS = ('unsigned', 'signed', 'short', 'long')
 LIBRARIES = ('std', 'core', 'math', 'Math', 'System')
 BY_REFERENCE = ('mut', 'ref', 'out', 'inout', 'var')
+NUMBERS = ('byte', 'short', 'long', 'char', 'float', 'double', 'unsigned', 'bool', 'i32', 'u32', 'i64', 'u64', 'usize', 'Integer')
+COUNTING = ('to', 'downto', 'upto', 'by', 'step')
+POINTERS = 'There are no pointers: a variable of a class refers to its object, and an `int` is a number.'
 PRODUCTS = {'*': 'A product', '/': 'A quotient', '%': 'A remainder'}
 
 
@@ -128,6 +131,8 @@ def of_first_word(it: Place) -> Optional[Hint]:
     if it.word() in HEADS_OF_OTHERS:
         return Hint(f'A source must begin with a class, and there is no `{it.word()}` outside of one.',
                     'Write `class Program`, its fields, and then `method main()`.')
+    if it.kind(1) in ('name', 'keyword') and foreign_word(it.word()):
+        return foreign_word(it.word(), it.word(1))
     return Hint(f'A source must begin with a class, not with `{it.word()}`: fields and methods are always those of a class.',
                 'Write `class Program` in front.', it.puts('class Program\n'), 'Put a class in front')
 
@@ -135,9 +140,15 @@ def of_first_word(it: Place) -> Optional[Hint]:
 def of_keyword_as_name(it: Place) -> Optional[Hint]:
     if it.word() not in KEYWORDS or not it.expects(NAME) or it.is_value():
         return None
+    if it.inside == 'parameter' and it.word() == 'int' and it.kind(-1) == 'name':
+        return Hint(f'A parameter must begin with its type: there is no `{it.word(-1)}`.', 'Leave it out.', (Edit(it.begin(-1), it.begin(), ''),),
+                    f'Remove `{it.word(-1)}`')
     if it.word(-1) == 'method' and it.word() == 'int':
         return Hint('A method must have no type: it has no result.', 'Let it add what it computes to a parameter.',
                     (Edit(it.begin(), it.begin(1), ''),), 'Remove the type')
+    if it.inside == 'field' and it.word() in ('int', 'method', 'class') and it.kind(-1) == 'name' and not it.is_new_line():
+        return Hint(f'There is no `{it.word(-1)}` before `{it.word()}`.', 'Leave it out.', (Edit(it.begin(-1), it.begin(), ''),),
+                    f'Remove `{it.word(-1)}`')
     is_broken = it.is_new_line() or it.word() in ('class', 'method')
     if it.inside in DECLARING and not it.is_statement() and it.kind(-1) != 'name' and is_broken:
         return Hint(f'A {DECLARED.get(it.inside, it.inside)} must have a name: there is none before this `{it.word()}`.')
@@ -223,6 +234,8 @@ def of_kind_of_int(it: Place) -> Hint:
 
 def of_type(it: Place) -> Optional[Hint]:
     name = it.word(1) if it.kind(1) == 'name' else it.word(2) if it.kind(2) == 'name' else ''
+    if it.word() in ('*', '&') and it.expects(NAME, '['):
+        return Hint(POINTERS, 'Leave it out.', it.changes(0, 0, ''), f'Remove the `{it.word()}`')
     if it.kind() == 'number' and it.word(-1) == '[' and it.expected == {']'}:
         kind = it.word(-2)
         return Hint('A type must not have a length: it is given when the array is made.',
@@ -241,6 +254,8 @@ def of_type(it: Place) -> Optional[Hint]:
 def of_method_head(it: Place) -> Optional[Hint]:
     if it.inside == 'method' and it.kind(-1) == 'name' and it.word(-2) != 'method' and it.word() == '(' and it.word(-3) == 'method':
         return Hint('A method must have no type: it has no result.', 'Let it add what it computes to a parameter.')
+    if it.word(-1) == 'method' and it.word() == '<':
+        return Hint('There are no types with parameters.', 'Write a method for each type.')
     if it.inside == 'parameters' and it.expected == {'('}:
         return Hint(f'The method `{it.word(-1)}` must have parentheses, also where it has no parameters.', '',
                     (Edit(it.end(-1), it.end(-1), '()'),), 'Write `()`')
@@ -266,11 +281,16 @@ def of_update(it: Place) -> Optional[Hint]:
         return Hint(f'The signs are in the other order: `{it.word(1)}=`.', '', it.changes(0, 1, f'{it.word(1)}='),
                     f'Write `{it.word(1)}=`')
     if it.word() == '=' and it.word(1) == 'new':
-        return Hint(f'`new` is a statement and has no value: `new C {name}` fills `{name}`, which must be nil before.',
-                    f'Write `new {it.word(2)} {name}`.')
+        made = f'{it.word(2)}[{it.word(4)}]' if it.word(3) == '[' else it.word(2)
+        return Hint(f'`new` is a statement and has no value: `new {made} {name}` fills `{name}`, which must be nil before.',
+                    f'Write `new {made} {name}`.')
     if it.word() == '=' and it.word(1) == name and it.word(2) in ('+', '-', '^'):
         return Hint(f'`{name}` must be changed by `{it.word(2)}=`: an assignment by `=` would lose its old value.', '',
                     it.changes(0, 2, f'{it.word(2)}='), f'Write `{it.word(2)}=`')
+    if it.word() == '=' and it.word(1) == '[':
+        return LISTS
+    if it.word() == '=' and it.kind(1) == 'name' and it.word(2) == '=':
+        return Hint('A statement must change one place: there are no chains of `=`.', f'Write a statement for each, as `{name} += ..`.')
     if it.word() == '=':
         return Hint(f'`{name}` must be changed by `+=`, `-=` or `^=`: an assignment by `=` would lose its old value.',
                     f'`{name} += ..` sets it where it is 0; `{name} <=> y` exchanges two variables.', it.changes(0, 0, '+='), 'Write `+=`')
@@ -355,6 +375,8 @@ def of_call_without_word(it: Place) -> Optional[Hint]:
         return None
     if it.kind(-2) == 'name' and it.has_class(it.word(-2)) or it.has_class(it.word(-1)):
         return of_head_without_method(it)
+    if it.word(-1) == 'super':
+        return Hint('There is no `super`: a method of the parent that no other one replaces is called by its name.')
     foreign = of_foreign_word(it.word(-1), it) or (None if it.has_method(it.word(-1)) else foreign_method(it.word(-1)))
     near = near_keyword(it.word(-2)) if it.kind(-2) == 'name' else near_keyword(it.word(-1))
     if foreign or near:
@@ -382,6 +404,10 @@ def of_word_at_begin(it: Place) -> Optional[Hint]:
     if it.kind(-2) == 'name' and near_keyword(it.word(-2)):
         near = near_keyword(it.word(-2))
         return Hint(f'There is no `{it.word(-2)}`. Did you mean `{near}`?', '', it.changes(-2, -2, near), f'Write `{near}`')
+    if it.word() == 'int' and not it.is_new_line():
+        name = it.word(1) if it.kind(1) == 'name' else 'x'
+        return Hint(f'There is no `{word}`: a variable of a method is `local int {name} = ..` .. `delocal int {name} = ..`.',
+                    'Or declare it as a field, before the methods.')
     if it.kind() == 'name' and word[0].isupper():
         return Hint(f'A variable must be declared by `local {word} {it.word()} = nil` .. `delocal {word} {it.word()} = nil`, or as a '
                     'field.')
@@ -389,7 +415,17 @@ def of_word_at_begin(it: Place) -> Optional[Hint]:
         return Hint('The exchange is written `<=>`, and there are no lists.', '', it.changes(0, 5, f' <=> {it.word(1)}'), 'Write `<=>`')
     if it.word() == ',':
         return Hint('A statement must change one variable: there are no lists.', 'Write a statement for each.')
+    if it.kind() in ('name', 'number') and not it.is_new_line():
+        return Hint(f'A statement must not be `{word} {it.word()}`: a change is `{word} += ..`, and a call is `call {word}(..)`.')
     return None
+
+
+def of_cast(it: Place) -> Optional[Hint]:
+    """`(long) y`."""
+    is_cast = it.is_behind_place() and [it.word(-2), it.word(-4)] == [')', '('] and (it.word(-3) in NUMBERS or it.has_class(it.word(-3)))
+    if not is_cast or b'\n' in it.text[it.end(-2):it.begin(-1)]:
+        return None
+    return Hint('There are no casts: every number is an `int`.', 'Leave it out.', (Edit(it.begin(-4), it.begin(-1), ''),), 'Remove the cast')
 
 
 def near_keyword(word: str) -> str:
@@ -408,7 +444,8 @@ def of_foreign_word(word: str, it: Place) -> Optional[Hint]:
     return found or (of_operator_word(word) if word in OPERATOR_WORDS else None)
 
 
-OPERATOR_WORDS = {'and': '&&', 'or': '||', 'xor': '^', 'is': '=', 'eq': '=', 'not': '', 'mod': '', 'div': '', 'in': ''}
+OPERATOR_WORDS = {'and': '&&', 'or': '||', 'xor': '^', 'is': '=', 'eq': '=', 'not': '', 'mod': '', 'div': '', 'in': '', 'as': '',
+                  'instanceof': ''}
 
 
 def of_operator_name(it: Place) -> Optional[Hint]:
@@ -416,6 +453,8 @@ def of_operator_name(it: Place) -> Optional[Hint]:
     is_behind_value = OPERATORS <= it.expected
     at = next((at for at in (0, -1) if it.kind(at) == 'name' and it.word(at) in OPERATOR_WORDS), None)
     if at is None or not (is_behind_value or at and it.expects('[')):
+        return None
+    if it.word(at) == 'as' and it.kind(at + 1) not in ('name', 'keyword'):
         return None
     sign = OPERATOR_WORDS[it.word(at)]
     edits = it.changes(at, at, sign) if sign else ()
@@ -427,6 +466,10 @@ def of_operator_word(word: str) -> Hint:
         return Hint(f'There is no `{word}`: write `{OPERATOR_WORDS[word]}`.')
     if word == 'in':
         return Hint('There is no `in`: a condition compares two values, and a loop looks for an element.')
+    if word == 'as':
+        return Hint('There is no `as`: every number is an `int`.', 'Leave it out.')
+    if word == 'instanceof':
+        return Hint('There is no `instanceof`: a call runs the method of the class that the object has.')
     if word == 'not':
         return Hint('There is no `not`: write the opposite comparison, as `x = 0` or `x >= y`.')
     return Hint(f'There is no `{word}`: a quotient or remainder is computed by a method, and `x & 7` is the remainder of x by 8.')
@@ -448,6 +491,8 @@ def of_value(it: Place) -> Optional[Hint]:
     if it.word() == 'int' and (it.word(1) == '(' or before == '(' and it.word(1) == ')'):
         edits = it.changes(-1, 1, '') if before == '(' else it.changes(0, 0, '')
         return Hint('There are no casts: every number is an `int`.', 'Leave it out.', edits, 'Remove the cast')
+    if it.word() == '-' and before == '[' and it.kind(1) == 'number':
+        return Hint('An index must be at least 0: no element is counted from the end.', f'Keep the length in a variable, as in `a[n - {it.word(1)}]`.')
     if it.word() == '-':
         change = {'+=': '-=', '-=': '+='}.get(before, '')
         if change:
@@ -463,6 +508,8 @@ def of_value(it: Place) -> Optional[Hint]:
     comparison = of_wrong_comparison(it, before)
     if comparison:
         return comparison
+    if it.word() in ('*', '&') and it.kind(1) == 'name' and it.is_joined() and before not in ('*', '&'):
+        return Hint(POINTERS, 'Leave it out.', it.changes(0, 0, ''), f'Remove the `{it.word()}`')
     if it.word() in ('&', '|') or it.word() in OPERATORS:
         return Hint(f'`{it.word()}` must have a value on both sides.')
     return of_word_for_value(it, before)
@@ -569,6 +616,10 @@ def of_argument(it: Place) -> Optional[Hint]:
         if it.expects('('):
             named = it.written(-3, -1) if it.word(-2) == '::' else it.word(-1)
             return Hint(f'A call must have parentheses: `call {named}()`.', '', (Edit(it.end(-1), it.end(-1), '()'),), 'Write `()`')
+    if it.expects('(') and it.kind() == 'name' and it.kind(-1) == 'name' and not it.is_new_line():
+        is_on = it.word() in ('on', 'of') and it.kind(1) == 'name'
+        called = f'{it.word(1)}::{it.word(-1)}()' if is_on else f'{it.word(-1)}({it.word()})'
+        return Hint(f'A call must have parentheses: `call {called}`.', '', it.changes(-1, 1 if is_on else 0, called), f'Write `{called}`')
     if it.word() in ('&', '*') and it.kind(1) == 'name' and it.word(-1) in ('(', ',') or it.kind() == 'name' and it.word(-1) in BY_REFERENCE:
         return of_argument_by_reference(it)
     if it.word() == 'int' or it.kind() == 'name' and it.kind(-1) == 'name' and it.has_class(it.word(-1)):
@@ -585,6 +636,9 @@ def of_argument(it: Place) -> Optional[Hint]:
         return Hint(f'An argument must be a variable: `{it.word()}` has no value.', local)
     if it.kind() == 'number' or it.word() in ('-', '('):
         return Hint(f'An argument must be a variable, not `{it.word()}`.', local)
+    if it.word() == '=' and it.kind(-1) == 'name' and it.word(-2) in ('(', ','):
+        return Hint(f'An argument must be a variable without the name `{it.word(-1)}` of the parameter: the order of arguments counts.',
+                    f'Leave `{it.word(-1)} =` out.', (Edit(it.begin(-1), it.begin(1), ''),), f'Remove `{it.word(-1)} =`')
     if it.word() in OPERATORS:
         return Hint(f'An argument must be a variable, not an expression with `{it.word()}`.', local)
     if it.word() == '::':
@@ -702,6 +756,12 @@ def of_missing_word(it: Place) -> Optional[Hint]:
         fix = 'Each `if` has its own `else` and `fi`. ' if is_chain else ''
         return Hint(f'The `{opened.what}` of line {line} must have `{missing}` before this `{it.word()}`.',
                     f'{fix}An empty block is `{missing} skip`.' if 'skip' in text else '', it.puts(text), f'Write `{text.strip()}`')
+    if missing in ('then', 'do') and it.word() == '(' and it.kind(-1) == 'name':
+        return None
+    if missing in ('then', 'do') and it.kind() == 'name' and it.kind(-1) == 'name' and foreign_word(it.word(-1)):
+        return foreign_word(it.word(-1), it.word())
+    if missing == 'do' and it.word() in COUNTING and it.kind() == 'name':
+        return Hint(f'There is no `{it.word()}`: {LOOP[0]}', LOOP[1])
     if missing in ('then', 'do'):
         edits = it.changes(0, 0, missing) if it.word() in ('then', 'do') else (Edit(it.end(-1), it.end(-1), f' {missing}'),)
         return Hint(f'The `{opened.what}` of line {line} must have `{missing}` after its condition.', '', edits, f'Write `{missing}`')
@@ -809,7 +869,7 @@ def of_word_behind_statement(it: Place) -> Optional[Hint]:
 
 
 HINTS: List[Callable[[Place], Optional[Hint]]] = [
-    of_first_word, of_comment_as_quotient, of_arrow, of_extends, of_modifier, of_operator_name, of_keyword_as_variable, of_missing_word,
+    of_first_word, of_comment_as_quotient, of_arrow, of_extends, of_modifier, of_cast, of_operator_name, of_keyword_as_variable, of_missing_word,
     of_stray_word, of_keyword_as_name, of_method_head, of_field, of_type, of_argument, of_call_parentheses,
     of_local, of_construct, of_new_with_arguments, of_new, of_copy, of_update, of_call_without_word,
     of_word_at_begin, of_value, of_value_end, of_parentheses, of_statement_begin, of_end, of_word_behind_statement]

@@ -50,7 +50,7 @@ class Mistakes(Case):
     def test_each_has_its_sentence(self):
         rows = list(mistakes())
         files = [self.write(f'{name}.rpp', text) for name, _, text in rows]
-        self.assertGreater(len(rows), 300)
+        self.assertGreater(len(rows), 380)
         for (name, said, _), verdict in zip(rows, self.verdicts(files)):
             with self.subTest(name=name):
                 self.assertIn(said, verdict['message'])
