@@ -8,6 +8,7 @@ from .forms import FORMS, WORDS
 from .names import input_fields as fields_of
 from .options import Parser
 from .rules import FAULTS, REFUSALS
+from .screen import WHEN
 
 SOURCES = ('source', 'sources')
 
@@ -24,9 +25,14 @@ def main(words: List[str]) -> int:
 
 
 def candidates(before: List[str], last: str) -> List[str]:
-    from .__main__ import COMMANDS
+    from .__main__ import COLOUR, COMMANDS
+    if before[-1:] == [COLOUR]:
+        return matching(last, WHEN)
+    if COLOUR in before:
+        at = before.index(COLOUR)
+        return candidates(before[:at] + before[at + 2:], last)
     if not before:
-        return matching(last, [*COMMANDS, '--help'])
+        return matching(last, [*COMMANDS, '--help', COLOUR])
     if before[0] == 'help':
         known = {str(rule.number) for rule in REFUSALS + FAULTS} | {rule.name for rule in REFUSALS + FAULTS}
         return matching(last, sorted(known | set(COMMANDS) | {name.rstrip('[]:') for name in FORMS} | set(WORDS)))
@@ -38,10 +44,11 @@ def candidates(before: List[str], last: str) -> List[str]:
     if asked is not None and asked.nargs != 0:
         return matching(last, asked.choices) if asked.choices else files(last, '')
     if last.startswith('-'):
-        return matching(last, [name for each in words._actions for name in each.option_strings if name.startswith('--')])
+        return matching(last, [name for each in words._actions for name in each.option_strings if name.startswith('--')] + [COLOUR])
     positional = [each.dest for each in words._actions if not each.option_strings]
     fields = input_fields(before) if 'assignments' in positional else []
-    return files(last, '.rpp' if set(positional) & set(SOURCES) else '') + matching(last, [f'{name}=' for name in fields])
+    named = matching(last, [f'{name}=' for name in fields])
+    return named or files(last, '.rpp' if set(positional) & set(SOURCES) else '')
 
 
 def parser_of(module: str) -> argparse.ArgumentParser:

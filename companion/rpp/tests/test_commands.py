@@ -228,8 +228,9 @@ class Folded(Case):
 
 
 class Completion(Case):
-    ROWS = [(['ver'], ['version']), (['run', 'count'], ['counter.rpp']), (['run', 'counter.rpp', 'c'], ['counter.rpp', 'count=']),
-            (['run', 'counter.rpp', 'count=1', 'b'], ['before=']), (['check', '--br'], ['--brief']), (['help', 'TooD'], ['TooDeep'])]
+    ROWS = [(['ver'], ['version']), (['run', 'count'], ['counter.rpp']), (['run', 'counter.rpp', 'c'], ['count=']),
+            (['run', 'counter.rpp', 'count=1', 'b'], ['before=']), (['check', '--br'], ['--brief']), (['help', 'TooD'], ['TooDeep']),
+            (['run', '--co'], ['--color']), (['--color', 'a'], ['auto', 'always']), (['--color', 'never', 'ver'], ['version'])]
 
     def setUp(self):
         super().setUp()
@@ -239,7 +240,7 @@ class Completion(Case):
         for words, wanted in self.ROWS:
             with self.subTest(words=words):
                 self.assertEqual(self.rpp('complete', *words).stdout.split(), wanted)
-        self.assertEqual(set(self.rpp('complete', '').stdout.split()), {*COMMANDS, '--help'})
+        self.assertEqual(set(self.rpp('complete', '').stdout.split()), {*COMMANDS, '--help', '--color'})
 
     def test_shells(self):
         self.complete_by(SHELLS, self.ROWS[:3])
