@@ -10,7 +10,7 @@ from typing import List, NamedTuple
 
 from .options import Unfit
 from .program import Interrupted, Killed, NoProgram, OverSource
-from .screen import WHEN, choose
+from .screen import WHEN, choose, wrapped
 from .spelling import similar
 
 
@@ -53,8 +53,8 @@ def usage() -> str:
         '',
         'usage: rpp COMMAND ARGUMENTS ..',
         '', *rows, '',
-        '`rpp help COMMAND` lists its options, `rpp help 16` explains refusal or fault 16, and `rpp help if` a statement.',
-        f'Every command takes `{COLOUR} WHEN`: {", ".join(WHEN)}. `-` instead of a source is standard input.', ''])
+        *wrapped('`rpp help COMMAND` lists its options, `rpp help 16` explains refusal or fault 16, and `rpp help if` a statement.'),
+        *wrapped(f'Every command takes `{COLOUR} WHEN`: {", ".join(WHEN)}. `-` instead of a source is standard input.'), ''])
 
 
 def without_colour(words: List[str]) -> List[str]:

@@ -7,6 +7,7 @@ from typing import List, Optional
 from .complete import matching
 from .options import Unfit
 from .program import Interrupted, Killed, OutOfTime
+from .screen import wrapped
 from .trace import Refused
 
 HISTORY = os.path.join('~', '.rpp_history')
@@ -94,7 +95,7 @@ class Prompt(cmd.Cmd):
                 self.fail(f'there is no command {arg}')
                 continue
             short = sorted(each for each, full in self.aliases.items() if full.replace('-', '_') == name)
-            self.say([action.__doc__.split('\n')[0].rstrip('.') + (f'  ({", ".join(short)})' if short else '')])
+            self.say(wrapped(action.__doc__.split('\n')[0].rstrip('.') + (f' ({", ".join(short)})' if short else ''), '', '  '))
 
     def do_quit(self, _arg: str) -> bool:
         """quit: end the session."""
