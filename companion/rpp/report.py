@@ -1,13 +1,13 @@
 """Messages about a source: where it is, the line with a caret, what is wrong, what to write, and where the pages say more."""
 import os
-from typing import List
+from typing import List, Tuple
 
 from .explain import Message, of_refusal
 from .failing import FailedTest
 from .messages import Told, see
 from .places import Text
 from .rules import Rule
-from .screen import paint, wrapped
+from .screen import columns, paint, wrapped
 
 
 def rule_lines(rule: Rule) -> List[str]:
@@ -35,9 +35,24 @@ def pointed_lines(file: str, text: Text, at: int, what: str) -> List[str]:
 
 
 def caret_lines(text: Text, at: int) -> List[str]:
-    """The source line of a place, and below it carets under the token."""
+    """The source line of a place, and below it carets under the token; on a terminal as much of them as it has columns."""
     line, marks = text.pointed(at).split('\n')
+    most = columns()
+    if most is not None:
+        line, marks = cut_around(line, marks, most)
     return [line, marks.replace(marks.lstrip(' |\t'), paint('mark', marks.lstrip(' |\t')))]
+
+
+def cut_around(line: str, marks: str, most: int) -> Tuple[str, str]:
+    """A source line with its number and the line of carets below it, cut to so many columns around the carets."""
+    if len(line) <= most or '\t' in line:
+        return line, marks
+    margin, begin = line.index('|') + 2, marks.index('^')
+    room = most - margin - len('.. ' + ' ..')
+    first = max(margin, min(begin - room // 2, len(line) - room))
+    left, right = '.. ' if first > margin else '', ' ..' if first + room < len(line) else ''
+    carets = marks[begin:first + room] or '^'
+    return f'{line[:margin]}{left}{line[first:first + room]}{right}', f'{marks[:margin]}{" " * (len(left) + begin - first)}{carets}'
 
 
 def test_lines(file: str, text: Text, test: FailedTest) -> List[str]:

@@ -9,7 +9,7 @@ import os
 import shutil
 import sys
 import textwrap
-from typing import List
+from typing import List, Optional
 
 WIDTH = 100
 LEAST, MOST = 40, 120
@@ -41,6 +41,11 @@ def width() -> int:
     if not sys.stdout.isatty():
         return WIDTH
     return max(LEAST, min(MOST, shutil.get_terminal_size((WIDTH, 24)).columns))
+
+
+def columns() -> Optional[int]:
+    """The columns of the terminal; None where there is none."""
+    return max(LEAST, shutil.get_terminal_size((WIDTH, 24)).columns) if sys.stdout.isatty() else None
 
 
 def wrapped(text: str, margin: str = '', later: str = '') -> List[str]:

@@ -4,9 +4,12 @@ import pty
 import shutil
 import subprocess
 import sys
+import unittest
 
 from rpp.__main__ import COMMANDS
+from rpp.places import Text
 from rpp.program import TOP
+from rpp.report import cut_around
 
 from .base import COMMAND, EXAMPLES, LIST, SUMS, Case
 
@@ -225,6 +228,19 @@ class Folded(Case):
         source = self.write('a.rpp', 'class P int[] a C[] c method main() new int[3] a a[1] += 7 new C[2] c class C\n')
         self.assertEqual(self.rpp('run', source).stdout.split('\n')[:6],
                          ['a = #1', 'c = #2', '#1 int[3] count 1: 0 7 0', '#2 C[2] count 1', '  [0] = nil', '  [1] = nil'])
+
+
+class Width(unittest.TestCase):
+    def test_long_source_lines(self):
+        text = Text(b'class P int x method main() ' + b'x += 1 ' * 40 + b'y = 5 ' + b'x += 1 ' * 40)
+        for place, most in ((text.content.index(b'y'), 40), (text.content.index(b'y'), 80), (0, 80), (len(text.content) - 3, 60), (300, 2000)):
+            line, marks = text.pointed(place).split('\n')
+            short, carets = cut_around(line, marks, most)
+            with self.subTest(place=place, most=most):
+                self.assertLessEqual(len(short), most)
+                begin = carets.index('^')
+                self.assertEqual(short[begin:begin + carets.count('^')], line[marks.index('^'):len(marks)])
+                self.assertEqual(short[:8], line[:8])
 
 
 class Completion(Case):
