@@ -146,7 +146,8 @@ def of_keyword_as_name(it: Place) -> Optional[Hint]:
     if it.word(-1) == 'method' and it.word() == 'int':
         return Hint('A method must have no type: it has no result.', 'Let it add what it computes to a parameter.',
                     (Edit(it.begin(), it.begin(1), ''),), 'Remove the type')
-    if it.inside == 'field' and it.word() in ('int', 'method', 'class') and it.kind(-1) == 'name' and not it.is_new_line():
+    is_modified = it.inside == 'field' and it.kind(-1) == 'name' and not it.is_new_line() and not it.has_class(it.word(-1))
+    if is_modified and it.word() in ('int', 'method', 'class'):
         return Hint(f'There is no `{it.word(-1)}` before `{it.word()}`.', 'Leave it out.', (Edit(it.begin(-1), it.begin(), ''),),
                     f'Remove `{it.word(-1)}`')
     is_broken = it.is_new_line() or it.word() in ('class', 'method')
