@@ -5,7 +5,6 @@ from .changes import PATH, changes, computed, thing_of, value_of
 from .explain import of_fault
 from .fault_slots import Where
 from .faults import Failing
-from .folding import folded
 from .formulas import BadFormula, Formula
 from .reading import title
 from .report import caret_lines, message_lines, test_lines
@@ -151,8 +150,8 @@ def display_line(moment: Moment, number: int, formula: Formula) -> str:
 
 
 def thing_lines(thing: Thing) -> List[str]:
-    """An object as `cells` prints it, and an array of ints in a line."""
-    return folded([f'#{thing.number} {thing.head} count {thing.count}'] + [f'  {label} = {value}' for label, value in thing.cells])
+    """An object as `cells` prints it."""
+    return [f'#{thing.number} {thing.head} count {thing.count}'] + [f'  {label} = {value}' for label, value in thing.cells]
 
 
 def object_lines(moment: Moment) -> List[str]:
