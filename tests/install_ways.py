@@ -14,6 +14,8 @@ COMPILED = rf'{APP}/share/rooplpp/rpp(/\w+)*/__pycache__(/.*)?'
 # What apt and dpkg note of each installation, and what npm keeps of each call.
 NOTES_OF_APT = r'/var/(lib/dpkg|log|log/apt|cache/(apt|ldconfig)|lib/apt)/[\w.-]+|/etc/ld\.so\.cache'
 NOTES_OF_NPM = r'/\.npm(/.*)?'
+# The folder that npm makes for its first package, and keeps when the last one is gone.
+FOLDER_OF_NPM = r'/usr/local/lib/node_modules'
 PACKED = rf'{CLONE}/release/[\w.-]+\.(tgz|vsix|tar|tar\.gz)'
 
 
@@ -70,7 +72,8 @@ def ways_of_programs():
 
 def ways_of_node():
     install, remove = of_readme('macOS, other Linux, with node 18 or later')
-    yield Way('npm install -g', 'python3 nodejs npm', install, remove, is_root=True, stays=f'/root{NOTES_OF_NPM}|{PACKED}')
+    yield Way('npm install -g', 'python3 nodejs npm', install, remove, is_root=True,
+              stays=f'/root{NOTES_OF_NPM}|{PACKED}|{FOLDER_OF_NPM}')
     folder = f'{HOME}/project'
     yield Way('npm install', 'python3 nodejs npm', f'cd {folder} && npm install {CLONE}/release/rooplpp-*-node.tgz',
               f'cd {folder} && npm uninstall rooplpp', path=f'{folder}/node_modules/.bin', before=(PACKAGES, f'mkdir {folder}'),
