@@ -14,7 +14,7 @@ COMPILED = rf'{APP}/share/rooplpp/rpp(/\w+)*/__pycache__(/.*)?'
 # What apt and dpkg note of each installation, and what npm keeps of each call.
 NOTES_OF_APT = r'/var/(lib/dpkg|log|log/apt|cache/(apt|ldconfig)|lib/apt)/[\w.-]+|/etc/ld\.so\.cache'
 NOTES_OF_NPM = r'/\.npm(/.*)?'
-# The folder that npm makes for its first package, and keeps when the last one is gone.
+# The folder that npm makes for its first package, and keeps when the last one is gone, as it keeps `.bin` in a project's.
 FOLDER_OF_NPM = r'/usr/local/lib/node_modules'
 PACKED = rf'{CLONE}/release/[\w.-]+\.(tgz|vsix|tar|tar\.gz)'
 
@@ -77,7 +77,7 @@ def ways_of_node():
     folder = f'{HOME}/project'
     yield Way('npm install', 'python3 nodejs npm', f'cd {folder} && npm install {CLONE}/release/rooplpp-*-node.tgz',
               f'cd {folder} && npm uninstall rooplpp', path=f'{folder}/node_modules/.bin', before=(PACKAGES, f'mkdir {folder}'),
-              stays=rf'{HOME}{NOTES_OF_NPM}|{folder}/(package\.json|package-lock\.json|node_modules(/\.package-lock\.json)?)')
+              stays=rf'{HOME}{NOTES_OF_NPM}|{folder}/(package\.json|package-lock\.json|node_modules(/\.(package-lock\.json|bin))?)')
     yield Way('node without npm', 'python3 nodejs', f'tar -xzf release/rooplpp-*-node.tgz -C {HOME}', f'rm -r {HOME}/package',
               f'node {HOME}/package/{{}}.mjs', before=(PACKAGES,))
 
