@@ -16,6 +16,8 @@ NOTES_OF_APT = r'/var/(lib/dpkg|log|log/apt|cache/(apt|ldconfig)|lib/apt)/[\w.-]
 NOTES_OF_NPM = r'/\.npm(/.*)?'
 # The folder that npm makes for its first package, and keeps when the last one is gone, as it keeps `.bin` in a project's.
 FOLDER_OF_NPM = r'/usr/local/lib/node_modules'
+# What fish writes of the manuals of a system when it is first started.
+NOTES_OF_FISH = rf'{HOME}/\.local(/share(/fish(/generated_completions(/.*)?)?)?)?'
 PACKED = rf'{CLONE}/release/[\w.-]+\.(tgz|vsix|tar|tar\.gz)'
 
 
@@ -99,9 +101,10 @@ def ways_of_others():
               stays=rf'{HOME}/\.emacs(\.d(/(?!elpa/rpp-mode).*)?)?|{COMPILED}', use='emacs')
     install, remove = (it.replace('sudo apt', 'apt -y') for it in of_readme('Debian, Ubuntu'))
     shells = 'python3 bash-completion zsh fish'
-    yield Way('completion, by the Debian package', shells, install, remove, is_root=True, before=(install, remove), stays=NOTES_OF_APT, use='shells')
+    yield Way('completion, by the Debian package', shells, install, remove, is_root=True, before=(install, remove),
+              stays=f'{NOTES_OF_APT}|{NOTES_OF_FISH}', use='shells')
     install, remove = of_readme('other x86-64 Linux')
-    yield Way('completion, by --install', shells, install, remove, path=f'{HOME}/.local/bin', use='shells')
+    yield Way('completion, by --install', shells, install, remove, path=f'{HOME}/.local/bin', stays=NOTES_OF_FISH, use='shells')
 
 
 WAYS = [*ways_of_programs(), *ways_of_node(), *ways_of_others()]
