@@ -1,10 +1,9 @@
 //! The printer of programs. It writes a program token by token in the order of the grammar, with
 //! one space or one line feed between two tokens. A layer above may use `print`, whose text is
 //! `printed` of `specs/Spelled.antt`, and two laws. The lexer gives the tokens that were printed,
-//! and the parser reads them as a program that is equal up to offsets. `reread` does all three.
+//! and the parser reads them as a program that is equal up to offsets.
 #![tactic(auto)]
 
-mod again;
 mod code;
 pub mod laws;
 mod list;
@@ -12,5 +11,4 @@ mod token;
 mod value;
 mod whole;
 
-pub use again::reread;
 pub use whole::print;
