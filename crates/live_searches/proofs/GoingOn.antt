@@ -1,5 +1,5 @@
 -- Searches of more moves.
-use Rattle.std.proofs.Common.{◌≡◌, ◌∙◌, ap, refl, ℕ, zero, suc, ◌+◌, add-zero, add-suc, List, Bool, true}
+use Rattle.std.proofs.Common.{◌≡◌, ap, ℕ, zero, suc, ◌+◌, add-zero, add-suc, List, Bool, true}
 use Rattle.std.proofs.Common.{false, Some, None}
 use Rattle.std.specs.Prelude.{Option, nat_eq, if◌then◌else◌}
 use Rattle.source_debugger.specs.meaning_points.rpp_tree.Tree.{Source}

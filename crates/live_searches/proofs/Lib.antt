@@ -4,3 +4,4 @@ pub mod Looking
 pub mod Seeking
 pub mod Returning
 pub mod GoingOn
+pub mod Watching

@@ -1,15 +1,15 @@
 -- A list of positions that is under way.
-use Rattle.std.proofs.Common.{◌≡◌, ◌∙◌, sym, ap, refl, ℕ, zero, suc, ◌+◌, ◌-◌, ◌<◌, ◌≤◌, List, [], ◌∷◌, ◌++◌, true}
+use Rattle.std.proofs.Common.{◌≡◌, ◌∙◌, sym, ap, refl, ℕ, suc, ◌+◌, ◌-◌, ◌<◌, ◌≤◌, List, [], ◌++◌, true}
 use Rattle.std.proofs.Common.{false, Some, None, append-nil, append_assoc, arith}
 use Rattle.std.specs.Prelude.{Option, nat_eq}
 use Rattle.source_debugger.specs.meaning_points.rpp_tree.Views.{source_of}
 use Rattle.source_debugger.specs.meaning_points.rpp_tree.Tree.{Source}
 use Rattle.source_debugger.specs.meaning_points.Trail.{Trail}
 use Rattle.pisa_scripts.specs.declared.command.Command.{Command}
-use Rattle.source_debugger.specs.Shown.{Told, told_by}
+use Rattle.source_debugger.specs.Shown.{told_by}
 use Rattle.source_debugger.specs.Standing.{Standing, run_of}
 use Rattle.live_searches.specs.declared.moves.Outcome.{Outcome}
-use Rattle.live_searches.specs.declared.moves.Outcome.TheVariants.{Met, Made, Stopped}
+use Rattle.live_searches.specs.declared.moves.Outcome.TheVariants.{Made, Stopped}
 use Rattle.live_searches.specs.declared.moves.Step.TheVariants.{Gone, Stuck}
 use Rattle.live_searches.specs.Steps.{IsSameRun, Goes}
 use Rattle.live_searches.specs.Searches.{Found, behind_line, points}

@@ -1,15 +1,19 @@
 -- What is seen at the position of a debugger.
-use Rattle.std.proofs.Common.{◌≡◌, ◌∙◌, sym, ap, subst, ℕ, List, [], ◌∷◌, Some, None}
+use Rattle.std.proofs.Common.{◌≡◌, ◌∙◌, refl, sym, ap, subst, ℕ, List, [], ◌∷◌, Some, None}
 use Rattle.std.specs.Prelude.{Option}
 use Rattle.std.specs.Option.{option_map}
+use Rattle.source_debugger.specs.meaning_points.rpp_tree.Tree.{Source}
 use Rattle.source_debugger.specs.meaning_points.rpp_tree.Views.{source_of}
-use Rattle.pisa_scripts.specs.declared.command.Command.TheVariants.{Regs}
+use Rattle.source_debugger.specs.meaning_points.Trail.{Trail}
 use Rattle.source_debugger.specs.declared.looking.Seen.{Seen}
 use Rattle.source_debugger.specs.Looks.{seen_of}
 use Rattle.source_debugger.specs.Walks.{stand_at}
-use Rattle.source_debugger.specs.Shown.{Told, told_by, tells, regs_at}
+use Rattle.source_debugger.specs.Shown.{Told, told_by, tells}
 use Rattle.source_debugger.specs.Standing.{Standing, run_of, Leads}
-use Rattle.live_searches.specs.Goals.{depth_of, lines_of, sight}
+use Rattle.live_searches.specs.declared.goals.Glance.{Glance}
+use Rattle.live_searches.specs.Goals.{lines_by, Watch, watch_of, shown_for, depth_for, sight, sight_at, mark, mark_at}
+use Rattle.live_searches.specs.Goals.{first_of}
+use Rattle.live_searches.specs.Sights.{sight_of, look_of}
 use Rattle.live_searches.proofs.Single.{leads_told}
 
 abbrev position_of : Option Told → ℕ
@@ -31,33 +35,44 @@ tells_text : (j : ℕ) (o : Option (List ℕ)) (t : Told) → tells j o ≡ Some
 tells_text j None t e = absurd (none_some e)
 tells_text j (Some text) t e = ap (λ (u : Option Told). Some (text_of u)) e
 
-regs_position : (before after : Standing) (text : List ℕ) → Leads before (Regs ∷ []) after text
-    → after.position ≡ before.position
-regs_position before after text leads =
+look_shown : (program : Source) (trail : Trail) (object : Option ℕ) (j : ℕ)
+    → told_by program trail (look_of object) j ≡ tells j (shown_for program object (stand_at trail j))
+look_shown program trail None j = refl
+look_shown program trail (Some object) j = refl
+
+look_position : (before after : Standing) (object : Option ℕ) (text : List ℕ)
+    → Leads before (look_of object ∷ []) after text → after.position ≡ before.position
+look_position before after object text leads =
     tells_position before.position
-    (regs_at (source_of before.program) (stand_at (run_of before) before.position))
-    (record { position = after.position; text = text }) (leads_told before after Regs text leads)
+    (shown_for (source_of before.program) object (stand_at (run_of before) before.position))
+    (record { position = after.position; text = text })
+    (sym (look_shown (source_of before.program) (run_of before) object before.position)
+    ∙ leads_told before after (look_of object) text leads)
 
--- `regs` moves nothing
-pub regs_stays : (before after : Standing) (text : List ℕ) → Leads before (Regs ∷ []) after text → after ≡ before
-regs_stays before after text leads =
-    leads.same ∙ ap (λ (j : ℕ). record before { position = j }) (regs_position before after text leads)
+-- a look moves nothing
+pub look_stays : (before after : Standing) (object : Option ℕ) (text : List ℕ)
+    → Leads before (look_of object ∷ []) after text → after ≡ before
+look_stays before after object text leads =
+    leads.same ∙ ap (λ (j : ℕ). record before { position = j }) (look_position before after object text leads)
 
-pub regs_told : (before after : Standing) (text : List ℕ) → Leads before (Regs ∷ []) after text
-    → regs_at (source_of before.program) (stand_at (run_of before) before.position) ≡ Some text
-regs_told before after text leads =
+look_told : (before after : Standing) (object : Option ℕ) (text : List ℕ)
+    → Leads before (look_of object ∷ []) after text
+    → shown_for (source_of before.program) object (stand_at (run_of before) before.position) ≡ Some text
+look_told before after object text leads =
     tells_text before.position
-    (regs_at (source_of before.program) (stand_at (run_of before) before.position))
-    (record { position = after.position; text = text }) (leads_told before after Regs text leads)
+    (shown_for (source_of before.program) object (stand_at (run_of before) before.position))
+    (record { position = after.position; text = text })
+    (sym (look_shown (source_of before.program) (run_of before) object before.position)
+    ∙ leads_told before after (look_of object) text leads)
 
--- the lines of a name in what `regs` prints
-pub named_lines : (before after : Standing) (text shown name lines : List ℕ) → Leads before (Regs ∷ []) after text
-    → shown ≡ text → lines ≡ lines_of name shown
-    → option_map (lines_of name) (regs_at (source_of before.program) (stand_at (run_of before) before.position))
-    ≡ Some lines
-named_lines before after text shown name lines leads shown_is is =
-    ap (option_map (lines_of name)) (regs_told before after text leads)
-    ∙ ap Some (sym (is ∙ ap (lines_of name) shown_is))
+-- the lines of what is watched in what is printed
+pub watched_lines : (before after : Standing) (object : Option ℕ) (text shown start lines : List ℕ)
+    → Leads before (look_of object ∷ []) after text → shown ≡ text → lines ≡ lines_by start shown
+    → option_map (lines_by start)
+    (shown_for (source_of before.program) object (stand_at (run_of before) before.position)) ≡ Some lines
+watched_lines before after object text shown start lines leads shown_is is =
+    ap (option_map (lines_by start)) (look_told before after object text leads)
+    ∙ ap Some (sym (is ∙ ap (lines_by start) shown_is))
 
 -- ---- sights
 
@@ -65,30 +80,36 @@ abbrev or_nothing : Option (List ℕ) → List ℕ
 or_nothing None = []
 or_nothing (Some text) = text
 
-sight_by : (name : List ℕ) (s : Option Seen) (seen : Seen) (regs : Option (List ℕ)) (lines : List ℕ) (depth : ℕ)
-    → s ≡ Some seen → option_map (lines_of name) regs ≡ Some lines → depth ≡ depth_of seen
-    → sight name s regs ≡ Some (record { depth = depth; lines = lines })
-sight_by name s seen None lines depth s_is regs_is depth_is = absurd (none_some regs_is)
-sight_by name s seen (Some text) lines depth s_is regs_is depth_is =
-    ap (λ (o : Option Seen). sight name o (Some text)) s_is
-    ∙ ap (λ (o : Option (List ℕ)). Some (record { depth = depth_of seen; lines = or_nothing o })) regs_is
+sight_by : (watch : Watch) (s : Option Seen) (seen : Seen) (shown : Option (List ℕ)) (lines : List ℕ) (depth : ℕ)
+    → s ≡ Some seen → option_map (lines_by watch.start) shown ≡ Some lines → depth ≡ depth_for watch.object seen
+    → sight watch s shown ≡ Some (record { depth = depth; lines = lines })
+sight_by watch s seen None lines depth s_is shown_is depth_is = absurd (none_some shown_is)
+sight_by watch s seen (Some text) lines depth s_is shown_is depth_is =
+    ap (λ (o : Option Seen). sight watch o (Some text)) s_is
+    ∙ ap (λ (o : Option (List ℕ)). Some (record { depth = depth_for watch.object seen; lines = or_nothing o })) shown_is
     ∙ ap (λ (d : ℕ). Some (record { depth = d; lines = lines })) (sym depth_is)
 
-pub sighted : (before between : Standing) (first name lines : List ℕ) (seen : Seen) (depth : ℕ)
-    → between ≡ before → first ≡ name
-    → seen_of (stand_at (run_of before) before.position) ≡ Some seen
-    → option_map (lines_of first)
-    (regs_at (source_of between.program) (stand_at (run_of between) between.position))
-    ≡ Some lines
-    → depth ≡ depth_of seen
-    → sight name (seen_of (stand_at (run_of before) before.position))
-    (regs_at (source_of before.program) (stand_at (run_of before) before.position))
+pub sighted : (before between : Standing) (watch : Watch) (lines : List ℕ) (seen : Seen) (depth : ℕ)
+    → between ≡ before → seen_of (stand_at (run_of before) before.position) ≡ Some seen
+    → option_map (lines_by watch.start)
+    (shown_for (source_of between.program) watch.object (stand_at (run_of between) between.position)) ≡ Some lines
+    → depth ≡ depth_for watch.object seen
+    → sight watch (seen_of (stand_at (run_of before) before.position))
+    (shown_for (source_of before.program) watch.object (stand_at (run_of before) before.position))
     ≡ Some (record { depth = depth; lines = lines })
-sighted before between first name lines seen depth same first_is seen_is lines_is depth_is =
-    sight_by name (seen_of (stand_at (run_of before) before.position)) seen
-    (regs_at (source_of before.program) (stand_at (run_of before) before.position)) lines depth seen_is
-    (subst (λ (d : Standing). option_map (lines_of name)
-    (regs_at (source_of d.program) (stand_at (run_of d) d.position)) ≡ Some lines) same
-    (subst (λ (n : List ℕ). option_map (lines_of n)
-    (regs_at (source_of between.program) (stand_at (run_of between) between.position)) ≡ Some lines) first_is lines_is))
+sighted before between watch lines seen depth same seen_is lines_is depth_is =
+    sight_by watch (seen_of (stand_at (run_of before) before.position)) seen
+    (shown_for (source_of before.program) watch.object (stand_at (run_of before) before.position)) lines depth seen_is
+    (subst (λ (d : Standing). option_map (lines_by watch.start)
+    (shown_for (source_of d.program) watch.object (stand_at (run_of d) d.position)) ≡ Some lines) same lines_is)
     depth_is
+
+-- what is watched, and how it is
+pub marked : (d : Standing) (arguments : List (List ℕ)) (watch : Watch) (glance : Glance)
+    → watch ≡ watch_of (first_of arguments)
+    → sight_at (source_of d.program) (run_of d) watch d.position ≡ Some (sight_of glance)
+    → mark_at (source_of d.program) (run_of d) arguments d.position
+    ≡ Some (record { watch = watch; sight = sight_of glance })
+marked d arguments watch glance watch_is is =
+    ap (λ (w : Watch). mark w (sight_at (source_of d.program) (run_of d) w d.position)) (sym watch_is)
+    ∙ ap (mark watch) is

@@ -1,6 +1,6 @@
 -- A search that is under way.
-use Rattle.std.proofs.Common.{◌≡◌, ◌∙◌, sym, ap, subst, refl, ℕ, zero, suc, ◌+◌, ◌-◌, ◌<◌, ◌≤◌, List, [], ◌∷◌, ◌++◌}
-use Rattle.std.proofs.Common.{Bool, true, false, Some, None, Result, Ok, Err}
+use Rattle.std.proofs.Common.{◌≡◌, ◌∙◌, sym, ap, subst, refl, ℕ, suc, ◌+◌, ◌-◌, ◌<◌, ◌≤◌, List, [], ◌∷◌, ◌++◌}
+use Rattle.std.proofs.Common.{Bool, true, false, Some, Result, Ok, Err}
 use Rattle.std.specs.Prelude.{Option, nat_eq, IfOk, string_bytes}
 use Rattle.source_debugger.specs.meaning_points.rpp_tree.Views.{source_of}
 use Rattle.pisa_scripts.specs.declared.command.Command.{Command}
@@ -15,18 +15,18 @@ use Rattle.live_searches.specs.declared.moves.Step.TheVariants.{Gone, Stuck}
 use Rattle.live_searches.specs.declared.searches.Turn.{Turn}
 use Rattle.live_searches.specs.declared.searches.Turn.TheVariants.{On, Over, Lost}
 use Rattle.live_searches.specs.Steps.{IsSameRun, Goes}
-use Rattle.live_searches.specs.Goals.{Sight, sight_at, wanted}
+use Rattle.live_searches.specs.Goals.{Mark, mark_at, wanted}
 use Rattle.live_searches.specs.Searches.{Found, and_seek, all_made, seek}
 use Rattle.live_searches.specs.Turns.{IsJudged, IsTurn}
 use Rattle.live_searches.proofs.Single.{leads_told, same_run}
 use Rattle.live_searches.proofs.Listing.{found_at, all_left, one_less, none_left}
 
 -- what a search looks for that began with this sight
-abbrev pub looks : Goal → List (List ℕ) → Sight → Standing → ℕ → Bool
+abbrev pub looks : Goal → List (List ℕ) → Mark → Standing → ℕ → Bool
 looks goal arguments from d = wanted (source_of d.program) (run_of d) goal arguments (Some from)
 
 -- what a search from a debugger on comes to
-abbrev pub sought : Goal → List (List ℕ) → Sight → Command → Standing → (n j : ℕ) → Option Found
+abbrev pub sought : Goal → List (List ℕ) → Mark → Command → Standing → (n j : ℕ) → Option Found
 sought goal arguments from way d n j =
     seek (source_of d.program) (run_of d) way (looks goal arguments from d) n j
 
@@ -62,14 +62,14 @@ judged_on before between after way test line (Over it) told moved same judged = 
     ∙ ap (λ (k : ℕ). found_at k line Met) (sym (ap (λ (d : Standing). d.position) same))
     ∙ ap (λ (t : List ℕ). found_at after.position t Met) (sym judged.1)
     ∙ ap (λ (h : Outcome). found_at after.position (string_bytes it.text) h) (sym judged.2)
-judged_on before between after way test line Lost told moved same judged = tt
+judged_on before between after way test line (Lost lack) told moved same judged = tt
 
 -- the line that a move printed is all that there is
 line_is : (old new line : List ℕ) → old ≡ [] → new ≡ old ++ line → line ≡ new
 line_is old new line empty added = sym (added ∙ ap (λ (o : List ℕ). o ++ line) empty)
 
 pub turn_goes : (before between after : Standing) (way : Command) (goal : Goal) (arguments : List (List ℕ))
-    (from : Sight) (old new : List ℕ) (t : Turn) → old ≡ [] → Goes before way between old new Gone
+    (from : Mark) (old new : List ℕ) (t : Turn) → old ≡ [] → Goes before way between old new Gone
     → after ≡ between → IsJudged new (looks goal arguments from between between.position) t
     → IsTurn before way (looks goal arguments from before) after t
 turn_goes before between after way goal arguments from old new t empty goes same judged =
@@ -79,7 +79,7 @@ turn_goes before between after way goal arguments from old new t empty goes same
     (subst (λ (d : Standing). IsJudged new (looks goal arguments from d between.position) t) goes.0.same judged)
 
 pub turn_stops : (before after : Standing) (way : Command) (goal : Goal) (arguments : List (List ℕ))
-    (from : Sight) (old new : List ℕ) (it : Moved) → old ≡ [] → Goes before way after old new Stuck
+    (from : Mark) (old new : List ℕ) (it : Moved) → old ≡ [] → Goes before way after old new Stuck
     → string_bytes it.text ≡ new → it.how ≡ Stopped
     → IsTurn before way (looks goal arguments from before) after (Over it)
 turn_stops before after way goal arguments from old new it empty goes text how = λ next.
@@ -92,13 +92,13 @@ turn_stops before after way goal arguments from old new it empty goes text how =
 -- ---- many moves
 
 -- so many moves were made, and those that are left decide
-pub record IsSeeking (start : Standing) (way : Command) (goal : Goal) (arguments : List (List ℕ)) (from : Sight)
+pub record IsSeeking (start : Standing) (way : Command) (goal : Goal) (arguments : List (List ℕ)) (from : Mark)
     (n i : ℕ) (now : Standing) : Type 0 where
   pub whole : sought goal arguments from way start n start.position
       ≡ sought goal arguments from way start (n - i) now.position
   pub same : IsSameRun start now
 
-pub seeking_begins : (start : Standing) (way : Command) (goal : Goal) (arguments : List (List ℕ)) (from : Sight)
+pub seeking_begins : (start : Standing) (way : Command) (goal : Goal) (arguments : List (List ℕ)) (from : Mark)
     (n : ℕ) → IsSeeking start way goal arguments from n 0 start
 seeking_begins start way goal arguments from n = record {
   whole = ap (λ (m : ℕ). sought goal arguments from way start m start.position) (all_left n);
@@ -106,7 +106,7 @@ seeking_begins start way goal arguments from n = record {
 }
 
 -- what is left begins with one more move
-whole_next : (start now : Standing) (way : Command) (goal : Goal) (arguments : List (List ℕ)) (from : Sight)
+whole_next : (start now : Standing) (way : Command) (goal : Goal) (arguments : List (List ℕ)) (from : Mark)
     (n i : ℕ) → i < n → IsSeeking start way goal arguments from n i now
     → sought goal arguments from way start n start.position
     ≡ sought goal arguments from way start (suc (n - (i + 1))) now.position
@@ -115,7 +115,7 @@ whole_next start now way goal arguments from n i less h =
 
 -- a turn in the run of the start
 turn_at_start : (start before after : Standing) (way : Command) (goal : Goal) (arguments : List (List ℕ))
-    (from : Sight) (next : ℕ → Option Found) (o : Option Found) → IsSameRun start before
+    (from : Mark) (next : ℕ → Option Found) (o : Option Found) → IsSameRun start before
     → and_seek (looks goal arguments from before) before.position
     (told_by (source_of before.program) (run_of before) way before.position) next ≡ o
     → and_seek (looks goal arguments from start) before.position
@@ -125,7 +125,7 @@ turn_at_start start before after way goal arguments from next o same h =
     (told_by (source_of d.program) (run_of d) way before.position) next ≡ o) same h
 
 pub seeking_goes : (start before after : Standing) (way : Command) (goal : Goal) (arguments : List (List ℕ))
-    (from : Sight) (n i : ℕ) → i < n → IsSeeking start way goal arguments from n i before
+    (from : Mark) (n i : ℕ) → i < n → IsSeeking start way goal arguments from n i before
     → IsTurn before way (looks goal arguments from before) after On → IsSameRun before after
     → IsSeeking start way goal arguments from n (i + 1) after
 seeking_goes start before after way goal arguments from n i less h turn same =
@@ -137,7 +137,7 @@ seeking_goes start before after way goal arguments from n i less h turn same =
     }
 
 pub seeking_ends : (start before after : Standing) (way : Command) (goal : Goal) (arguments : List (List ℕ))
-    (from : Sight) (n i : ℕ) (it : Moved) → i < n → IsSeeking start way goal arguments from n i before
+    (from : Mark) (n i : ℕ) (it : Moved) → i < n → IsSeeking start way goal arguments from n i before
     → IsTurn before way (looks goal arguments from before) after (Over it)
     → sought goal arguments from way start n start.position
     ≡ found_at after.position (string_bytes it.text) it.how
@@ -149,7 +149,7 @@ seeking_ends start before after way goal arguments from n i it less h turn =
 
 -- all moves are made
 pub seeking_over : (start before after : Standing) (way : Command) (goal : Goal) (arguments : List (List ℕ))
-    (from : Sight) (n i : ℕ) {E : Type 0} (result : Result Moved E) → n ≤ i
+    (from : Mark) (n i : ℕ) {E : Type 0} (result : Result Moved E) → n ≤ i
     → IsSeeking start way goal arguments from n i before
     → IfOk result (λ (it : Moved). all_made (told_by (source_of before.program) (run_of before) (command.Step 0)
     before.position) ≡ found_at after.position (string_bytes it.text) it.how)
@@ -175,16 +175,16 @@ stop_told before after old new line it leads empty added text how =
 
 -- the sight from which a search began
 pub seek_from : (before between after : Standing) (way : Command) (goal : Goal) (arguments : List (List ℕ))
-    (from : Sight) (n : ℕ) {E : Type 0} (result : Result Moved E) → between ≡ before
-    → sight_at (source_of before.program) (run_of before) arguments before.position ≡ Some from
+    (from : Mark) (n : ℕ) {E : Type 0} (result : Result Moved E) → between ≡ before
+    → mark_at (source_of before.program) (run_of before) arguments before.position ≡ Some from
     → IfOk result (λ (it : Moved). sought goal arguments from way between n between.position
     ≡ found_at after.position (string_bytes it.text) it.how)
     → IfOk result (λ (it : Moved). seek (source_of before.program) (run_of before) way
     (wanted (source_of before.program) (run_of before) goal arguments
-    (sight_at (source_of before.program) (run_of before) arguments before.position)) n before.position
+    (mark_at (source_of before.program) (run_of before) arguments before.position)) n before.position
     ≡ found_at after.position (string_bytes it.text) it.how)
 seek_from before between after way goal arguments from n result same sight_is h =
-    subst (λ (s : Option Sight). IfOk result (λ (it : Moved). seek (source_of before.program) (run_of before) way
+    subst (λ (s : Option Mark). IfOk result (λ (it : Moved). seek (source_of before.program) (run_of before) way
     (wanted (source_of before.program) (run_of before) goal arguments s) n before.position
     ≡ found_at after.position (string_bytes it.text) it.how)) (sym sight_is)
     (subst (λ (d : Standing). IfOk result (λ (it : Moved). sought goal arguments from way d n d.position

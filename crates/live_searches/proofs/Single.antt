@@ -60,7 +60,7 @@ pub goes_same : (before after : Standing) (way : Command) (old new : List ℕ) (
     → Goes before way after old new step → IsSameRun before after
 goes_same before after way old new Gone g = g.0.same
 goes_same before after way old new Stuck g = g.0.same
-goes_same before after way old new Lost g = stays_same before after g
+goes_same before after way old new (Lost lack) g = stays_same before after g
 
 -- the run that a command was given in is that of the start
 pub told_at_start : (start before : Standing) (way : Command) (t : Told) → IsSameRun start before

@@ -1,17 +1,17 @@
 -- What moves look for, as a property of positions.
-use Rattle.std.specs.Prelude.{ℕ, Bool, true, false, not, nat_eq, nat_lt, nat_le}
+use Rattle.std.specs.Prelude.{ℕ, ◌-◌, ◌^◌, Bool, true, false, not, nat_eq, nat_lt, nat_le}
 use Rattle.std.specs.Prelude.{if◌then◌else◌, List, [], ◌∷◌, ◌++◌, codes, Option, Some, None}
 use Rattle.std.specs.List.{starts_with}
 use Rattle.std.specs.Str.{bytes_eq}
 use Rattle.pisa_scripts.specs.rpp_words.Texts.{line_end}
-use Rattle.pisa_scripts.specs.Lines.{pieces, short_number}
+use Rattle.pisa_scripts.specs.Lines.{pieces, number_up_to, short_number}
 use Rattle.source_debugger.specs.meaning_points.rpp_tree.Tree.{Source}
 use Rattle.source_debugger.specs.meaning_points.Trail.{Trail}
 use Rattle.source_debugger.specs.declared.looking.Seen.{Seen}
 use Rattle.source_debugger.specs.declared.looking.Seen.TheVariants.{At, End}
 use Rattle.source_debugger.specs.Looks.{seen_of}
-use Rattle.source_debugger.specs.Walks.{stand_at}
-use Rattle.source_debugger.specs.Shown.{regs_at}
+use Rattle.source_debugger.specs.Walks.{Stand, stand_at}
+use Rattle.source_debugger.specs.Shown.{regs_at, cells_at}
 use Rattle.live_searches.specs.declared.asks.Goal.{Goal}
 use Rattle.live_searches.specs.declared.asks.Goal.TheVariants.{Points, Any, Depth, Change}
 
@@ -39,7 +39,7 @@ abbrev pub depth_of : Seen → ℕ
 depth_of (At place depth) = depth
 depth_of End = 1
 
--- ---- what `regs` prints of a name
+-- ---- what is watched
 
 abbrev pub kept_line : Bool → List ℕ → List ℕ
 kept_line true line = line ++ line_end
@@ -51,38 +51,102 @@ lines_from start [] = []
 lines_from start (line ∷ lines) =
     kept_line (starts_with nat_eq line start) line ++ lines_from start lines
 
--- the lines `NAME = V` of a text
-abbrev pub lines_of : (name : List ℕ) → (text : List ℕ) → List ℕ
-lines_of name text = lines_from (name ++ codes " = ") (pieces 10 text)
+-- the same of a text
+abbrev pub lines_by : (start : List ℕ) → (text : List ℕ) → List ℕ
+lines_by start text = lines_from start (pieces 10 text)
 
--- the number of active calls at a position, and the lines of a name
+-- an object, or none for the variables of the method that runs, and how the lines of the field,
+-- element or variable begin
+pub record Watch : Type 0 where
+  pub object : Option ℕ
+  pub start : List ℕ
+
+-- K of `#K`
+abbrev pub object_number : List ℕ → Option ℕ
+object_number [] = None
+object_number (b ∷ digits) = if nat_eq b 35 then number_up_to (2 ^ 32 - 1) digits else None
+
+abbrev pub object_watch : (start : List ℕ) → Option ℕ → Option Watch
+object_watch start None = None
+object_watch start (Some object) = Some (record { object = Some object; start = start })
+
+-- `#K` and the label of a field or element, which a byte parts; its lines begin with `before`
+abbrev pub cell_watch : (before : List ℕ) → List (List ℕ) → Option Watch
+cell_watch before (object ∷ label ∷ []) =
+    object_watch (before ++ (label ++ codes " = ")) (object_number object)
+cell_watch before _ = None
+
+abbrev pub or_watch : Option Watch → Watch → Watch
+or_watch None other = other
+or_watch (Some watch) other = watch
+
+abbrev pub variable_watch : List ℕ → Watch
+variable_watch name = record { object = None; start = name ++ codes " = " }
+
+-- `#K.FIELD`, `#K[I]`, or else a variable or field NAME of the method that runs
+unfoldable pub watch_of : List ℕ → Watch
+watch_of name = or_watch (cell_watch (codes "  ") (pieces 46 name))
+    (or_watch (cell_watch (codes "  [") (pieces 91 name)) (variable_watch name))
+
+-- what `cells K 1` prints, or `regs`
+abbrev pub shown_for : Source → (object : Option ℕ) → Stand → Option (List ℕ)
+shown_for program None stand = regs_at program stand
+shown_for program (Some object) stand = cells_at program object 1 stand
+
+-- an object is watched in all calls
+abbrev pub depth_for : (object : Option ℕ) → Seen → ℕ
+depth_for None seen = depth_of seen
+depth_for (Some object) seen = 0
+
+-- the number of active calls at a position, and the lines of what is watched
 pub record Sight : Type 0 where
   pub depth : ℕ
   pub lines : List ℕ
 
-abbrev pub sight : (name : List ℕ) → Option Seen → (regs : Option (List ℕ)) → Option Sight
-sight name None regs = None
-sight name (Some seen) None = None
-sight name (Some seen) (Some regs) =
-    Some (record { depth = depth_of seen; lines = lines_of name regs })
+abbrev pub sight : Watch → Option Seen → (shown : Option (List ℕ)) → Option Sight
+sight watch None shown = None
+sight watch (Some seen) None = None
+sight watch (Some seen) (Some text) = Some (record {
+  depth = depth_for watch.object seen;
+  lines = lines_by watch.start text;
+})
+
+unfoldable pub sight_at : Source → Trail → Watch → ℕ → Option Sight
+sight_at program trail watch j = sight watch (seen_of (stand_at trail j))
+    (shown_for program watch.object (stand_at trail j))
+
+-- what is watched, and how it was at the beginning
+pub record Mark : Type 0 where
+  pub watch : Watch
+  pub sight : Sight
+
+abbrev pub mark : Watch → Option Sight → Option Mark
+mark watch None = None
+mark watch (Some sight) = Some (record { watch = watch; sight = sight })
 
 abbrev pub first_of : List (List ℕ) → List ℕ
 first_of [] = []
 first_of (word ∷ words) = word
 
--- the same of the name among the arguments
-unfoldable pub sight_at : Source → Trail → (arguments : List (List ℕ)) → ℕ → Option Sight
-sight_at program trail arguments j =
-    sight (first_of arguments) (seen_of (stand_at trail j)) (regs_at program (stand_at trail j))
+-- the first of the arguments is watched from a position on
+abbrev pub mark_at : Source → Trail → (arguments : List (List ℕ)) → ℕ → Option Mark
+mark_at program trail arguments j = mark (watch_of (first_of arguments))
+    (sight_at program trail (watch_of (first_of arguments)) j)
 
 -- fewer calls are active, or as many and the lines are not the same
 abbrev pub is_change : (from here : Sight) → Bool
 is_change from here = if nat_lt here.depth from.depth then true
     else if nat_lt from.depth here.depth then false else not (bytes_eq here.lines from.lines)
 
-abbrev pub is_changed : (from here : Option Sight) → Bool
-is_changed (Some from) (Some here) = is_change from here
-is_changed _ _ = false
+abbrev pub is_changed : (from : Sight) → (here : Option Sight) → Bool
+is_changed from None = false
+is_changed from (Some here) = is_change from here
+
+-- whether what is watched has changed at a position
+abbrev pub changed_at : Source → Trail → Option Mark → ℕ → Bool
+changed_at program trail None j = false
+changed_at program trail (Some from) j =
+    is_changed from.sight (sight_at program trail from.watch j)
 
 -- ---- goals
 
@@ -94,11 +158,10 @@ abbrev pub depth_met : (most : ℕ) → Option Seen → Bool
 depth_met most None = false
 depth_met most (Some seen) = nat_le (depth_of seen) most
 
--- whether moves look for a position that began at one with this sight
-unfoldable pub wanted : Source → Trail → Goal → (arguments : List (List ℕ)) → (from : Option Sight)
+-- whether moves look for a position that began with this mark
+unfoldable pub wanted : Source → Trail → Goal → (arguments : List (List ℕ)) → (from : Option Mark)
     → ℕ → Bool
 wanted program trail Points arguments from j = false
 wanted program trail Any arguments from j = any_met arguments (seen_of (stand_at trail j))
 wanted program trail (Depth most) arguments from j = depth_met most (seen_of (stand_at trail j))
-wanted program trail Change arguments from j =
-    is_changed from (sight_at program trail arguments j)
+wanted program trail Change arguments from j = changed_at program trail from j

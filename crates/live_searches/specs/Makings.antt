@@ -8,7 +8,7 @@ use Rattle.live_searches.specs.declared.asks.Ask.{Ask}
 use Rattle.live_searches.specs.declared.asks.Goal.{Goal}
 use Rattle.live_searches.specs.declared.asks.Goal.TheVariants.{Points}
 use Rattle.live_searches.specs.Steps.{way_of}
-use Rattle.live_searches.specs.Goals.{sight_at, wanted}
+use Rattle.live_searches.specs.Goals.{mark_at, wanted}
 use Rattle.live_searches.specs.Searches.{Found, points, seek}
 
 abbrev pub made_by : Source → Trail → Goal → (way : Command) → (arguments : List (List ℕ))
@@ -16,7 +16,7 @@ abbrev pub made_by : Source → Trail → Goal → (way : Command) → (argument
 made_by program trail Points way arguments n j = points program trail way n j
 made_by program trail goal way arguments n j =
     seek program trail way
-    (wanted program trail goal arguments (sight_at program trail arguments j)) n j
+    (wanted program trail goal arguments (mark_at program trail arguments j)) n j
 
 -- moves from a position on, as they are asked for
 unfoldable pub made : Source → Trail → Ask → (arguments : List (List ℕ)) → ℕ → Option Found

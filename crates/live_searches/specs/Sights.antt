@@ -1,6 +1,22 @@
--- What `until change` compares, as it is kept.
-use Rattle.live_searches.specs.declared.goals.Mark.{Mark}
-use Rattle.live_searches.specs.Goals.{Sight}
+-- What `until change` watches and compares, as it is kept.
+use Rattle.std.specs.Prelude.{ℕ, Option, Some, None}
+use Rattle.pisa_scripts.specs.declared.command.Command.{Command}
+use Rattle.pisa_scripts.specs.declared.command.Command.TheVariants.{Regs, Cells}
+use Rattle.live_searches.specs.declared.watches.Watch.{Watch as KeptWatch}
+use Rattle.live_searches.specs.declared.goals.Glance.{Glance}
+use Rattle.live_searches.specs.declared.goals.Mark.{Mark as KeptMark}
+use Rattle.live_searches.specs.Goals.{Watch, Sight, Mark}
 
-abbrev pub sight_of : Mark → Sight
-sight_of mark = record { depth = mark.depth; lines = mark.lines.items }
+abbrev pub watch_in : KeptWatch → Watch
+watch_in watch = record { object = watch.object; start = watch.start.items }
+
+abbrev pub sight_of : Glance → Sight
+sight_of glance = record { depth = glance.depth; lines = glance.lines.items }
+
+abbrev pub mark_of : KeptMark → Mark
+mark_of kept = record { watch = watch_in kept.watch; sight = sight_of kept.glance }
+
+-- the command that shows an object, or the variables
+abbrev pub look_of : (object : Option ℕ) → Command
+look_of None = Regs
+look_of (Some object) = Cells object 1

@@ -32,4 +32,4 @@ Goes before way after old new Gone = LeadsBy before way after old new
     × (nat_eq after.position before.position ≡ false)
 Goes before way after old new Stuck = LeadsBy before way after old new
     × (nat_eq after.position before.position ≡ true)
-Goes before way after old new Lost = after ≡ before
+Goes before way after old new (Lost lack) = after ≡ before

@@ -5,7 +5,6 @@ use Rattle.source_debugger.specs.meaning_points.rpp_tree.Views.{source_of}
 use Rattle.pisa_scripts.specs.declared.command.Command.{Command}
 use Rattle.source_debugger.specs.Shown.{told_by}
 use Rattle.source_debugger.specs.Standing.{Standing, run_of}
-use Rattle.live_searches.specs.declared.moves.Moved.{Moved}
 use Rattle.live_searches.specs.declared.moves.Outcome.TheVariants as outcome
 use Rattle.live_searches.specs.declared.searches.Turn.{Turn}
 use Rattle.live_searches.specs.declared.searches.Turn.TheVariants.{On, Over, Lost}
@@ -16,7 +15,7 @@ abbrev pub IsJudged : (line : List ℕ) → (wanted : Bool) → Turn → Type 0
 IsJudged line wanted On = wanted ≡ false
 IsJudged line wanted (Over moved) = (wanted ≡ true) × (string_bytes moved.text ≡ line)
     × (moved.how ≡ outcome.Met)
-IsJudged line wanted Lost = ⊤
+IsJudged line wanted (Lost lack) = ⊤
 
 -- a move led there, and the search goes on or ended, whatever comes next
 abbrev pub IsTurn : (before : Standing) → (way : Command) → (wanted : ℕ → Bool)
@@ -35,4 +34,4 @@ IsTurn before way wanted after (Over moved) =
       text = string_bytes moved.text;
       how = moved.how;
     })
-IsTurn before way wanted after Lost = ⊤
+IsTurn before way wanted after (Lost lack) = ⊤

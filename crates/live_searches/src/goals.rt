@@ -1,25 +1,32 @@
 // What moves look for.
-ghost use Rattle.std.specs.Prelude.{◌≡◌, ◌++◌, nat_le, IfOk, OnOk, Some, codes, map};
+ghost use Rattle.std.specs.Prelude.{◌≡◌, ◌++◌, nat_le, IfOk, OnOk, Some, map};
 ghost use Rattle.std.specs.Option.{option_map};
 ghost use Rattle.source_debugger.specs.meaning_points.rpp_tree.Views.{source_of};
 ghost use Rattle.source_debugger.specs.Looks.{seen_of};
 ghost use Rattle.source_debugger.specs.Walks.{stand_at};
-ghost use Rattle.source_debugger.specs.Shown.{regs_at};
 ghost use Rattle.source_debugger.specs.Standing.{run_of};
-ghost use Rattle.live_searches.specs.Goals.{is_place as is_place_of, is_any as is_any_of, has_any as has_any_of, depth_of, kept_line, lines_from, lines_of as lines_of_name, sight_at, is_change as is_change_of, is_changed, first_of, any_met, depth_met, wanted as wanted_at};
-ghost use Rattle.live_searches.specs.Sights.{sight_of};
+ghost use Rattle.live_searches.specs.Goals.{is_place as is_place_of, is_any as is_any_of, has_any as has_any_of, depth_of, kept_line, lines_from, lines_by as lines_of_start, shown_for, depth_for as depth_of_watch, sight_at, mark_at, is_change as is_change_of, changed_at, first_of, any_met, depth_met, wanted as wanted_at};
+ghost use Rattle.live_searches.specs.Sights.{watch_in, sight_of, mark_of, look_of};
 
 use crate::asks::Goal;
+use crate::watches::{Watch, read_watch};
 use pisa_scripts::{Command, pieces, short_number};
 use rpp_words::NoMemory;
 use source_debugger::{Seen, SourceDebugger};
 use std::alloc::{AllocError, Global};
 
-// What `until change` compares: the number of active calls, and the lines of a name.
+// What `until change` compares: the number of active calls, and the lines of what is watched.
 #[derive(Drop)]
-pub(crate) struct Mark {
+pub(crate) struct Glance {
     pub depth: u32,
     pub lines: Vec<u8>,
+}
+
+// What `until change` watches, and how it was at the beginning.
+#[derive(Drop)]
+pub(crate) struct Mark {
+    pub watch: Watch,
+    pub glance: Glance,
 }
 
 fn is_place(number: Option<u64>, place: u32) -> bool
@@ -90,42 +97,40 @@ fn add_lines(kept: &mut Vec<u8>, start: &[u8], lines: &[&[u8]]) -> Result<(), Al
     }
 }
 
-// How the lines of a name begin.
-fn start_of(alloc: Global, name: &[u8]) -> Result<Vec<u8>, AllocError>
-    ensures { IfOk result (λ start. start.items ≡ name.now ++ codes " = ") }
+// The lines of a text that begin so.
+fn lines_by(alloc: Global, start: &[u8], text: &[u8]) -> Result<Vec<u8>, AllocError>
+    ensures { IfOk result (λ lines. lines.items ≡ lines_of_start start.now text.now) }
 {
-    let mut start = Vec::new(alloc);
-    start.extend_from_slice(name)?;
-    start.extend_from_slice(b" = ")?;
-    Ok(start)
-}
-
-// The lines of a name in a text.
-fn lines_of(alloc: Global, name: &[u8], text: &[u8]) -> Result<Vec<u8>, AllocError>
-    ensures { IfOk result (λ lines. lines.items ≡ lines_of_name name.now text.now) }
-{
-    let start = start_of(alloc, name)?;
     let lines = pieces(alloc, b'\n', text)?;
     let mut kept = Vec::new(alloc);
-    add_lines(&mut kept, &start, &lines)?;
+    add_lines(&mut kept, start, &lines)?;
     Ok(kept)
 }
 
-// The lines of a name that `regs` prints at the position.
-fn regs_lines(
+// The command that shows an object, or the variables.
+fn look_command(object: Option<u32>) -> Command
+    ensures { result ≡ look_of object }
+{
+    match object {
+        None => Command::Regs,
+        Some(object) => Command::Cells(object, 1),
+    }
+}
+
+// The lines of what is watched, as they are printed at the position.
+fn watched_lines(
     alloc: Global,
     debugger: &mut SourceDebugger<'_>,
-    name: &[u8],
+    watch: &Watch,
 ) -> Result<Vec<u8>, NoMemory>
-    ensures told { IfOk result (λ lines. option_map (lines_of_name name.now)
-        (regs_at (source_of debugger.old.program)
-        (stand_at (run_of debugger.old) debugger.old.position))
-        ≡ Some lines.items) }
+    ensures told { IfOk result (λ lines. option_map (lines_of_start watch.now.start.items)
+        (shown_for (source_of debugger.old.program) watch.now.object
+        (stand_at (run_of debugger.old) debugger.old.position)) ≡ Some lines.items) }
     ensures stays { debugger.new ≡ debugger.old }
 {
     let mut text = String::new(alloc);
-    debugger.command(alloc, &Command::Regs, &mut text)?;
-    let lines = lines_of(alloc, name, text.as_str().as_bytes())?;
+    debugger.command(alloc, &look_command(watch.object), &mut text)?;
+    let lines = lines_by(alloc, &watch.start, text.as_str().as_bytes())?;
     Ok(lines)
 }
 
@@ -138,27 +143,53 @@ fn first_word<'a>(words: &'a [&'a [u8]]) -> &'a [u8]
     }
 }
 
-/// What `until change` compares at the position.
+// The number of active calls that counts for what is watched.
+fn depth_for(object: Option<u32>, seen: Seen) -> u32
+    ensures { result ≡ depth_of_watch object seen }
+{
+    match object {
+        None => depth_in(seen),
+        Some(_object) => 0,
+    }
+}
+
+// What `until change` compares at the position.
+fn make_glance(
+    alloc: Global,
+    debugger: &mut SourceDebugger<'_>,
+    watch: &Watch,
+) -> Result<Glance, NoMemory>
+    ensures told { IfOk result (λ glance. sight_at (source_of debugger.old.program)
+        (run_of debugger.old) (watch_in watch.now) debugger.old.position
+        ≡ Some (sight_of glance)) }
+    ensures stays { debugger.new ≡ debugger.old }
+{
+    let seen = debugger.look(alloc)?;
+    let lines = watched_lines(alloc, debugger, watch)?;
+    Ok(Glance {
+        depth: depth_for(watch.object, seen),
+        lines,
+    })
+}
+
+/// What `until change` watches, as it is at the position.
 pub(crate) fn make_mark(
     alloc: Global,
     debugger: &mut SourceDebugger<'_>,
     arguments: &[&[u8]],
 ) -> Result<Mark, NoMemory>
-    ensures told { IfOk result (λ mark. sight_at (source_of debugger.old.program)
+    ensures told { IfOk result (λ mark. mark_at (source_of debugger.old.program)
         (run_of debugger.old) (map (λ word. word.now) arguments.now) debugger.old.position
-        ≡ Some (sight_of mark)) }
+        ≡ Some (mark_of mark)) }
     ensures stays { debugger.new ≡ debugger.old }
 {
-    let seen = debugger.look(alloc)?;
-    let lines = regs_lines(alloc, debugger, first_word(arguments))?;
-    Ok(Mark {
-        depth: depth_in(seen),
-        lines,
-    })
+    let watch = read_watch(alloc, first_word(arguments))?;
+    let glance = make_glance(alloc, debugger, &watch)?;
+    Ok(Mark { watch, glance })
 }
 
 // Whether fewer calls are active, or as many and the lines are not the same.
-fn is_change(from: &Mark, here: &Mark) -> bool
+fn is_change(from: &Glance, here: &Glance) -> bool
     ensures { result ≡ is_change_of (sight_of from.now) (sight_of here.now) }
 {
     if here.depth < from.depth {
@@ -204,16 +235,14 @@ fn depth_here(alloc: Global, debugger: &mut SourceDebugger<'_>, most: u64) -> Re
 fn change_here(
     alloc: Global,
     debugger: &mut SourceDebugger<'_>,
-    arguments: &[&[u8]],
     from: &Mark,
 ) -> Result<bool, NoMemory>
-    ensures told { IfOk result (λ met. met ≡ is_changed (Some (sight_of from.now))
-        (sight_at (source_of debugger.old.program) (run_of debugger.old)
-        (map (λ word. word.now) arguments.now) debugger.old.position)) }
+    ensures told { IfOk result (λ met. met ≡ changed_at (source_of debugger.old.program)
+        (run_of debugger.old) (Some (mark_of from.now)) debugger.old.position) }
     ensures stays { debugger.new ≡ debugger.old }
 {
-    let here = make_mark(alloc, debugger, arguments)?;
-    Ok(is_change(from, &here))
+    let here = make_glance(alloc, debugger, &from.watch)?;
+    Ok(is_change(&from.glance, &here))
 }
 
 /// Whether the position is what moves look for that began at another one.
@@ -226,13 +255,13 @@ pub(crate) fn wanted(
 ) -> Result<bool, NoMemory>
     ensures told { IfOk result (λ met. met ≡ wanted_at (source_of debugger.old.program)
         (run_of debugger.old) goal (map (λ word. word.now) arguments.now)
-        (Some (sight_of from.now)) debugger.old.position) }
+        (Some (mark_of from.now)) debugger.old.position) }
     ensures stays { debugger.new ≡ debugger.old }
 {
     match goal {
         Goal::Points => Ok(false),
         Goal::Any => any_here(alloc, debugger, arguments),
         Goal::Depth(most) => depth_here(alloc, debugger, most),
-        Goal::Change => change_here(alloc, debugger, arguments, from),
+        Goal::Change => change_here(alloc, debugger, from),
     }
 }

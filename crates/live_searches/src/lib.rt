@@ -10,6 +10,7 @@ mod lists;
 mod making;
 mod moves;
 mod searches;
+mod watches;
 
 pub use asks::{Ask, Goal, MOST_POINTS, arguments, read_ask};
 pub use making::{Lost, make};

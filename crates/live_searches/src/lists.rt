@@ -38,7 +38,7 @@ pub(crate) fn points(
                     how: Outcome::Stopped,
                 });
             }
-            Step::Lost => return Err(NoMemory),
+            Step::Lost { lack } => return Err(lack),
         }
     }
     Ok(Moved {

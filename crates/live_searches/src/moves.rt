@@ -33,7 +33,7 @@ pub(crate) enum Step {
     /// It leads nowhere.
     Stuck,
     /// There was no memory for it.
-    Lost,
+    Lost { lack: NoMemory },
 }
 
 /// One move back or forward.
@@ -73,6 +73,6 @@ pub(crate) fn go(
     let from = debugger.position();
     match debugger.command(alloc, &way, text) {
         Ok(()) => step_by(is_at(debugger, from)),
-        Err(NoMemory) => Step::Lost,
+        Err(lack) => Step::Lost { lack },
     }
 }

@@ -4,8 +4,8 @@ ghost use Rattle.source_debugger.specs.meaning_points.rpp_tree.Views.{source_of}
 ghost use Rattle.source_debugger.specs.Shown.{told_by};
 ghost use Rattle.source_debugger.specs.Standing.{run_of};
 ghost use Rattle.live_searches.specs.Steps.{way_of, IsSameRun};
-ghost use Rattle.live_searches.specs.Goals.{sight_at, wanted as wanted_at};
-ghost use Rattle.live_searches.specs.Sights.{sight_of};
+ghost use Rattle.live_searches.specs.Goals.{mark_at, wanted as wanted_at};
+ghost use Rattle.live_searches.specs.Sights.{mark_of};
 ghost use Rattle.live_searches.specs.Searches.{seek as seek_in, all_made};
 ghost use Rattle.live_searches.specs.Turns.{IsTurn, IsJudged};
 
@@ -25,7 +25,7 @@ pub(crate) enum Turn {
     // It ended.
     Over { moved: Moved },
     // There was no memory.
-    Lost,
+    Lost { lack: NoMemory },
 }
 
 // Whether a search ends at the position, to which a move led with this line.
@@ -39,7 +39,7 @@ fn judge(
 ) -> Turn
     ensures judged { IsJudged (string_bytes line) (wanted_at (source_of debugger.old.program)
         (run_of debugger.old) ask.goal (map (λ word. word.now) arguments.now)
-        (Some (sight_of from.now)) debugger.old.position) result }
+        (Some (mark_of from.now)) debugger.old.position) result }
     ensures stays { debugger.new ≡ debugger.old }
 {
     match wanted(alloc, debugger, ask.goal, arguments, from) {
@@ -55,7 +55,7 @@ fn judge(
                 Turn::On
             }
         }
-        Err(NoMemory) => Turn::Lost,
+        Err(lack) => Turn::Lost { lack },
     }
 }
 
@@ -69,7 +69,7 @@ fn make_turn(
 ) -> Turn
     ensures turned { IsTurn debugger.old (way_of ask.back)
         (wanted_at (source_of debugger.old.program) (run_of debugger.old) ask.goal
-        (map (λ word. word.now) arguments.now) (Some (sight_of from.now)))
+        (map (λ word. word.now) arguments.now) (Some (mark_of from.now)))
         debugger.new result }
     ensures same { IsSameRun debugger.old debugger.new }
 {
@@ -82,7 +82,7 @@ fn make_turn(
                 how: Outcome::Stopped,
             },
         },
-        Step::Lost => Turn::Lost,
+        Step::Lost { lack } => Turn::Lost { lack },
     }
 }
 
@@ -116,7 +116,7 @@ fn seek_on(
     ensures told { IfOk result (λ moved. seek_in (source_of debugger.old.program)
         (run_of debugger.old) (way_of ask.back)
         (wanted_at (source_of debugger.old.program) (run_of debugger.old) ask.goal
-        (map (λ word. word.now) arguments.now) (Some (sight_of from.now)))
+        (map (λ word. word.now) arguments.now) (Some (mark_of from.now)))
         ask.most debugger.old.position
         ≡ Some (record {
           position = debugger.new.position;
@@ -129,7 +129,7 @@ fn seek_on(
         match make_turn(alloc, debugger, ask, arguments, from) {
             Turn::On => {}
             Turn::Over { moved } => return Ok(moved),
-            Turn::Lost => return Err(NoMemory),
+            Turn::Lost { lack } => return Err(lack),
         }
     }
     stop(alloc, debugger)
@@ -146,7 +146,7 @@ pub(crate) fn seek(
         (run_of debugger.old) (way_of ask.back)
         (wanted_at (source_of debugger.old.program) (run_of debugger.old) ask.goal
         (map (λ word. word.now) arguments.now)
-        (sight_at (source_of debugger.old.program) (run_of debugger.old)
+        (mark_at (source_of debugger.old.program) (run_of debugger.old)
         (map (λ word. word.now) arguments.now) debugger.old.position))
         ask.most debugger.old.position
         ≡ Some (record {

@@ -1,12 +1,10 @@
-use Rattle.std.proofs.Common.{map}
-use Rattle.live_searches.specs.Goals.{first_of, sight_at}
-use Rattle.live_searches.proofs.Looking.{sighted}
+use Rattle.std.proofs.Common.{◌∙◌, ap, map}
+use Rattle.live_searches.specs.Goals.{watch_of}
+use Rattle.live_searches.specs.Sights.{watch_in}
+use Rattle.live_searches.proofs.Looking.{marked}
 use Rattle.live_searches.proofs.goals.make_mark.Goals as goal
 
 pub returns-clause-told : goal.returns-clause-told
-unfolding sight_at
 returns-clause-told c =
-    sighted c.args.debugger.now c.look.new.self c.first_word.result.now
-    (first_of (map (λ word. word.now) c.args.arguments.now)) c.in_ok-lines.lines.items c.in_ok-seen.seen
-    c.depth_in.result c.look.ensures.stays c.first_word.ensures c.in_ok-seen.ensures.seen
-    c.in_ok-lines.ensures.told c.depth_in.ensures
+    marked c.args.debugger.now (map (λ word. word.now) c.args.arguments.now) (watch_in c.in_ok-watch.watch)
+    c.in_ok-glance.glance (c.in_ok-watch.ensures ∙ ap watch_of c.first_word.ensures) c.in_ok-glance.ensures.told

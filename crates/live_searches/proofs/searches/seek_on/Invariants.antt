@@ -1,10 +1,10 @@
 use Rattle.std.proofs.Common.{map}
 use Rattle.live_searches.specs.Steps.{way_of}
-use Rattle.live_searches.specs.Sights.{sight_of}
+use Rattle.live_searches.specs.Sights.{mark_of}
 use Rattle.live_searches.proofs.Seeking.{IsSeeking}
 use Rattle.live_searches.proofs.searches.seek_on.Given as goal
 
 -- so many moves were made, and none led to a position that the search looks for
 abbrev pub invariant-loop : goal.invariant-loop
 invariant-loop l = IsSeeking l.fn.debugger (way_of l.ask.back) l.ask.goal (map (λ word. word.now) l.fn.arguments)
-    (sight_of l.fn.from) l.ask.most l.counter l.debugger
+    (mark_of l.fn.from) l.ask.most l.counter l.debugger
