@@ -22,9 +22,10 @@ use Rattle.command_plan.specs.declared.plan.NoPlan.{NoPlan}
 use Rattle.command_plan.specs.declared.plan.NoPlan.TheVariants.{Unread}
 use Rattle.plan_serving.specs.Outside.{Shelved}
 use Rattle.plan_serving.proofs.Fetched.{some_none}
-use Rattle.live_session.specs.Talks.{Talk, Printed, Puts, status_by}
-use Rattle.live_session.specs.Sessions.{IsSession}
-use Rattle.live_command.specs.Beginnings.{Begun}
+use Rattle.live_talks.specs.Talks.{Talk, Printed, Puts, status_by}
+use Rattle.live_talks.specs.Sessions.{IsSession}
+use Rattle.live_session.specs.Sessions.{RepliesOf}
+use Rattle.live_command.specs.Beginnings.{Opened}
 use Rattle.live_command.specs.Lives.{PutsOnce, Prints, greeting, words_refused, OpensRun, Starts, Lives}
 use Rattle.live_command.specs.Lives.{files_of}
 
@@ -45,27 +46,27 @@ prints text shown taken talk new status is p = record {
 }
 
 -- no memory was found before a file was read
-pub lives_not : (it : Option Begun) (rose : Type 0) (shelf : Shelved) (talk : Talk)
+pub lives_not : (it : Option Opened) (rose : Type 0) (shelf : Shelved) (talk : Talk)
     → Lives it rose shelf shelf talk talk 7
 lives_not None rose shelf talk = (refl, inl (refl, refl))
 lives_not (Some it) rose shelf talk =
     inr (inr (record { reads = some_none (files_of it) shelf.calls; lacks = (refl, refl) }))
 
-pub lives_none : (it : Option Begun) (rose : Type 0) (shelf : Shelved) (before after : Talk) (status : ℕ)
+pub lives_none : (it : Option Opened) (rose : Type 0) (shelf : Shelved) (before after : Talk) (status : ℕ)
     → None ≡ it → Prints words_refused 1 before after status → Lives it rose shelf shelf before after status
 lives_none it rose shelf before after status is h =
-    subst (λ (it : Option Begun). Lives it rose shelf shelf before after status) is (refl, inr h)
+    subst (λ (it : Option Opened). Lives it rose shelf shelf before after status) is (refl, inr h)
 
-pub lives_some : (it : Option Begun) (begun : Begun) (rose : Type 0) (shelf shelf' : Shelved) (before after : Talk)
+pub lives_some : (it : Option Opened) (begun : Opened) (rose : Type 0) (shelf shelf' : Shelved) (before after : Talk)
     (status : ℕ) → Some begun ≡ it → Lives (Some begun) rose shelf shelf' before after status
     → Lives it rose shelf shelf' before after status
 lives_some it begun rose shelf shelf' before after status is h =
-    subst (λ (it : Option Begun). Lives it rose shelf shelf' before after status) is h
+    subst (λ (it : Option Opened). Lives it rose shelf shelf' before after status) is h
 
 pub greets : (d : Standing) (talk : Talk) (new : Printed) (after : Talk) (status : ℕ)
     (answer : Result (Unit {0}) SinkFault)
     → d.position ≡ 0 → answer ≡ Ok tt → Puts greeting answer talk.out new
-    → IsSession (source_of d.program) (account_of d) d.position (talk_with talk new) after status
+    → IsSession (RepliesOf (source_of d.program) (account_of d)) d.position (talk_with talk new) after status
     → OpensRun talk after status (source_of d.program) d.limits d.input
 greets d talk new after status answer start is puts session = inr (inr (record {
   fuel = MOST_COST;
@@ -75,7 +76,8 @@ greets d talk new after status answer start is puts session = inr (inr (record {
     lines = refl;
     heard = refl;
   };
-  session = subst (λ (j : ℕ). IsSession (source_of d.program) (account_of d) j (talk_with talk new) after status) start
+  session = subst (λ (j : ℕ). IsSession (RepliesOf (source_of d.program) (account_of d)) j (talk_with talk new) after
+      status) start
       session;
 }))
 
@@ -138,7 +140,7 @@ runs_start text given text' given' room talk after status ready setting text_is 
 
 -- ---- the files
 
-pub unread_lives : (it : Begun) (files : List Needed) (rose : Type 0) (shelf shelf' : Shelved) (talk : Talk)
+pub unread_lives : (it : Opened) (files : List Needed) (rose : Type 0) (shelf shelf' : Shelved) (talk : Talk)
     (new : Printed) (status : ℕ) (why : NoPlan) (text : String Global) (shown : List ℕ) → files ≡ files_of it
     → Stops shelf.texts files rose shelf.calls shelf'.calls why → why ≡ Unread text
     → shown ≡ string_bytes text → PutsOnce shown 2 talk.out new status

@@ -11,21 +11,41 @@ use Rattle.run_settings.specs.rpp_tree.Tree.{Source}
 use Rattle.run_settings.specs.rpp_ports.declared.sink.SinkFault.{SinkFault}
 use Rattle.run_settings.specs.Runnable.{RefusesRun, RunsTo}
 use Rattle.command_plan.specs.declared.plan.Room.{Room}
-use Rattle.command_plan.specs.Files.{Needed, source, input_files}
+use Rattle.run_settings.specs.rpp_words.declared.input.TheConstants.{MOST_DEEP}
+use Rattle.command_plan.specs.pisa_image.declared.error.ImageError.{ImageError}
+use Rattle.command_plan.specs.pisa_image.Reading.{image_at}
+use Rattle.command_plan.specs.pisa_loader.Limiting.{limits_refusal}
+use Rattle.command_plan.specs.pisa_loader.declared.error.LoadError.{LoadError}
+use Rattle.command_plan.specs.Files.{Needed, source, input_files, image_file}
 use Rattle.command_plan.specs.Reads.{Gave, StopsAt, ReadsSome}
 use Rattle.command_plan.specs.Plans.{Planned, code_of}
+use Rattle.command_plan.specs.Texts.{image_line, load_line}
+use Rattle.command_plan.specs.declared.plan.Verdict.TheVariants.{ImageRefused, InputRefused}
 use Rattle.plan_serving.specs.Outside.{Shelved}
 use Rattle.source_debugger.specs.Failures.{account}
-use Rattle.live_session.specs.Talks.{Talk, Printed, Puts, Says, status_by}
-use Rattle.live_session.specs.Sessions.{IsSession}
-use Rattle.live_command.specs.Beginnings.{Begun}
+use Rattle.live_talks.specs.Talks.{Talk, Printed, Puts, Says, status_by}
+use Rattle.live_talks.specs.Sessions.{IsSession}
+use Rattle.live_session.specs.Sessions.{RepliesOf}
+use Rattle.pisa_isa.specs.Image.{Segments}
+use Rattle.pisa_isa.specs.Notes.{NotedImage}
+use Rattle.two_way_debugger.specs.pisa_machine.Position.{Position}
+use Rattle.image_commands.specs.DebugPlans.{start_of}
+use Rattle.live_images.specs.Replies.{RepliesOf as RepliesAlong}
+use Rattle.live_command.specs.Beginnings.{Opened, OfSource, OfImage}
 
 abbrev pub words_refused : List ℕ
 words_refused = codes "words refused" ++ line_end
 
 -- the first reply: which protocol this is, and of what kind of run
+abbrev pub greeting_of : (kind : List ℕ) → List ℕ
+greeting_of kind =
+    codes "rooplpp-live 1 " ++ (kind ++ (line_end ++ (codes ". done" ++ line_end)))
+
 abbrev pub greeting : List ℕ
-greeting = codes "rooplpp-live 1 source" ++ (line_end ++ (codes ". done" ++ line_end))
+greeting = greeting_of (codes "source")
+
+abbrev pub image_greeting : List ℕ
+image_greeting = greeting_of (codes "image")
 
 -- no memory was found: nothing is asked and nothing is put
 abbrev pub LacksMemory : (before after : Talk) → (status : ℕ) → Type 0
@@ -49,10 +69,11 @@ pub record HoldsSession (program : Source) (limits : Limits) (input : List Field
   pub fuel : ℕ
   pub talk : Talk
   pub greets : Says greeting (Ok tt) before talk
-  pub session : IsSession program (account program limits input fuel) 0 talk after status
+  pub session : IsSession (RepliesOf program (account program limits input fuel)) 0 talk after
+      status
 
 -- the greeting was not taken
-pub record FailsToGreet (before after : Talk) (status : ℕ) : Type 0 where
+pub record FailsToGreet (greeting : List ℕ) (before after : Talk) (status : ℕ) : Type 0 where
   pub fault : SinkFault
   pub says : Says greeting (Err fault) before after
   pub status_is : status ≡ status_by 0 (Err fault)
@@ -62,7 +83,8 @@ abbrev pub OpensRun : (before after : Talk) → (status : ℕ) → Source → Li
     → Type 0
 OpensRun before after status program limits input =
     LacksMemory before after status
-    ⊎ (FailsToGreet before after status ⊎ HoldsSession program limits input before after status)
+    ⊎ (FailsToGreet greeting before after status
+    ⊎ HoldsSession program limits input before after status)
 
 -- the refusal that `trace` has of these texts is put, with its status
 pub record Refuses (text given : List ℕ) (room : Room) (before after : Talk) (status : ℕ)
@@ -78,35 +100,81 @@ Starts text given room before after status =
     LacksMemory before after status ⊎ (Refuses text given room before after status
     ⊎ RunsTo text given room (OpensRun before after status))
 
--- the files that the words name, in order
-abbrev pub files_of : Begun → List Needed
-files_of it = source it.file ∷ input_files it.input
+-- ---- the run of an image
 
--- the files were read, each once and in order, and a session is begun of their texts: the second
--- one, if there is one, is the input
-pub record Begins (it : Begun) (shelf shelf' : Shelved) (before after : Talk) (status : ℕ)
+-- the greeting was put, and a session was held along the positions of the machine from one on
+pub record HoldsAlong (first : Position) (before after : Talk) (status : ℕ) : Type 0 where
+  pub talk : Talk
+  pub greets : Says image_greeting (Ok tt) before talk
+  pub session : IsSession RepliesAlong first talk after status
+
+abbrev pub OpensAlong : (first : Position) → (before after : Talk) → (status : ℕ) → Type 0
+OpensAlong first before after status =
+    LacksMemory before after status
+    ⊎ (FailsToGreet image_greeting before after status ⊎ HoldsAlong first before after status)
+
+-- what is done with an image: it is loaded
+abbrev pub OpensImage : Segments → Limits → (before after : Talk) → (status : ℕ) → Type 0
+OpensImage image limits before after status = OpensAlong (start_of image limits) before after status
+
+-- the sizes of the memory are tried before the image is loaded
+abbrev pub SizesImage : Option LoadError → Segments → Limits → (before after : Talk) → (status : ℕ)
+    → Type 0
+SizesImage (Some e) image limits before after status =
+    LacksMemory before after status
+    ⊎ Prints (load_line e) (code_of InputRefused) before after status
+SizesImage None image limits before after status = OpensImage image limits before after status
+
+-- the first refusal of the image is put, with its status
+abbrev pub ReadsImage : Result NotedImage ImageError → Room → (before after : Talk) → (status : ℕ)
+    → Type 0
+ReadsImage (Err e) room before after status =
+    LacksMemory before after status
+    ⊎ Prints (image_line e) (code_of ImageRefused) before after status
+ReadsImage (Ok n) room before after status =
+    LacksMemory before after status
+    ⊎ SizesImage (limits_refusal room.heap room.deep MOST_DEEP) n.image
+    (record { heap = room.heap; deep = room.deep }) before after status
+
+-- ---- the files
+
+-- the files that the words name, in order
+abbrev pub files_of : Opened → List Needed
+files_of (OfSource it) = source it.file ∷ input_files it.input
+files_of (OfImage it) = image_file it.file ∷ []
+
+-- what is done with their texts: the second one of a source, if there is one, is the input
+abbrev pub StartsBy : Opened → (texts : List (List ℕ)) → (before after : Talk) → (status : ℕ)
+    → Type 0
+StartsBy (OfSource it) texts before after status =
+    Starts (get_or texts 0 []) (get_or texts 1 []) it.room before after status
+StartsBy (OfImage it) texts before after status =
+    ReadsImage (image_at (get_or texts 0 [])) it.room before after status
+
+-- the files were read, each once and in order, and a session is begun of their texts
+pub record Begins (it : Opened) (shelf shelf' : Shelved) (before after : Talk) (status : ℕ)
     : Type 0 where
   pub texts : List (List ℕ)
   pub gave : Gave shelf.texts (files_of it) texts shelf.calls shelf'.calls
-  pub starts : Starts (get_or texts 0 []) (get_or texts 1 []) it.room before after status
+  pub starts : StartsBy it texts before after status
 
 -- the files before one gave their texts, and that one could not be read: the line on it is put
-pub record LacksFile (it : Begun) (rose : Type 0) (shelf shelf' : Shelved) (before after : Talk)
+pub record LacksFile (it : Opened) (rose : Type 0) (shelf shelf' : Shelved) (before after : Talk)
     (status : ℕ) : Type 0 where
   pub line : List ℕ
   pub stops : StopsAt shelf.texts (files_of it) rose line shelf.calls shelf'.calls
   pub prints : Prints line 2 before after status
 
 -- some first files were read, and then no memory was found
-pub record StopsReading (it : Begun) (shelf shelf' : Shelved) (before after : Talk) (status : ℕ)
+pub record StopsReading (it : Opened) (shelf shelf' : Shelved) (before after : Talk) (status : ℕ)
     : Type 0 where
   pub reads : ReadsSome (files_of it) shelf.calls shelf'.calls
   pub lacks : LacksMemory before after status
 
 -- All that the words do, and the status. `rose` says that the count of faults of the file store
 -- rose.
-abbrev pub Lives : Option Begun → (rose : Type 0) → (shelf shelf' : Shelved) → (before after : Talk)
-    → (status : ℕ) → Type 0
+abbrev pub Lives : Option Opened → (rose : Type 0) → (shelf shelf' : Shelved)
+    → (before after : Talk) → (status : ℕ) → Type 0
 Lives None rose shelf shelf' before after status =
     (shelf' ≡ shelf) × (LacksMemory before after status
     ⊎ Prints words_refused 1 before after status)

@@ -1,10 +1,10 @@
 // The words that begin a session, and the files that they name.
 ghost use Rattle.std.specs.Prelude.{◌≡◌, map, option_map, string_bytes, IfOk};
 ghost use Rattle.plan_serving.specs.Wanted.{file_of};
-ghost use Rattle.live_command.specs.Beginnings.{begun, begin_of, source_begin, begin_with, room_of};
+ghost use Rattle.live_command.specs.Beginnings.{begun, loads, opened, OfSource, OfImage, begin_of, source_begin, source_with, image_begin, image_with, room_of};
 ghost use Rattle.live_command.specs.Lives.{files_of};
 
-use command_plan::Room;
+use command_plan::{MOST_IMAGE, Room};
 use pisa_loader::MOST_INPUT;
 use pisa_scripts::short_number;
 use plan_serving::Wanted;
@@ -12,7 +12,7 @@ use rpp_tree::MOST_BYTES;
 use rpp_words::NoMemory;
 use std::alloc::{AllocError, Global};
 
-/// What a session is held of: the file of a source, the sizes of its memory, and the file of its input,
+/// What a session of a source is held of: its file, the sizes of its memory, and the file of its input,
 /// if there is one.
 #[derive(Drop)]
 pub(crate) struct Beginning {
@@ -21,21 +21,38 @@ pub(crate) struct Beginning {
     pub input: Option<String>,
 }
 
-/// What the words begin, if they begin a session: `source F H D` or `source F H D INPUT`.
-pub(crate) fn read_beginning(words: &[String]) -> Result<Option<Beginning>, NoMemory>
-    ensures { IfOk result (λ it. option_map begun it ≡ begin_of (map string_bytes words.now)) }
+/// What a session of an image is held of: its file, and the sizes of its memory.
+#[derive(Drop)]
+pub(crate) struct Loading {
+    pub file: String,
+    pub room: Room,
+}
+
+/// What a session is held of.
+#[derive(Drop)]
+pub(crate) enum Opening {
+    /// `source F H D`, or `source F H D INPUT`.
+    Source(Beginning),
+    /// `image IMG H D`.
+    Image(Loading),
+}
+
+/// What the words begin, if they begin a session.
+pub(crate) fn read_opening(words: &[String]) -> Result<Option<Opening>, NoMemory>
+    ensures { IfOk result (λ it. option_map opened it ≡ begin_of (map string_bytes words.now)) }
 {
     let Some((name, args)) = words.split_first() else {
         return Ok(None);
     };
     match name.as_str() {
         "source" => read_source(args),
+        "image" => read_image_words(args),
         _ => Ok(None),
     }
 }
 
-fn read_source(args: &[String]) -> Result<Option<Beginning>, NoMemory>
-    ensures { IfOk result (λ it. option_map begun it ≡ source_begin (map string_bytes args.now)) }
+fn read_source(args: &[String]) -> Result<Option<Opening>, NoMemory>
+    ensures { IfOk result (λ it. option_map opened it ≡ source_begin (map string_bytes args.now)) }
 {
     match args {
         [file, heap, deep] => begins(file, read_room(heap, deep), None),
@@ -48,23 +65,45 @@ fn begins(
     file: &String,
     room: Option<Room>,
     input: Option<String>,
-) -> Result<Option<Beginning>, NoMemory>
-    ensures { IfOk result (λ it. option_map begun it
-        ≡ begin_with (string_bytes file.now) room (option_map string_bytes input)) }
+) -> Result<Option<Opening>, NoMemory>
+    ensures { IfOk result (λ it. option_map opened it
+        ≡ source_with (string_bytes file.now) room (option_map string_bytes input)) }
 {
     let Some(room) = room else {
         return Ok(None);
     };
-    Ok(Some(Beginning {
+    Ok(Some(Opening::Source(Beginning {
         file: file.clone()?,
         room,
         input,
-    }))
+    })))
 }
 
-/// The files that a session reads, in order.
+fn read_image_words(args: &[String]) -> Result<Option<Opening>, NoMemory>
+    ensures { IfOk result (λ it. option_map opened it ≡ image_begin (map string_bytes args.now)) }
+{
+    match args {
+        [file, heap, deep] => loads_image(file, read_room(heap, deep)),
+        _ => Ok(None),
+    }
+}
+
+fn loads_image(file: &String, room: Option<Room>) -> Result<Option<Opening>, NoMemory>
+    ensures { IfOk result (λ it. option_map opened it
+        ≡ image_with (string_bytes file.now) room) }
+{
+    let Some(room) = room else {
+        return Ok(None);
+    };
+    Ok(Some(Opening::Image(Loading {
+        file: file.clone()?,
+        room,
+    })))
+}
+
+/// The files that a session of a source reads, in order.
 pub(crate) fn wanted_files(alloc: Global, it: &Beginning) -> Result<Vec<Wanted>, AllocError>
-    ensures { IfOk result (λ files. map file_of files.items ≡ files_of (begun it.now)) }
+    ensures { IfOk result (λ files. map file_of files.items ≡ files_of (OfSource (begun it.now))) }
 {
     let mut files = Vec::new(alloc);
     files.push(Wanted {
@@ -77,6 +116,18 @@ pub(crate) fn wanted_files(alloc: Global, it: &Beginning) -> Result<Vec<Wanted>,
             limit: MOST_INPUT as u64,
         })?;
     }
+    Ok(files)
+}
+
+/// The file that a session of an image reads.
+pub(crate) fn wanted_image(alloc: Global, it: &Loading) -> Result<Vec<Wanted>, AllocError>
+    ensures { IfOk result (λ files. map file_of files.items ≡ files_of (OfImage (loads it.now))) }
+{
+    let mut files = Vec::new(alloc);
+    files.push(Wanted {
+        name: it.file.clone()?,
+        limit: MOST_IMAGE as u64,
+    })?;
     Ok(files)
 }
 

@@ -6,14 +6,17 @@ ghost use Rattle.run_settings.specs.pisa_loader.declared.input.TheConstants.{MOS
 ghost use Rattle.run_settings.specs.rpp_ports.Ports.{Rose};
 ghost use Rattle.source_debugger.specs.Standing.{IsValidRun};
 ghost use Rattle.plan_serving.specs.Places.{held_bytes};
-ghost use Rattle.live_command.specs.Beginnings.{begun, begin_of};
-ghost use Rattle.live_command.specs.Lives.{PutsOnce, Lives, Starts, OpensRun};
+ghost use Rattle.live_command.specs.Beginnings.{begun, OfSource, begin_of};
+ghost use Rattle.live_command.specs.Lives.{Lives, Starts, OpensRun};
 
-use crate::beginning::{Beginning, read_beginning, wanted_files};
+use crate::beginning::{Beginning, Opening, read_opening, wanted_files};
+use crate::image::begin_image;
+use crate::reporting::report;
 use class_table::Checked;
 use command_plan::{NoPlan, Room, Sizes};
 use live_port::Asker;
-use live_session::{say, serve, status_by};
+use live_session::serve;
+use live_talks::{say, status_by};
 use plan_serving::fetch;
 use rpp_ports::{Named, Shelf, Sink};
 use rpp_words::{Input, Limits, NoMemory};
@@ -37,10 +40,10 @@ pub fn live<S: Shelf, A: Asker, K: Sink>(
 ) -> u8
     // All that is read, heard and put, and the status. The files that the words name are read, each
     // once and in order, up to the first that fails, and nothing else is asked of the file store. Words
-    // that begin no session, a file that cannot be read, and what `trace` refuses are reported by one
-    // text, and no line is heard. Else the greeting is put, and then lines are heard and their replies
-    // put, in turn: to each line one, which is that of the definitions on the points of the run.
-    // Nothing else is put.
+    // that begin no session, a file that cannot be read, and what `trace` or `debug` refuses are
+    // reported by one text, and no line is heard. Else the greeting is put. Then lines are heard, and
+    // to each line one reply is put, in turn. It is that of the definitions on the points of the run,
+    // or at the positions of the machine. Nothing else is put.
     ensures session { Lives (begin_of (map string_bytes words.now))
         (Rose (S.faults shelf.old) (S.faults shelf.new))
         (record { texts = S.texts shelf.old; calls = S.events shelf.old })
@@ -60,21 +63,12 @@ pub fn live<S: Shelf, A: Asker, K: Sink>(
     ensures kept { S.texts shelf.new ≡ S.texts shelf.old }
     ensures later { S.faults shelf.old ≤ S.faults shelf.new }
 {
-    match read_beginning(words) {
+    match read_opening(words) {
         Err(NoMemory) => NO_MEMORY,
         Ok(None) => report(out, "words refused\n", WORDS_REFUSED),
-        Ok(Some(beginning)) => begin(alloc, &beginning, shelf, asker, out),
+        Ok(Some(Opening::Source(beginning))) => begin(alloc, &beginning, shelf, asker, out),
+        Ok(Some(Opening::Image(loading))) => begin_image(alloc, &loading, shelf, asker, out),
     }
-}
-
-// Puts a text, once. The status is this one, if the text is taken.
-fn report<K: Sink>(out: &mut K, text: &str, taken: u8) -> u8
-    ensures { PutsOnce text.now taken
-        (record { bytes = K.written out.old; puts = K.puts out.old })
-        (record { bytes = K.written out.new; puts = K.puts out.new }) result }
-{
-    let answer = say(out, text);
-    status_by(taken, answer)
 }
 
 // Reads the files.
@@ -85,7 +79,7 @@ fn begin<S: Shelf, A: Asker, K: Sink>(
     asker: &mut A,
     out: &mut K,
 ) -> u8
-    ensures session { Lives (Some (begun beginning.now))
+    ensures session { Lives (Some (OfSource (begun beginning.now)))
         (Rose (S.faults shelf.old) (S.faults shelf.new))
         (record { texts = S.texts shelf.old; calls = S.events shelf.old })
         (record { texts = S.texts shelf.new; calls = S.events shelf.new })

@@ -1,1 +1,2 @@
 pub mod Quits
+pub mod ScriptLines

@@ -15,13 +15,13 @@ use Rattle.live_requests.specs.declared.request.Request.TheVariants.{Nothing, Ca
 use Rattle.live_requests.specs.Requests.{request_of, is_quit}
 use Rattle.live_searches.specs.declared.asks.Ask.{Ask}
 use Rattle.live_searches.specs.Asks.{ask_of}
-use Rattle.live_session.specs.declared.ends.End.TheVariants as end
-use Rattle.live_session.specs.Ends.{end_line}
+use Rattle.live_talks.specs.declared.ends.End.TheVariants as end
+use Rattle.live_talks.specs.Ends.{end_line}
 use Rattle.live_session.specs.Replies.{failure_reply}
-use Rattle.live_session.specs.Talks.{Talk, Printed, Puts, status_by}
-use Rattle.live_session.specs.Sessions.{IsReply, IsLine, quits}
-use Rattle.live_session.specs.Serving.{IsSameRun, Answers, Moves, IsReplyTo, IsReplyBy, IsMoves, PutsText, PutsBye}
-use Rattle.live_session.specs.Serving.{PutsBy, Goes}
+use Rattle.live_talks.specs.Talks.{Talk, Printed, Puts, PutsText, PutsBye, status_by}
+use Rattle.live_talks.specs.Sessions.{IsReply, IsLine, quits}
+use Rattle.live_session.specs.Sessions.{RepliesOf}
+use Rattle.live_session.specs.Serving.{IsSameRun, Answers, Moves, IsReplyTo, IsReplyBy, IsMoves, PutsBy, Goes}
 use Rattle.live_session.proofs.Putting.{by_text, goes}
 
 -- what is put of the reply to a request
@@ -124,14 +124,6 @@ bye d old new status (Err fault) puts is = inr (inl (record {
   status_is = is;
 }))
 
-pub bye_put : (text : List ℕ) (answer : Result (Unit {0}) SinkFault) (old new : Printed) (status : ℕ)
-    → text ≡ end_line end.Bye → Puts text answer old new → status ≡ status_by 0 answer → PutsBye old new status
-bye_put text answer old new status is puts status_is = record {
-  answer = answer;
-  puts = subst (λ (t : List ℕ). Puts t answer old new) is puts;
-  status_is = status_is;
-}
-
 pub quit_said : (d : Standing) (request : Request) (line : List ℕ) (old new : Printed) (status : ℕ) → request ≡ Quit
     → PutsBye old new status → PutsByLine request line (is_quit request) d d old new (Some status)
 quit_said d request line old new status is puts =
@@ -198,7 +190,8 @@ asked_said before after request line old new result is puts =
 -- what is put of the reply to a line
 abbrev pub PutsToHeard : Heard → (N : Type 0) → (before after : Standing) → (old new : Printed) → Option ℕ → Type 0
 PutsToHeard it N before after old new result =
-    PutsBy (IsReply (source_of before.program) (account_of before) it before.position) (quits it) N before after old new
+    PutsBy (IsReply (RepliesOf (source_of before.program) (account_of before)) it before.position) (quits it) N before
+    after old new
     result
 
 pub line_said : (before after : Standing) (line : List ℕ) (request : Request) (old new : Printed) (result : Option ℕ)
@@ -211,21 +204,22 @@ pub line_unsaid : (d : Standing) (line : List ℕ) (old new : Printed) (result :
     → is_quit (request_of line) ≡ false → PutsText (end_line end.Memory) old new result
     → PutsToHeard (Line line) ⊤ d d old new result
 line_unsaid d line old new result on puts =
-    by_text (IsReply (source_of d.program) (account_of d) (Line line) d.position) (is_quit (request_of line)) ⊤ d d old
+    by_text (IsReply (RepliesOf (source_of d.program) (account_of d)) (Line line) d.position)
+    (is_quit (request_of line)) ⊤ d d old
     new
     result (end_line end.Memory) puts (inr (refl, refl)) on refl
 
 pub long_said : (d : Standing) (old new : Printed) (result : Option ℕ) → PutsText (end_line end.Long) old new result
     → PutsToHeard Long ⊥ d d old new result
 long_said d old new result puts =
-    by_text (IsReply (source_of d.program) (account_of d) Long d.position) false ⊥ d d old new result
+    by_text (IsReply (RepliesOf (source_of d.program) (account_of d)) Long d.position) false ⊥ d d old new result
     (end_line end.Long)
     puts (refl, refl) refl refl
 
 pub lost_said : (d : Standing) (old new : Printed) (result : Option ℕ) → PutsText (end_line end.Memory) old new result
     → PutsToHeard Lost ⊥ d d old new result
 lost_said d old new result puts =
-    by_text (IsReply (source_of d.program) (account_of d) Lost d.position) false ⊥ d d old new result
+    by_text (IsReply (RepliesOf (source_of d.program) (account_of d)) Lost d.position) false ⊥ d d old new result
     (end_line end.Memory) puts (refl, refl) refl refl
 
 -- ---- what comes of what is heard

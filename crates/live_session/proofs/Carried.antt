@@ -8,12 +8,11 @@ use Rattle.source_debugger.specs.Shown.{Told, told_by, and_told}
 use Rattle.source_debugger.specs.Standing.{Standing, run_of, Leads}
 use Rattle.live_requests.specs.declared.request.Request.TheVariants.{Carry}
 use Rattle.live_searches.specs.declared.asks.Ask.{Ask}
-use Rattle.live_searches.specs.declared.asks.Goal.{Goal}
 use Rattle.live_searches.specs.declared.moves.Outcome.{Outcome}
 use Rattle.live_searches.specs.Asks.{arguments}
-use Rattle.live_searches.specs.Searches.{Found}
 use Rattle.live_searches.specs.Makings.{made}
-use Rattle.live_session.specs.Ends.{end_line, end_shown, end_moved}
+use Rattle.live_talks.specs.Ends.{end_line}
+use Rattle.live_session.specs.Ends.{end_shown, end_moved}
 use Rattle.live_session.specs.Replies.{with_end, with_end_moved}
 use Rattle.live_session.specs.Serving.{IsSameRun, Answers, Moves}
 

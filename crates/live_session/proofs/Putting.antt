@@ -1,15 +1,17 @@
 -- What is put of a reply, and what comes of a line.
-use Rattle.std.proofs.Common.{◌≡◌, ◌∙◌, refl, sym, ap, subst, add-one, ℕ, zero, suc, ◌+◌, ◌≤◌, List, ◌∷◌, Bool, false, true, Some, None, Ok, Err, inl, inr}
-use Rattle.std.specs.Prelude.{Option, ◌⊎◌, Result, IfSome, IsSome}
+use Rattle.std.proofs.Common.{◌≡◌, ◌∙◌, refl, sym, ap, subst, add-one, ℕ, ◌+◌, ◌≤◌, List, Bool, false}
+use Rattle.std.proofs.Common.{Some, None, Ok, Err, inl, inr}
+use Rattle.std.specs.Prelude.{Option, Result}
 use Rattle.source_debugger.specs.meaning_points.rpp_tree.Tree.{Source}
 use Rattle.source_debugger.specs.meaning_points.rpp_tree.Views.{source_of}
 use Rattle.source_debugger.specs.Failures.{Account, account_of}
 use Rattle.source_debugger.specs.Standing.{Standing}
 use Rattle.live_port.specs.rpp_ports.declared.sink.SinkFault.{SinkFault}
 use Rattle.live_port.specs.Heard.{Heard, Tells}
-use Rattle.live_session.specs.Talks.{Talk, Printed, Hears, Puts, Says, status_by, over_by}
-use Rattle.live_session.specs.Sessions.{IsReply, IsLine, quits, Replies, Exchanges, Closes, MOST_LINES, IsSession}
-use Rattle.live_session.specs.Serving.{IsSameRun, PutsText, PutsBy, Goes}
+use Rattle.live_talks.specs.Talks.{Talk, Printed, Hears, Puts, PutsText, over_by}
+use Rattle.live_talks.specs.Sessions.{IsReply, IsLine, quits, Replies, Exchanges, Closes, MOST_LINES, IsSession}
+use Rattle.live_session.specs.Sessions.{RepliesOf}
+use Rattle.live_session.specs.Serving.{IsSameRun, PutsBy, Goes}
 
 by_answer : (R : List ℕ → ℕ → Type 0) (quit : Bool) (N : Type 0) (before after : Standing) (old new : Printed)
     (reply : List ℕ) (answer : Result (Unit {0}) SinkFault) → Puts reply answer old new → R reply after.position
@@ -39,7 +41,8 @@ by_text R quit N before after old new result reply puts is goes same =
 
 pub goes : (it : Heard) (N : Type 0) (before after : Standing) (talk between talk' : Talk) (result : Option ℕ)
     → Hears it talk between → (N → IsLine it)
-    → PutsBy (IsReply (source_of before.program) (account_of before) it before.position) (quits it) N before after
+    → PutsBy (IsReply (RepliesOf (source_of before.program) (account_of before)) it before.position) (quits it) N before
+    after
     between.out talk'.out result
     → talk'.lines ≡ between.lines → talk'.heard ≡ between.heard → Goes before after talk talk' result
 goes it N before after talk between talk' None h line p lines heard = (
@@ -94,19 +97,22 @@ goes it N before after talk between talk' (Some status) h line (inr (inr p)) lin
 
 -- one more line
 next_one : (program : Source) (account : Account) (n from place to : ℕ) (talk₀ talk talk' : Talk)
-    → Exchanges program account n from place talk₀ talk → Replies program account false (Ok tt) place to talk talk'
-    → Exchanges program account (n + 1) from to talk₀ talk'
+    → Exchanges (RepliesOf program account) n from place talk₀ talk
+    → Replies (RepliesOf program account) false (Ok tt) place to talk talk'
+    → Exchanges (RepliesOf program account) (n + 1) from to talk₀ talk'
 next_one program account n from place to talk₀ talk talk' so_far replies = rw add-one (place, talk, so_far, replies)
 
 -- the same of the same run
 pub one_more : (start before after : Standing) (n : ℕ) (talk₀ talk talk' : Talk)
-    → Exchanges (source_of start.program) (account_of start) n start.position before.position talk₀ talk
+    → Exchanges (RepliesOf (source_of start.program) (account_of start)) n start.position before.position talk₀ talk
     → IsSameRun start before → Goes before after talk talk' None
-    → Exchanges (source_of start.program) (account_of start) (n + 1) start.position after.position talk₀ talk'
+    → Exchanges (RepliesOf (source_of start.program) (account_of start)) (n + 1) start.position after.position talk₀
+    talk'
 one_more start before after n talk₀ talk talk' so_far same one =
     next_one (source_of start.program) (account_of start) n start.position before.position after.position talk₀ talk
     talk' so_far
-    (subst (λ (d : Standing). Replies (source_of d.program) (account_of d) false (Ok tt) before.position after.position
+    (subst (λ (d : Standing). Replies (RepliesOf (source_of d.program) (account_of d)) false (Ok tt) before.position
+    after.position
     talk talk') same one.0)
 
 pub same_run : (start before after : Standing) → IsSameRun start before → IsSameRun before after
@@ -115,22 +121,23 @@ same_run start before after one two =
     two ∙ ap (λ (d : Standing). record d { position = after.position }) one
 
 pub over : (start before after : Standing) (n : ℕ) (talk₀ talk talk' : Talk) (status : ℕ)
-    → Exchanges (source_of start.program) (account_of start) n start.position before.position talk₀ talk
+    → Exchanges (RepliesOf (source_of start.program) (account_of start)) n start.position before.position talk₀ talk
     → IsSameRun start before → Goes before after talk talk' (Some status)
-    → IsSession (source_of start.program) (account_of start) start.position talk₀ talk' status
+    → IsSession (RepliesOf (source_of start.program) (account_of start)) start.position talk₀ talk' status
 over start before after n talk₀ talk talk' status so_far same goes = record {
   count = n;
   to = before.position;
   talk = talk;
   exchanges = so_far;
-  closes = inl (subst (λ (d : Standing). Closes (source_of d.program) (account_of d) before.position talk talk' status)
+  closes = inl (subst (λ (d : Standing). Closes (RepliesOf (source_of d.program) (account_of d)) before.position talk
+      talk' status)
       same goes);
 }
 
 -- so many lines end a session
 pub enough : (start now : Standing) (n : ℕ) (talk₀ talk : Talk)
-    → Exchanges (source_of start.program) (account_of start) n start.position now.position talk₀ talk
-    → MOST_LINES ≤ n → IsSession (source_of start.program) (account_of start) start.position talk₀ talk 0
+    → Exchanges (RepliesOf (source_of start.program) (account_of start)) n start.position now.position talk₀ talk
+    → MOST_LINES ≤ n → IsSession (RepliesOf (source_of start.program) (account_of start)) start.position talk₀ talk 0
 enough start now n talk₀ talk so_far many = record {
   count = n;
   to = now.position;

@@ -1,7 +1,6 @@
--- How replies end.
-use Rattle.std.specs.Prelude.{ℕ, ◌==◌, ◌+◌, ◌-◌, Bool, true, ◌&&◌, nat_lt, if◌then◌else◌, List, ◌++◌, codes}
+-- How the replies to commands and moves end.
+use Rattle.std.specs.Prelude.{ℕ, ◌==◌, ◌+◌, ◌-◌, Bool, true, ◌&&◌, nat_lt, if◌then◌else◌, List}
 use Rattle.std.specs.List.{list_any}
-use Rattle.pisa_scripts.specs.rpp_words.Texts.{line_end}
 use Rattle.pisa_scripts.specs.declared.command.Command.{Command}
 use Rattle.pisa_scripts.specs.declared.command.Command.TheVariants.{Step, Back, To, BackTo}
 use Rattle.pisa_scripts.specs.declared.command.Command.TheVariants.{Regs, Cells}
@@ -9,23 +8,8 @@ use Rattle.live_searches.specs.declared.asks.Goal.{Goal}
 use Rattle.live_searches.specs.declared.asks.Goal.TheVariants.{Points}
 use Rattle.live_searches.specs.declared.moves.Outcome.{Outcome}
 use Rattle.live_searches.specs.declared.moves.Outcome.TheVariants as outcome
-use Rattle.live_session.specs.declared.ends.End.{End}
-use Rattle.live_session.specs.declared.ends.End.TheVariants.{Done, Met, More, Start, Over, Fault}
-use Rattle.live_session.specs.declared.ends.End.TheVariants.{None, Bad, Long, Memory, Bye}
-
--- the last line of a reply
-abbrev pub end_line : End → List ℕ
-end_line Done = codes ". done" ++ line_end
-end_line Met = codes ". met" ++ line_end
-end_line More = codes ". more" ++ line_end
-end_line Start = codes ". start" ++ line_end
-end_line Over = codes ". end" ++ line_end
-end_line Fault = codes ". fault" ++ line_end
-end_line None = codes ". none" ++ line_end
-end_line Bad = codes ". bad" ++ line_end
-end_line Long = codes ". long" ++ line_end
-end_line Memory = codes ". memory" ++ line_end
-end_line Bye = codes ". bye" ++ line_end
+use Rattle.live_talks.specs.declared.ends.End.{End}
+use Rattle.live_talks.specs.declared.ends.End.TheVariants.{Done, Met, More, Start, Over, Fault}
 
 -- whether fewer moves were made than were allowed
 abbrev pub is_short : (most from to : ℕ) → Bool
@@ -35,7 +19,8 @@ is_short most from to = nat_lt (to - from + (from - to)) most
 abbrev pub has : ℕ → List ℕ → Bool
 has letter text = list_any (λ b. b == letter) text
 
--- How moves ended, by the line on them. It is `at J place P depth D` or `at J end`, and then perhaps
+-- How moves ended, by the line on them. It is `at J place P depth D` or `at J end`, and then
+-- perhaps
 -- ` start` or ` fault C NAME`. Only a fault has an f, else only ` start` has an s, else only ` end`
 -- has an n. `short` says that fewer were made than were allowed.
 abbrev pub end_in : (short : Bool) → List ℕ → End

@@ -5,23 +5,26 @@ use Rattle.source_debugger.specs.meaning_points.rpp_tree.Tree.{Source}
 use Rattle.source_debugger.specs.Failures.{Account, fails_at}
 use Rattle.source_debugger.specs.Shown.{Told, told_by, and_told}
 use Rattle.live_requests.specs.declared.request.Request.{Request}
-use Rattle.live_requests.specs.declared.request.Request.TheVariants.{Nothing, Carry, Fault, Quit, Bad}
+use Rattle.live_requests.specs.declared.request.Request.TheVariants.{Nothing, Carry, Fault, Quit}
+use Rattle.live_requests.specs.declared.request.Request.TheVariants.{Bad}
 use Rattle.live_requests.specs.Requests.{request_of}
 use Rattle.live_searches.specs.declared.asks.Ask.{Ask}
 use Rattle.live_searches.specs.declared.asks.Goal.{Goal}
 use Rattle.live_searches.specs.Asks.{ask_of, arguments}
 use Rattle.live_searches.specs.Searches.{Found}
 use Rattle.live_searches.specs.Makings.{made}
-use Rattle.live_session.specs.declared.ends.End.{End}
-use Rattle.live_session.specs.declared.ends.End.TheVariants as end
-use Rattle.live_session.specs.Ends.{end_line, end_shown, end_moved}
+use Rattle.live_talks.specs.declared.ends.End.{End}
+use Rattle.live_talks.specs.declared.ends.End.TheVariants as end
+use Rattle.live_talks.specs.Ends.{end_line}
+use Rattle.live_session.specs.Ends.{end_shown, end_moved}
 
 -- lines, if there are any
 abbrev pub or_nothing : Option (List ℕ) → List ℕ
 or_nothing None = []
 or_nothing (Some text) = text
 
--- what a reply says before its last line, and where it leads: what `trace` prints of a command, what
+-- what a reply says before its last line, and where it leads: what `trace` prints of a command,
+-- what
 -- fails if the next move does, and nothing of the other requests
 abbrev pub said : Source → Account → Request → ℕ → Option Told
 said program account (Carry command) j = told_by program account.trail command j
@@ -84,7 +87,8 @@ replied_by program account (Some ask) words j =
 -- ---- all lines
 
 abbrev pub said_to : Source → Account → Request → (line : List ℕ) → ℕ → Option Told
-said_to program account Bad line j = said_by program account (ask_of (pieces 32 line)) (pieces 32 line) j
+said_to program account Bad line j = said_by program account (ask_of (pieces 32 line))
+    (pieces 32 line) j
 said_to program account request line j = said program account request j
 
 -- the reply to a line, by the request that it is read as

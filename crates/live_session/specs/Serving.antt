@@ -1,5 +1,5 @@
 -- What the parts of a session say of a debugger, and of what they put.
-use Rattle.std.specs.Prelude.{◌≡◌, ◌⊎◌, ℕ, Bool, true, false, List, None, Some, Result, Ok, Err}
+use Rattle.std.specs.Prelude.{◌≡◌, ◌⊎◌, ℕ, Bool, true, false, List, None, Some, Ok, Err}
 use Rattle.std.specs.declared.option.Option.{Option}
 use Rattle.source_debugger.specs.meaning_points.rpp_tree.Tree.{Source}
 use Rattle.source_debugger.specs.meaning_points.rpp_tree.Views.{source_of}
@@ -8,11 +8,11 @@ use Rattle.source_debugger.specs.Standing.{Standing}
 use Rattle.live_port.specs.rpp_ports.declared.sink.SinkFault.{SinkFault}
 use Rattle.live_requests.specs.declared.request.Request.{Request}
 use Rattle.live_searches.specs.declared.asks.Ask.{Ask}
-use Rattle.live_session.specs.declared.ends.End.TheVariants.{Memory, Bye}
-use Rattle.live_session.specs.Ends.{end_line}
+use Rattle.live_talks.specs.declared.ends.End.TheVariants.{Memory}
 use Rattle.live_session.specs.Replies.{replied, replied_to, replied_by}
-use Rattle.live_session.specs.Talks.{Talk, Printed, Puts, status_by, over_by}
-use Rattle.live_session.specs.Sessions.{IsAlone, Replies, Closes}
+use Rattle.live_talks.specs.Talks.{Talk, Printed, Puts, status_by}
+use Rattle.live_talks.specs.Sessions.{IsAlone, Replies, Closes}
+use Rattle.live_session.specs.Sessions.{RepliesOf}
 
 -- a debugger of the same run, at some position
 abbrev pub IsSameRun : (before after : Standing) → Type 0
@@ -26,7 +26,8 @@ pub record Answers (before : Standing) (request : Request) (after : Standing) (r
   pub same : IsSameRun before after
 
 -- the reply to a request, or that there is no memory for it
-abbrev pub IsReplyTo : Source → Account → Request → (from : ℕ) → (reply : List ℕ) → (to : ℕ) → Type 0
+abbrev pub IsReplyTo : Source → Account → Request → (from : ℕ) → (reply : List ℕ) → (to : ℕ)
+    → Type 0
 IsReplyTo program account request from reply to =
     (replied program account request from ≡ Some (record { position = to; text = reply }))
     ⊎ IsAlone Memory from reply to
@@ -51,18 +52,6 @@ pub record Moves (before : Standing) (ask : Ask) (words : List (List ℕ)) (afte
   pub replied : replied_by (source_of before.program) (account_of before) (Some ask) words
       before.position ≡ Some (record { position = after.position; text = reply })
   pub same : IsSameRun before after
-
--- a text was put; if it was not taken, the session ends with this status
-pub record PutsText (text : List ℕ) (old new : Printed) (over : Option ℕ) : Type 0 where
-  pub answer : Result (Unit {0}) SinkFault
-  pub puts : Puts text answer old new
-  pub over_is : over ≡ over_by answer
-
--- the last reply was put, and the session ends with this status
-pub record PutsBye (old new : Printed) (status : ℕ) : Type 0 where
-  pub answer : Result (Unit {0}) SinkFault
-  pub puts : Puts (end_line Bye) answer old new
-  pub status_is : status ≡ status_by 0 answer
 
 -- a reply was put, and the session goes on
 pub record PutsReply (R : (reply : List ℕ) → (to : ℕ) → Type 0) (quit : Bool)
@@ -104,7 +93,8 @@ PutsBy R quit N before after old new (Some status) = PutsLast R quit before.posi
 -- what comes of a line: its reply, and the session goes on, or it ends with a status
 abbrev pub Goes : (before after : Standing) → (talk talk' : Talk) → Option ℕ → Type 0
 Goes before after talk talk' None =
-    Replies (source_of before.program) (account_of before) false (Ok tt) before.position
+    Replies (RepliesOf (source_of before.program) (account_of before)) false (Ok tt) before.position
     after.position talk talk' × IsSameRun before after
 Goes before after talk talk' (Some status) =
-    Closes (source_of before.program) (account_of before) before.position talk talk' status
+    Closes (RepliesOf (source_of before.program) (account_of before)) before.position talk talk'
+    status

@@ -1,55 +1,10 @@
-// How replies end.
+// How the replies to commands and moves end.
 ghost use Rattle.std.specs.Prelude.{◌≡◌, ◌+◌, ◌-◌};
-ghost use Rattle.live_session.specs.Ends.{end_line as line_of_end, is_short as is_short_of, has as has_letter, end_in as end_in_text, end_shown as shown_end, end_of_all, end_moved as moved_end};
+ghost use Rattle.live_session.specs.Ends.{is_short as is_short_of, has as has_letter, end_in as end_in_text, end_shown as shown_end, end_of_all, end_moved as moved_end};
 
 use live_searches::{Goal, Outcome};
+use live_talks::End;
 use pisa_scripts::Command;
-
-/// How a reply ends.
-#[derive(Clone, Copy, PartialEq, Eq, Debug)]
-pub enum End {
-    /// The reply is complete. After moves: all were made, or the place was met.
-    Done,
-    /// A search ended at a position that it looks for.
-    Met,
-    /// A search made all moves, and met no such position.
-    More,
-    /// The moves back reached position 0 before all were made.
-    Start,
-    /// The run ended before all moves were made.
-    Over,
-    /// The run stops with a fault before all moves are made.
-    Fault,
-    /// What is asked for is not there.
-    None,
-    /// The line is no request.
-    Bad,
-    /// The line is too long.
-    Long,
-    /// There was no memory. The position is as before.
-    Memory,
-    /// The session is over.
-    Bye,
-}
-
-/// The last line of a reply.
-pub fn end_line(end: End) -> &'static str
-    ensures { result.now ≡ line_of_end end }
-{
-    match end {
-        End::Done => ". done\n",
-        End::Met => ". met\n",
-        End::More => ". more\n",
-        End::Start => ". start\n",
-        End::Over => ". end\n",
-        End::Fault => ". fault\n",
-        End::None => ". none\n",
-        End::Bad => ". bad\n",
-        End::Long => ". long\n",
-        End::Memory => ". memory\n",
-        End::Bye => ". bye\n",
-    }
-}
 
 // How many moves lie between two positions.
 fn distance(from: u64, to: u64) -> u64

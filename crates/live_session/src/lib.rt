@@ -6,9 +6,6 @@
 mod ends;
 pub mod laws;
 mod replying;
-mod saying;
 mod session;
 
-pub use ends::{End, end_line};
-pub use saying::{say, status_by};
 pub use session::serve;

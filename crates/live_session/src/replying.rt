@@ -6,13 +6,14 @@ ghost use Rattle.source_debugger.specs.Failures.{account_of};
 ghost use Rattle.live_requests.specs.declared.request.Request.TheVariants.{Carry, Fault};
 ghost use Rattle.live_requests.specs.Requests.{is_quit};
 ghost use Rattle.live_searches.specs.Asks.{ask_of};
-ghost use Rattle.live_session.specs.Ends.{end_line as line_of_end, end_shown as end_of_command, end_moved as end_of_moves};
-ghost use Rattle.live_session.specs.Serving.{Answers, IsReplyTo, IsReplyBy, IsMoves, Moves, PutsText, PutsBye, PutsBy};
+ghost use Rattle.live_talks.specs.Ends.{end_line as line_of_end};
+ghost use Rattle.live_session.specs.Ends.{end_shown as end_of_command, end_moved as end_of_moves};
+ghost use Rattle.live_session.specs.Serving.{Answers, IsReplyTo, IsReplyBy, IsMoves, Moves, PutsBy};
 
-use crate::ends::{End, end_line, end_moved, end_shown};
-use crate::saying::{over_by, say, status_by};
+use crate::ends::{end_moved, end_shown};
 use live_requests::Request;
 use live_searches::{Ask, Goal, Lost, Moved, arguments, make, read_ask};
+use live_talks::{End, end_line, say_bye, say_end, say_text};
 use pisa_scripts::{Command, pieces};
 use rpp_ports::Sink;
 use rpp_words::NoMemory;
@@ -28,34 +29,6 @@ enum Unanswered {
     Unmoved,
     // Only for the last line.
     Moved,
-}
-
-// Puts a reply. If it is not taken, the session ends.
-fn say_text<K: Sink>(out: &mut K, text: &str) -> Option<u8>
-    ensures { PutsText text.now
-        (record { bytes = K.written out.old; puts = K.puts out.old })
-        (record { bytes = K.written out.new; puts = K.puts out.new }) result }
-{
-    let answer = say(out, text);
-    over_by(answer)
-}
-
-/// Puts a reply that is one last line.
-pub(crate) fn say_end<K: Sink>(out: &mut K, end: End) -> Option<u8>
-    ensures { PutsText (line_of_end end)
-        (record { bytes = K.written out.old; puts = K.puts out.old })
-        (record { bytes = K.written out.new; puts = K.puts out.new }) result }
-{
-    say_text(out, end_line(end))
-}
-
-// Puts the last reply, and gives the status.
-fn say_bye<K: Sink>(out: &mut K) -> u8
-    ensures { PutsBye (record { bytes = K.written out.old; puts = K.puts out.old })
-        (record { bytes = K.written out.new; puts = K.puts out.new }) result }
-{
-    let answer = say(out, end_line(End::Bye));
-    status_by(0, answer)
 }
 
 // What a command printed, and the last line.

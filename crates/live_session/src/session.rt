@@ -4,13 +4,14 @@ ghost use Rattle.pisa_scripts.specs.declared.lines.TheConstants.{MOST_SCRIPT};
 ghost use Rattle.source_debugger.specs.meaning_points.rpp_tree.Views.{source_of};
 ghost use Rattle.source_debugger.specs.Failures.{account_of};
 ghost use Rattle.live_port.specs.Heard.{Heard};
-ghost use Rattle.live_session.specs.Sessions.{IsReply, quits, IsSession};
+ghost use Rattle.live_talks.specs.Sessions.{IsReply, quits, IsSession};
+ghost use Rattle.live_session.specs.Sessions.{RepliesOf};
 ghost use Rattle.live_session.specs.Serving.{PutsBy, Goes};
 
-use crate::ends::End;
-use crate::replying::{answer, say_end};
+use crate::replying::answer;
 use live_port::{Asked, Asker};
 use live_requests::read_request;
+use live_talks::{End, say_end};
 use rpp_ports::Sink;
 use rpp_words::NoMemory;
 use source_debugger::SourceDebugger;
@@ -24,7 +25,7 @@ fn answer_line<K: Sink>(
     out: &mut K,
 ) -> Option<u8>
     requires { length line.now ≤ MOST_SCRIPT }
-    ensures { PutsBy (IsReply (source_of debugger.old.program) (account_of debugger.old)
+    ensures { PutsBy (IsReply (RepliesOf (source_of debugger.old.program) (account_of debugger.old))
         (Heard.Line line.now) debugger.old.position) (quits (Heard.Line line.now)) ⊤ debugger.old
         debugger.new (record { bytes = K.written out.old; puts = K.puts out.old })
         (record { bytes = K.written out.new; puts = K.puts out.new }) result }
@@ -71,7 +72,7 @@ pub fn serve<A: Asker, K: Sink>(
     asker: &mut A,
     out: &mut K,
 ) -> u8
-    ensures { IsSession (source_of debugger.old.program) (account_of debugger.old)
+    ensures { IsSession (RepliesOf (source_of debugger.old.program) (account_of debugger.old))
         debugger.old.position
         (record {
           lines = A.lines asker.old;

@@ -1,6 +1,6 @@
-use Rattle.std.proofs.Common.{ap, subst, refl, List, ℕ}
+use Rattle.std.proofs.Common.{ap, subst, List, ℕ}
 use Rattle.std.specs.Prelude.{⊤}
-use Rattle.live_port.specs.Heard.{Heard, Line, Long, Lost, heard}
+use Rattle.live_port.specs.Heard.{Line, Long, Lost, heard}
 use Rattle.live_session.proofs.Answering.{PutsToHeard, long_said, lost_said, heard_goes, over_goes, failed_goes}
 use Rattle.live_session.proofs.session.exchange.Goals as goal
 

@@ -1,4 +1,4 @@
-use Rattle.std.proofs.Common.{subst, ℕ, None, Some}
+use Rattle.std.proofs.Common.{subst, ℕ}
 use Rattle.std.specs.Prelude.{Option}
 use Rattle.live_session.specs.Serving.{Goes}
 use Rattle.live_session.proofs.Putting.{one_more, same_run, over, enough}

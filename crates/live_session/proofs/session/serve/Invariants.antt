@@ -1,13 +1,15 @@
 use Rattle.source_debugger.specs.meaning_points.rpp_tree.Views.{source_of}
 use Rattle.source_debugger.specs.Failures.{account_of}
-use Rattle.live_session.specs.Sessions.{Exchanges}
+use Rattle.live_talks.specs.Sessions.{Exchanges}
+use Rattle.live_session.specs.Sessions.{RepliesOf}
 use Rattle.live_session.specs.Serving.{IsSameRun}
 use Rattle.live_session.proofs.session.serve.Given as goal
 
 -- so many lines were heard and answered
 abbrev pub invariant-loop : goal.invariant-loop
 invariant-loop g l = record {
-  exchanges : Exchanges (source_of l.fn.debugger.program) (account_of l.fn.debugger) l.counter l.fn.debugger.position
+  exchanges : Exchanges (RepliesOf (source_of l.fn.debugger.program) (account_of l.fn.debugger)) l.counter
+      l.fn.debugger.position
       l.debugger.position
       (record {
         lines = g.A.Asker.lines l.fn.asker;

@@ -7,6 +7,8 @@ use Rattle.live_port.specs.rpp_ports.Events.{Put}
 use Rattle.live_port.specs.rpp_ports.declared.sink.SinkFault.{SinkFault}
 use Rattle.live_port.specs.rpp_ports.declared.sink.SinkFault.TheVariants.{Failed, NoMemory}
 use Rattle.live_port.specs.Heard.{Heard, Tells}
+use Rattle.live_talks.specs.declared.ends.End.TheVariants.{Bye}
+use Rattle.live_talks.specs.Ends.{end_line}
 
 -- a sink: its bytes, if they are known, and its puts so far, the last first
 pub record Printed : Type 0 where
@@ -56,3 +58,15 @@ status_by taken (Err NoMemory) = 7
 abbrev pub over_by : Result (Unit {0}) SinkFault → Option ℕ
 over_by (Ok _) = None
 over_by (Err fault) = Some (status_by 0 (Err fault))
+
+-- a text was put; if it was not taken, the session ends with this status
+pub record PutsText (text : List ℕ) (old new : Printed) (over : Option ℕ) : Type 0 where
+  pub answer : Result (Unit {0}) SinkFault
+  pub puts : Puts text answer old new
+  pub over_is : over ≡ over_by answer
+
+-- the last reply was put, and the session ends with this status
+pub record PutsBye (old new : Printed) (status : ℕ) : Type 0 where
+  pub answer : Result (Unit {0}) SinkFault
+  pub puts : Puts (end_line Bye) answer old new
+  pub status_is : status ≡ status_by 0 answer

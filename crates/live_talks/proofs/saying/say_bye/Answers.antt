@@ -1,5 +1,5 @@
-use Rattle.live_session.proofs.Answering.{bye_put}
-use Rattle.live_session.proofs.replying.say_bye.Goals as goal
+use Rattle.live_talks.proofs.Byes.{bye_put}
+use Rattle.live_talks.proofs.saying.say_bye.Goals as goal
 
 pub returns : goal.returns
 returns g c = bye_put c.end_line.result.now c.say-answer.result

@@ -1,0 +1,203 @@
+// Sessions of images.
+ghost use Rattle.std.specs.Prelude.{◌≡◌, ◌≤◌, Some, [], get_or, map};
+ghost use Rattle.run_settings.specs.rpp_ports.Ports.{Rose};
+ghost use Rattle.run_settings.specs.rpp_words.Limits.{IsLimits};
+ghost use Rattle.run_settings.specs.rpp_words.declared.input.TheConstants.{MOST_DEEP};
+ghost use Rattle.command_plan.specs.pisa_image.Reading.{image_at};
+ghost use Rattle.command_plan.specs.pisa_loader.Limiting.{limits_refusal};
+ghost use Rattle.plan_serving.specs.Places.{held_bytes};
+ghost use Rattle.live_command.specs.Beginnings.{loads, OfImage};
+ghost use Rattle.live_command.specs.Lives.{Lives, ReadsImage, SizesImage, OpensImage, OpensAlong};
+
+use crate::beginning::{Loading, wanted_image};
+use crate::reporting::report;
+use command_plan::{NoPlan, Room, Verdict, image_line, load_line};
+use live_images::serve;
+use live_port::Asker;
+use live_talks::{say, status_by};
+use pisa_image::{ImageError, read_image};
+use pisa_isa::Image;
+use pisa_loader::{check_limits, load};
+use pisa_machine::Steps;
+use plan_serving::fetch;
+use rpp_ports::{Named, Shelf, Sink};
+use rpp_words::{Input, Limits, MOST_DEEP, NoMemory};
+use std::alloc::Global;
+use std::marker::Brand;
+use std::sync::ledger::{Blank, Ledger};
+use two_way_debugger::Debugger;
+
+const OUTSIDE: u8 = 2;
+
+const NO_MEMORY: u8 = 7;
+
+/// Reads the file of an image, and holds its session.
+pub(crate) fn begin_image<S: Shelf, A: Asker, K: Sink>(
+    alloc: Global,
+    loading: &Loading,
+    shelf: &mut S,
+    asker: &mut A,
+    out: &mut K,
+) -> u8
+    ensures session { Lives (Some (OfImage (loads loading.now)))
+        (Rose (S.faults shelf.old) (S.faults shelf.new))
+        (record { texts = S.texts shelf.old; calls = S.events shelf.old })
+        (record { texts = S.texts shelf.new; calls = S.events shelf.new })
+        (record {
+          lines = A.lines asker.old;
+          heard = A.events asker.old;
+          out = record { bytes = K.written out.old; puts = K.puts out.old };
+        })
+        (record {
+          lines = A.lines asker.new;
+          heard = A.events asker.new;
+          out = record { bytes = K.written out.new; puts = K.puts out.new };
+        }) result }
+    ensures kept { S.texts shelf.new ≡ S.texts shelf.old }
+    ensures later { S.faults shelf.old ≤ S.faults shelf.new }
+{
+    let Ok(files) = wanted_image(alloc, loading) else {
+        return NO_MEMORY;
+    };
+    match fetch(alloc, shelf, &files, "") {
+        Err(NoPlan::NoMemory) => NO_MEMORY,
+        Err(NoPlan::Unread { text }) => report(out, text.as_str(), OUTSIDE),
+        Ok(texts) => start_image(alloc, first_text(&texts), loading.room, asker, out),
+    }
+}
+
+// The first text.
+fn first_text(texts: &[Named]) -> &[u8]
+    ensures { result.now ≡ get_or (map held_bytes texts.now) 0 [] }
+{
+    let none = b"".as_slice();
+    match texts {
+        [] => none,
+        [text, ..] => text.bytes.as_slice(),
+    }
+}
+
+// Reads the bytes of an image.
+fn start_image<A: Asker, K: Sink>(
+    alloc: Global,
+    bytes: &[u8],
+    room: Room,
+    asker: &mut A,
+    out: &mut K,
+) -> u8
+    ensures { ReadsImage (image_at bytes.now) room
+        (record {
+          lines = A.lines asker.old;
+          heard = A.events asker.old;
+          out = record { bytes = K.written out.old; puts = K.puts out.old };
+        })
+        (record {
+          lines = A.lines asker.new;
+          heard = A.events asker.new;
+          out = record { bytes = K.written out.new; puts = K.puts out.new };
+        }) result }
+{
+    match read_image(alloc, bytes) {
+        Ok(noted) => size_image(alloc, noted.into_parts().0, room, asker, out),
+        Err(ImageError::NoMemory) => NO_MEMORY,
+        Err(e) => match image_line(alloc, e) {
+            Ok(line) => report(out, line.as_str(), Verdict::ImageRefused.code()),
+            Err(_lack) => NO_MEMORY,
+        },
+    }
+}
+
+// Tries the sizes of the memory.
+fn size_image<A: Asker, K: Sink>(
+    alloc: Global,
+    image: Image,
+    room: Room,
+    asker: &mut A,
+    out: &mut K,
+) -> u8
+    ensures { SizesImage (limits_refusal room.heap room.deep MOST_DEEP) image
+        (record { heap = room.heap; deep = room.deep })
+        (record {
+          lines = A.lines asker.old;
+          heard = A.events asker.old;
+          out = record { bytes = K.written out.old; puts = K.puts out.old };
+        })
+        (record {
+          lines = A.lines asker.new;
+          heard = A.events asker.new;
+          out = record { bytes = K.written out.new; puts = K.puts out.new };
+        }) result }
+{
+    match check_limits(room.heap, room.deep, MOST_DEEP) {
+        Ok(limits) => load_image(alloc, image, limits, asker, out),
+        Err(e) => match load_line(alloc, e) {
+            Ok(line) => report(out, line.as_str(), Verdict::InputRefused.code()),
+            Err(_lack) => NO_MEMORY,
+        },
+    }
+}
+
+// Loads the image, and holds its run open.
+fn load_image<A: Asker, K: Sink>(
+    alloc: Global,
+    image: Image,
+    limits: Limits,
+    asker: &mut A,
+    out: &mut K,
+) -> u8
+    requires { IsLimits limits }
+    ensures { OpensImage image limits
+        (record {
+          lines = A.lines asker.old;
+          heard = A.events asker.old;
+          out = record { bytes = K.written out.old; puts = K.puts out.old };
+        })
+        (record {
+          lines = A.lines asker.new;
+          heard = A.events asker.new;
+          out = record { bytes = K.written out.new; puts = K.puts out.new };
+        }) result }
+{
+    let input = Input {
+        words: Vec::new(alloc),
+    };
+    match load(alloc, image, limits, &input) {
+        Ok(machine) => {
+            let mut debugger = Debugger::new(machine);
+            greet_image::<Brand, A, K>(alloc, &mut debugger, asker, out, Blank::new(1))
+        }
+        Err(NoMemory) => NO_MEMORY,
+    }
+}
+
+// Puts the greeting, and answers lines.
+fn greet_image<L: Ledger, A: Asker, K: Sink>(
+    alloc: Global,
+    debugger: &mut Debugger,
+    asker: &mut A,
+    out: &mut K,
+    blank: Blank,
+) -> u8
+    requires name { blank.name ≡ L.name }
+    requires parts { blank.parts ≡ L.parts }
+    requires one { blank.parts ≡ 1 }
+    ensures { OpensAlong debugger.old
+        (record {
+          lines = A.lines asker.old;
+          heard = A.events asker.old;
+          out = record { bytes = K.written out.old; puts = K.puts out.old };
+        })
+        (record {
+          lines = A.lines asker.new;
+          heard = A.events asker.new;
+          out = record { bytes = K.written out.new; puts = K.puts out.new };
+        }) result }
+{
+    match say(out, "rooplpp-live 1 image\n. done\n") {
+        Ok(()) => {
+            let mut steps = Steps::<L>::new(blank);
+            serve(alloc, debugger, &mut steps, asker, out)
+        }
+        Err(fault) => status_by(0, Err(fault)),
+    }
+}

@@ -1,0 +1,25 @@
+-- The replies to the lines of a script.
+use Rattle.std.proofs.Common.{◌≡◌, ◌∙◌, sym, ap, ℕ, List, [], ◌∷◌, ◌++◌, Ok, inl, inr}
+use Rattle.pisa_scripts.specs.Lines.{pieces, without_returns}
+use Rattle.pisa_scripts.specs.declared.command.Command.{Command}
+use Rattle.two_way_debugger.specs.pisa_machine.Position.{Position}
+use Rattle.two_way_debugger.specs.Scripts.{script_of}
+use Rattle.two_way_debugger.specs.Shown.{shown, walk_of, text_of}
+use Rattle.live_requests.specs.declared.request.Request.{Request}
+use Rattle.live_requests.proofs.ScriptLines.{AreCommands, script_lines}
+use Rattle.live_images.specs.Replies.{said, led_by, said_of}
+
+lines_said : (commands : List Command) (lines : List (List ℕ)) (p : Position) → AreCommands commands lines
+    → said_of lines p ≡ shown commands p
+lines_said commands [] p are = ap (λ (c : List Command). shown c p) (sym are)
+lines_said commands (line ∷ lines) p (inl (is, are)) =
+    ap (λ (r : Request). said r p ++ said_of lines (led_by r p)) is ∙ lines_said commands lines p are
+lines_said commands (line ∷ lines) p (inr (command, rest, is, commands_are, are)) =
+    ap (λ (r : Request). said r p ++ said_of lines (led_by r p)) is
+    ∙ ap (λ (t : List ℕ). text_of command p ++ t) (lines_said rest lines (walk_of command p).position are)
+    ∙ ap (λ (c : List Command). shown c p) (sym commands_are)
+
+pub script_is_session_along : (script : List ℕ) (commands : List Command) (p : Position)
+    → script_of script ≡ Ok commands → said_of (pieces 10 (without_returns script)) p ≡ shown commands p
+script_is_session_along script commands p read =
+    lines_said commands (pieces 10 (without_returns script)) p (script_lines script commands read)

@@ -1,0 +1,14 @@
+-- A law of sessions along the run of an image.
+use Rattle.std.specs.Prelude.{◌≡◌, ℕ, List, Ok}
+use Rattle.pisa_scripts.specs.Lines.{pieces, without_returns}
+use Rattle.pisa_scripts.specs.declared.command.Command.{Command}
+use Rattle.two_way_debugger.specs.pisa_machine.Position.{Position}
+use Rattle.two_way_debugger.specs.Scripts.{script_of}
+use Rattle.two_way_debugger.specs.Shown.{shown}
+use Rattle.live_images.specs.Replies.{said_of}
+
+-- the lines of a script, one by one: without their last lines, the replies are what `debug` prints
+abbrev pub ScriptIsSessionAlong : Type 0
+ScriptIsSessionAlong =
+    (script : List ℕ) (commands : List Command) (p : Position) → script_of script ≡ Ok commands
+    → said_of (pieces 10 (without_returns script)) p ≡ shown commands p

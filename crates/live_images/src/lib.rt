@@ -1,0 +1,11 @@
+//! A live session along the run of an image. It hears lines, and puts one reply to each. The layer
+//! above may use that the replies are those of the definitions at the positions of the machine, in
+//! order, and that nothing else is put.
+#![tactic(auto)]
+
+mod ends;
+pub mod laws;
+mod replying;
+mod session;
+
+pub use session::serve;

@@ -1,0 +1,97 @@
+// A session: lines and their replies.
+ghost use Rattle.std.specs.Prelude.{◌≤◌, length, ⊤};
+ghost use Rattle.pisa_scripts.specs.declared.lines.TheConstants.{MOST_SCRIPT};
+ghost use Rattle.live_port.specs.Heard.{Heard};
+ghost use Rattle.live_talks.specs.Sessions.{IsReply, IsSession, quits};
+ghost use Rattle.live_images.specs.Replies.{RepliesOf};
+ghost use Rattle.live_images.specs.Serving.{PutsBy, Goes};
+
+use crate::replying::answer;
+use live_port::{Asked, Asker};
+use live_requests::read_request;
+use live_talks::{End, say_end};
+use pisa_machine::Steps;
+use rpp_ports::Sink;
+use rpp_words::NoMemory;
+use std::alloc::Global;
+use std::sync::ledger::Ledger;
+use two_way_debugger::Debugger;
+
+// Puts the reply to a line.
+fn answer_line<L: Ledger, K: Sink>(
+    alloc: Global,
+    debugger: &mut Debugger,
+    steps: &mut Steps<L>,
+    line: &[u8],
+    out: &mut K,
+) -> Option<u8>
+    requires { length line.now ≤ MOST_SCRIPT }
+    ensures { PutsBy (IsReply RepliesOf (Heard.Line line.now) debugger.old)
+        (quits (Heard.Line line.now)) ⊤ debugger.old debugger.new
+        (record { bytes = K.written out.old; puts = K.puts out.old })
+        (record { bytes = K.written out.new; puts = K.puts out.new }) result }
+{
+    match read_request(alloc, line) {
+        Ok(request) => answer(alloc, debugger, steps, request, out),
+        Err(NoMemory) => say_end(out, End::Memory),
+    }
+}
+
+// Hears a line, and puts the reply to it. There is a status where the session ends.
+fn exchange<L: Ledger, A: Asker, K: Sink>(
+    alloc: Global,
+    debugger: &mut Debugger,
+    steps: &mut Steps<L>,
+    asker: &mut A,
+    out: &mut K,
+) -> Option<u8>
+    ensures { Goes debugger.old debugger.new
+        (record {
+          lines = A.lines asker.old;
+          heard = A.events asker.old;
+          out = record { bytes = K.written out.old; puts = K.puts out.old };
+        })
+        (record {
+          lines = A.lines asker.new;
+          heard = A.events asker.new;
+          out = record { bytes = K.written out.new; puts = K.puts out.new };
+        }) result }
+{
+    match asker.next() {
+        Asked::Line(line) => answer_line(alloc, debugger, steps, &line, out),
+        Asked::Long => say_end(out, End::Long),
+        Asked::Lost => say_end(out, End::Memory),
+        Asked::Over => Some(0),
+        Asked::Failed => Some(2),
+    }
+}
+
+/// Hears lines, and puts the reply to each, until the input ends or asks for the end. Gives the
+/// status of the program.
+pub fn serve<L: Ledger, A: Asker, K: Sink>(
+    alloc: Global,
+    debugger: &mut Debugger,
+    steps: &mut Steps<L>,
+    asker: &mut A,
+    out: &mut K,
+) -> u8
+    ensures { IsSession RepliesOf debugger.old
+        (record {
+          lines = A.lines asker.old;
+          heard = A.events asker.old;
+          out = record { bytes = K.written out.old; puts = K.puts out.old };
+        })
+        (record {
+          lines = A.lines asker.new;
+          heard = A.events asker.new;
+          out = record { bytes = K.written out.new; puts = K.puts out.new };
+        }) result }
+{
+    for _ in 0..u64::MAX {
+        match exchange(alloc, debugger, steps, asker, out) {
+            Some(status) => return status,
+            None => {}
+        }
+    }
+    0
+}
