@@ -1,4 +1,4 @@
-"""One run of a source that the program `rooplpp-live` holds open. It answers line by line, as docs/reference/live.md has it.
+"""One run that the program `rooplpp-live` holds open. It answers line by line, as docs/reference/live.md has it.
 
     live = Live.begun(program, 'list.rpp', 12, 64)      # None where there is no such program, or it does not begin
     live.ask(['step 7', 'regs'])     # [Reply(lines=['at 7 place 375 depth 2'], end='done'), Reply(lines=[..], end='done')]
@@ -14,7 +14,7 @@ from typing import Iterator, List, NamedTuple, Optional, Sequence, Set
 
 from .program import Closing, Interrupted, OutOfTime, Program, command_of, is_for_node, is_program
 
-GREETING = ['rooplpp-live 1 source']
+GREETINGS = {kind: [f'rooplpp-live 1 {kind}'] for kind in ('source', 'image')}
 # So many bytes of requests are written before their replies are read. A pipe takes them also where nobody reads.
 BATCH = 4096
 LONGEST = 4096
@@ -44,16 +44,25 @@ class Live(Closing):
 
     @classmethod
     def begun(cls, program: Program, source: str, heap: int, depth: int, inputs: Sequence[str] = ()) -> Optional['Live']:
-        """A session at the start of the run, where there is a program that begins one."""
+        """A session at the start of the run of a source, where there is a program that begins one."""
+        return cls._begun(program, 'source', [source, str(heap), str(depth), *inputs])
+
+    @classmethod
+    def begun_image(cls, program: Program, image: str, heap: int, depth: int) -> Optional['Live']:
+        """The same of the run of an image, from its loaded memory."""
+        return cls._begun(program, 'image', [image, str(heap), str(depth)])
+
+    @classmethod
+    def _begun(cls, program: Program, kind: str, words: Sequence[str]) -> Optional['Live']:
         path = path_of(program)
         if path is None:
             return None
         try:
-            live = cls(program, [*command_of(path), 'source', source, str(heap), str(depth), *inputs])
+            live = cls(program, [*command_of(path), kind, *words])
         except OSError:
             return None
         try:
-            if live.ask([], replies=1)[0].lines == GREETING:
+            if live.ask([], replies=1)[0].lines == GREETINGS[kind]:
                 return live
         except Lost:
             pass

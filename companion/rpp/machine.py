@@ -1,4 +1,4 @@
-"""The prompt of `rpp debug IMG`: both ways along the run of an image, step by step of the machine, through `debug`."""
+"""The prompt of `rpp debug IMG`: both ways along the run of an image, step by step of the machine."""
 import re
 import sys
 from typing import Callable, Dict, List, NamedTuple, Optional, Tuple
@@ -12,7 +12,7 @@ from .reading import shown, title
 from .report import failure_lines
 from .state import NOTE
 from .tokens import NAME
-from .trace import FAR, MachineRun, Refused
+from .trace import MachineRun, Refused
 
 FIRST_BOUND = 1_000_000
 WINDOW = 2000
@@ -122,10 +122,8 @@ class MachinePrompt(Prompt):
         word, plain = ('backto', 'back') if back else ('to', 'step')
         begin, bound = self.standing.position, FIRST_BOUND
         while True:
-            lines: List[str] = []
-            for line in [f'{word} {pc} {bound}' for pc in cells] or [f'{plain} {bound}']:
-                lines += [f'back {FAR}', f'step {begin}', line]
-            found = self.run.walk(lines)[0][2::3]
+            searches = [f'{word} {pc} {bound}' for pc in cells] or [f'{plain} {bound}']
+            found = [self.run.walk([f'step {begin}', line])[0][-1] for line in searches]
             nearest = (max if back else min)(found, key=lambda at: at.position)
             if (cells and nearest.pc in cells and nearest.position != begin) or abs(nearest.position - begin) < bound:
                 break

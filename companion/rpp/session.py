@@ -487,11 +487,14 @@ class Session(Closing):
         return self._stand(point, 'change')._replace(reason='change', detail=detail)
 
     def _stop_of_change(self, cell: str, watched: Callable[[Moment], str], back: bool) -> Optional[Stop]:
-        """The stop at a change of a variable that a session finds; None if it was not asked, or what it found is another's."""
-        point = self.run.change(self.position, cell, back) if re.fullmatch(NAME, cell) else None
+        """The stop at a change that a session finds, of a variable or of a cell of an object; None if it was not asked, or what it
+        found is another's."""
+        lines = lines_of(cell)
+        point = self.run.change(self.position, cell, back) if lines else None
         if point is None or point.position == self.position:
             return None
-        changed = watched(self.run.moment(point.position))
+        looked = self.run.looks(point.position, 1, lines)
+        changed = watched(looked[0]) if looked else ''
         if changed:
             return self._changed(point, changed)
         if back and point.position == 0:

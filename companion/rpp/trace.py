@@ -486,27 +486,54 @@ class Standing(NamedTuple):
 
 
 class MachineRun(Closing):
-    """The run of an image from the loaded memory, read through `debug`."""
+    """The run of an image from the loaded memory: of a live session, or read through `debug`."""
 
     def __init__(self, program: Program, image: str, heap: int = 12, depth: int = 64):
         self.program = program
         self.image = image
         self.bounds = (heap, depth)
+        self._live = Live.begun_image(program, image, heap, depth)
+        self._at = 0
         self._folder = program.folder()
         self._folder.__enter__()
 
     def close(self) -> None:
         self._folder.__exit__()
+        if self._live:
+            self._live.close()
 
     def walk(self, lines: List[str]) -> Tuple[List[Standing], str]:
-        """Carries the lines out from the start by one call: where the machine was after each move, and all the text."""
+        """Carries the lines out from the start: where the machine was after each move, and all the text."""
+        output = self._asked(lines)
+        if output is None:
+            output = self._called(lines)
+        found = [AT_IMAGE.match(line) for line in output.split('\n')]
+        standings = [Standing(int(at[1]), int(at[2]), int(at[3]), int(at[4]), at[5] or '') for at in found if at]
+        self._at = standings[-1].position if standings else self._at
+        return standings, output
+
+    def _asked(self, lines: List[str]) -> Optional[str]:
+        """What the session prints; it begins where the last lines led. None without a session."""
+        first = re.fullmatch(r'step (\d+)', lines[0])
+        if self._live is None or not first:
+            return None
+        moves = int(first[1]) - self._at
+        try:
+            replies = self._live.ask([f'step {moves}' if moves >= 0 else f'back {-moves}', *lines[1:]])
+        except Lost:
+            self._live = None
+            return None
+        if any(reply.end == 'bad' for reply in replies):
+            raise ValueError(lines)
+        return ''.join(f'{line}\n' for reply in replies for line in reply.lines)
+
+    def _called(self, lines: List[str]) -> str:
+        """What one call of `debug` prints."""
         path = self._folder.write('script', '\n'.join(lines) + '\n')
         answer = self.program.call('debug', self.image, *self.bounds, path)
         if answer.status != 0:
             raise Refused(read_answer(answer))
-        found = [AT_IMAGE.match(line) for line in answer.output.split('\n')]
-        standings = [Standing(int(at[1]), int(at[2]), int(at[3]), int(at[4]), at[5] or '') for at in found if at]
-        return standings, answer.output
+        return answer.output
 
     def registers(self, position: int) -> Dict[int, int]:
         """The registers that are not 0 after so many steps."""
