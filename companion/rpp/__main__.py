@@ -10,7 +10,7 @@ from typing import List, NamedTuple
 
 from .options import Unfit
 from .program import Interrupted, Killed, NoProgram, OverSource
-from .screen import WHEN, choose, wrapped
+from .screen import WHEN, choose, complain, wrapped
 from .spelling import similar
 
 
@@ -47,7 +47,7 @@ WRONG_WORDS = 1
 
 
 def usage() -> str:
-    rows = [f'  {name:9}{command.text}' for name, command in COMMANDS.items()]
+    rows = [line for name, command in COMMANDS.items() for line in wrapped(f'{name:9}{command.text}', '  ', ' ' * 9)]
     return '\n'.join([
         'rpp: the companion of rooplpp',
         '',
@@ -79,7 +79,7 @@ def main(words: List[str]) -> int:
     try:
         return run_command(words if words[:1] == ['complete'] else without_colour(words))
     except Unfit as wrong:
-        print(f'rpp: {wrong}', file=sys.stderr)
+        complain(f'rpp: {wrong}')
         return WRONG_WORDS
 
 
@@ -91,7 +91,7 @@ def run_command(words: List[str]) -> int:
     if command is None:
         near = similar(words[0], COMMANDS)
         meant = f'; did you mean `{near}`?' if near else '; `rpp --help` names them all'
-        print(f'rpp: there is no command {words[0]}{meant}', file=sys.stderr)
+        complain(f'rpp: there is no command {words[0]}{meant}')
         return WRONG_WORDS
     try:
         status = importlib.import_module(f'rpp.{command.module}').main(words[1:])
@@ -99,14 +99,14 @@ def run_command(words: List[str]) -> int:
         return status
     except (NoProgram, OverSource, Unfit, Killed) as wrong:
         text = str(wrong)
-        print(text if text.startswith('rpp:') else f'rpp: {text}', file=sys.stderr)
+        complain(text if text.startswith('rpp:') else f'rpp: {text}')
         return 126 if isinstance(wrong, NoProgram) else WRONG_WORDS
     except BrokenPipeError:
         # The reader of the output has enough of it: as a filter does, end without a word.
         os.dup2(os.open(os.devnull, os.O_WRONLY), sys.stdout.fileno())
         return 141
     except OSError as wrong:
-        print(f'rpp: {wrong.filename}: {wrong.strerror}' if wrong.filename else f'rpp: {wrong}', file=sys.stderr)
+        complain(f'rpp: {wrong.filename}: {wrong.strerror}' if wrong.filename else f'rpp: {wrong}')
         return 2
     except (Interrupted, KeyboardInterrupt):
         print('rpp: stopped by ^C', file=sys.stderr)

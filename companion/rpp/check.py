@@ -13,7 +13,7 @@ from .program import Program
 from .reading import readable, shown
 from .report import caret_lines, failure_lines, message_lines, source_refused_line
 from .json_values import JSON_VERSION, message_value, place_value
-from .screen import paint
+from .screen import paint, say_located
 
 
 class Verdict(NamedTuple):
@@ -49,7 +49,11 @@ def main(words: List[str]) -> int:
         if given.json:
             values.append(value_of(verdict))
         else:
-            print('\n'.join(lines_of(verdict, given.brief)))
+            lines = lines_of(verdict, given.brief)
+            if given.brief:
+                print('\n'.join(lines))
+            else:
+                say_located(lines)
     if given.json:
         json.dump({'version': JSON_VERSION, 'command': 'check', 'sources': values}, sys.stdout, indent=2)
         print()

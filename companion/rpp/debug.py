@@ -14,6 +14,7 @@ from .prompt import Prompt, hold, number_of
 from .reading import readable, shown, title
 from .report import failure_lines, source_refused
 from .run import Wanted, bounds_refused
+from .screen import say
 from .session import Session, Stop
 from .trace import Moment, Refused
 
@@ -253,8 +254,7 @@ def debug_source(program: Program, given, lines: List[str]) -> int:
         try:
             session = Session.begun(program, given.source, given.heap, given.depth, inputs, is_held=True)
         except Refused as refused:
-            for line in refused_lines(given, inputs, refused):
-                print(line)
+            say(refused_lines(given, inputs, refused))
             return refused.told.status
         with session:
             prompt = SourcePrompt(session, echo=bool(lines) or not sys.stdin.isatty())

@@ -12,6 +12,7 @@ from .page import as_script, page, tell_refused, write_page
 from .places import Text
 from .program import Interrupted, Program
 from .reading import shown, title
+from .screen import say
 from .session import Session
 from .trace import Moment, Refused, SourceRun, Thing
 
@@ -170,5 +171,5 @@ def main(words: List[str]) -> int:
     tests = sum('end' in each for each in data['positions'])
     count = len(data['positions']) - tests
     whole = f'all {count} positions, and the test that fails' if tests else f'all {count} positions'
-    print(f'{out}: ' + (f'the first {count} positions; {lacking}' if lacking else whole))
+    say([f'{out}: ' + (f'the first {count} positions; {lacking}' if lacking else whole)])
     return 0

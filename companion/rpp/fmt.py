@@ -10,6 +10,7 @@ from .places import Text
 from .program import Program
 from .reading import STDIN, readable, shown
 from .report import source_refused_line
+from .screen import complain, say, say_located
 from .source import parsed
 
 
@@ -41,7 +42,7 @@ def laid_out(source: str, only_looks: bool) -> int:
     made = formatted(text)
     if only_looks:
         if made != text:
-            print(f'{shown(path)}: not formatted')
+            say([f'{shown(path)}: not formatted'])
         return int(made != text)
     if path != source:
         sys.stdout.buffer.write(made)
@@ -56,6 +57,6 @@ def tell_left(path: str, text: bytes) -> None:
     told = read_answer(Program.found().call('check', path))
     if told.kind == 'refused' and told.at is not None:
         message = of_refusal(text, told.number, told.at)
-        print(source_refused_line(shown(path), Text(text), told, message), file=sys.stderr)
+        say_located([source_refused_line(shown(path), Text(text), told, message)], sys.stderr)
     else:
-        print(f'{shown(path)}: not formatted: it does not follow the grammar', file=sys.stderr)
+        complain(f'{shown(path)}: not formatted: it does not follow the grammar')

@@ -12,6 +12,7 @@ from .page import tell_refused, write_page
 from .places import Text, decoded
 from .program import Folder, Program
 from .reading import title
+from .screen import columns, say
 from .trace import FAR, MachineRun, Refused, Standing
 
 ORDERS = (4, 6, 8, 10, 12)
@@ -20,6 +21,8 @@ HEAP_FULL = 8
 # points of the run that are looked at to find the fullest heap, and steps within which a statement begins
 SAMPLES, SINGLES = 15, 512
 MAP_SIGNS = 64
+# what is in front of the map and after it, in a line of its own
+MAP_MARGIN = len('      [' + ']')
 NAME = re.compile(r'^NAME (\d+) (\S+)$', re.M)
 INPUT = re.compile(r'^\s*(\S+)\s*=\s*(-?\d+)\s*$')
 
@@ -166,9 +169,9 @@ def heading(moment: Moment, text: Text) -> str:
     return f'{moment.title}, {moment.steps} steps: line {line}, {words}'
 
 
-def heap_map(memory: Memory) -> str:
-    """The heap from its first word to its last: a sign for each of equal parts, `.` free, `#` taken, `+` both."""
-    signs = min(MAP_SIGNS, 1 << memory.order)
+def heap_map(memory: Memory, most: int) -> str:
+    """The heap from its first word to its last: a sign for each of equal parts, at most so many, `.` free, `#` taken, `+` both."""
+    signs = 1 << min(memory.order, most.bit_length() - 1)
     part = (1 << memory.order) // signs
     held = [0] * signs
     for block in memory.blocks:
@@ -179,10 +182,12 @@ def heap_map(memory: Memory) -> str:
     return ''.join('.' if not words else '#' if words == part else '+' for words in held)
 
 
-def moment_rows(moment: Moment, text: Text) -> List[str]:
+def moment_rows(moment: Moment, text: Text, most: Optional[int] = None) -> List[str]:
+    """What there is at a moment, for so many columns."""
     memory = moment.memory
+    signs = MAP_SIGNS if most is None else min(MAP_SIGNS, most - MAP_MARGIN)
     rows = [heading(moment, text), f'  main object  @{memory.main.address} {block_words(memory.main)}',
-            f'  heap of {1 << memory.order} words from {memory.base}, {taken_words(memory)} taken  [{heap_map(memory)}]']
+            f'  heap of {1 << memory.order} words from {memory.base}, {taken_words(memory)} taken  [{heap_map(memory, signs)}]']
     rows += [f'  {block.address:8} {block.words:6} words  {block_words(block)}' for block in memory.blocks]
     lists = [f'order {order}: {" ".join(map(str, found))}' for order, found in memory.lists.items() if found]
     rows.append('  free blocks by order   ' + ('; '.join(lists) or 'none'))
@@ -226,11 +231,11 @@ def main(words: List[str]) -> int:
         moments, text = read_moments(given)
     except Refused as refused:
         return tell_refused(refused, given.source)
-    told = [moment_rows(moment, text) for moment in moments]
+    told = [moment_rows(moment, text, None if given.out else columns()) for moment in moments]
     if given.out:
         sections = [section(rows[0], moment.memory, rows[1:]) for moment, rows in zip(moments, told)]
         write_page(given.out, heap_page(title(given.source), sections), *filter(None, (given.source, given.input)))
-        print(given.out)
+        say([given.out])
     else:
-        print('\n\n'.join('\n'.join(rows) for rows in told))
+        say('\n\n'.join('\n'.join(rows) for rows in told).split('\n'))
     return 0

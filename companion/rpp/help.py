@@ -1,12 +1,11 @@
 """`rpp help [COMMAND | NUMBER | NAME | WORD]`: what a command, a refusal, a fault or a word of the language is."""
 import importlib
-import sys
 from typing import List
 
 from .forms import Form, forms_of
 from .messages import fault, rules_of
 from .report import rule_lines
-from .screen import wrapped
+from .screen import complain, say, wrapped
 
 
 def main(words: List[str]) -> int:
@@ -19,9 +18,9 @@ def main(words: List[str]) -> int:
         return importlib.import_module(f'rpp.{COMMANDS[word].module}').main(['--help']) or 0
     told = [[rule.title, *rule_lines(rule)] for rule in rules_of(word)] + [form_lines(form) for form in forms_of(word)]
     if not told:
-        print(f'rpp: {word} is no command, no word of a statement, and no number or name of a refusal or fault', file=sys.stderr)
+        complain(f'rpp: {word} is no command, no word of a statement, and no number or name of a refusal or fault')
         return 1
-    print('\n\n'.join('\n'.join(lines) for lines in told))
+    say('\n\n'.join('\n'.join(lines) for lines in told).split('\n'))
     return 0
 
 

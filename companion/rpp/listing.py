@@ -8,7 +8,7 @@ from .page import tell_refused
 from .places import Text
 from .program import Program
 from .reading import readable
-from .screen import paint
+from .screen import columns, cut, paint, say
 from .trace import Refused
 
 IMAGE_MARK = b'RPPI'
@@ -40,7 +40,7 @@ def main(words: List[str]) -> int:
     source = given.source_of_image if is_image else given.source
     if given.line and not source:
         raise Unfit('--line needs the source of the image: --source F')
-    print('\n'.join(rows(listed, Text.read(source) if source else None, given.line)))
+    say(rows(listed, Text.read(source) if source else None, given.line))
     return 0
 
 
@@ -64,14 +64,15 @@ def cells(program: Program, file: str, is_image: bool) -> List[Listed]:
 def rows(listed: List[Listed], text: Optional[Text], line: Optional[int]) -> List[str]:
     """The lines that are shown: the number of a cell, the cell, and its statement where another begins."""
     width = min(32, max(len(each.text) for each in listed))
-    shown, before = [], None
+    most, shown, before = columns(), [], None
     for at, each in enumerate(listed):
         if line and (each.place is None or text.place(each.place).line != line):
             before = None
             continue
         beside = statement(text, each.place) if text and each.place is not None and each.place != before else ''
         before = each.place
-        shown.append(f'{at:6d}  {each.text:{width}}  {paint("where", beside)}'.rstrip())
+        cell = f'{at:6d}  {each.text:{width}}  '
+        shown.append((cell + paint('where', beside if most is None else cut(beside, most - len(cell)))).rstrip())
     if not shown:
         raise Unfit(f'no instruction belongs to a statement that begins in line {line}')
     return shown

@@ -9,7 +9,8 @@ from .places import Text
 from .program import Program
 from .prompt import Prompt, hold, number_of
 from .reading import shown, title
-from .report import failure_lines
+from .report import caret_lines, failure_lines
+from .screen import say
 from .state import NOTE
 from .tokens import NAME
 from .trace import MachineRun, Refused
@@ -70,12 +71,12 @@ class MachinePrompt(Prompt):
         at = self.standing
         code = self.listing.code[at.pc] if 0 <= at.pc < len(self.listing.code) else 'no cell of the code'
         note = f'  {at.note}' if at.note else ''
-        print(f'[{at.position}] pc {at.pc} br {at.br} dir {at.dir}  {code}{note}')
+        self.say([f'[{at.position}] pc {at.pc} br {at.br} dir {at.dir}  {code}{note}'])
         place = self.listing.place(at.pc)
         if place is not None and self.text:
-            print(f'{self.text.spelled(title(self.source), place)}\n{self.text.pointed(place)}')
+            self.say([self.text.spelled(title(self.source), place), *caret_lines(self.text, place)])
         elif place is not None:
-            print(f'at byte {place} of its source; --source F shows the line')
+            self.say([f'at byte {place} of its source; --source F shows the line'])
 
     def moved(self, line: str) -> None:
         """Makes the moves of a line of the program's scripts from where the session is."""
@@ -192,7 +193,7 @@ class MachinePrompt(Prompt):
             for at, part in zip(standings[1:], parts):
                 self.standing = at
                 if read(part) != here:
-                    print(f'changed: {read(part)} -> {here}' if back else f'changed: {here} -> {read(part)}')
+                    self.say([f'changed: {read(part)} -> {here}' if back else f'changed: {here} -> {read(part)}'])
                     return
             if self.standing.note or self.standing.position == begin:
                 return
@@ -203,7 +204,7 @@ class MachinePrompt(Prompt):
         pc = self.standing.pc
         for cell in range(max(0, pc - 5), min(len(self.listing.code), pc + 6)):
             mark = ('>' if cell == pc else ' ') + ('*' if cell in self.breaks else ' ')
-            print(f'{mark}{cell:6d} | {self.listing.code[cell]}')
+            self.say([f'{mark}{cell:6d} | {self.listing.code[cell]}'])
 
     def do_where(self, _arg: str) -> None:
         """where: where the machine is."""
@@ -221,8 +222,7 @@ def debug_image(program: Program, given, lines: List[str]) -> int:
             prompt = MachinePrompt(run, listing, given.source_of_image, echo)
             return hold(prompt, lines, f'{title(given.source)}: `help` names the commands')
     except Refused as refused:
-        for line in image_refused(given.source, refused):
-            print(line)
+        say(image_refused(given.source, refused))
         return refused.told.status
 
 

@@ -20,6 +20,7 @@ from .plot import Panel, Series, plot
 from .program import Program, keep_apart
 from .reading import title
 from .results import Result
+from .screen import columns, say
 from .tokens import NAME
 from .trace import MOST_CELLS, Refused, SourceRun
 
@@ -28,6 +29,7 @@ MOST_RUNS = 2000
 MOST_POINTS = 100_000
 FRAME_WORDS = 512
 EXPLAINED_DEPTH = 32
+GAP = '  '
 MEASURES = {
     'steps': ('steps', 'of the machine, by `go`'),
     'cost': ('cost', 'units of the language, by `explain`'),
@@ -173,12 +175,32 @@ def cell(value: Optional[float]) -> str:
     return '-' if value is None else f'{value:g}' if isinstance(value, float) else str(value)
 
 
-def table(rows: List[Measured]) -> str:
-    """The rows in columns."""
+def table(rows: List[Measured], most: Optional[int] = None) -> List[str]:
+    """The rows in columns. If the terminal is too narrow for all, several tables one below the other, each with the inputs in front."""
     heads = [*rows[0].inputs, *MEASURES, 'end']
     lines = [heads] + [[cell(row.plain[head]) if head != 'end' else row.end for head in heads] for row in rows]
     widths = [max(len(line[at]) for line in lines) for at in range(len(heads))]
-    return '\n'.join('  '.join([text.rjust(width) for text, width in zip(line[:-1], widths)] + [line[-1]]) for line in lines) + '\n'
+    found: List[str] = []
+    for part in parts(widths, len(rows[0].inputs), most):
+        found += [''] * bool(found) + [aligned(line, part, widths) for line in lines]
+    return found
+
+
+def parts(widths: List[int], inputs: int, most: Optional[int]) -> List[List[int]]:
+    """Which columns each table has: first those of the inputs, then as many others as fit, but one at least."""
+    front = list(range(inputs))
+    found = [front + [inputs]]
+    for at in range(inputs + 1, len(widths)):
+        if most is None or sum(widths[each] + len(GAP) for each in found[-1] + [at]) - len(GAP) <= most:
+            found[-1].append(at)
+        else:
+            found.append(front + [at])
+    return found
+
+
+def aligned(line: List[str], part: List[int], widths: List[int]) -> str:
+    """Some cells of a line: numbers to the right, and how the run ended to the left."""
+    return GAP.join(line[at] if at == len(line) - 1 else line[at].rjust(widths[at]) for at in part)
 
 
 def as_csv(rows: List[Measured]) -> str:
@@ -258,7 +280,7 @@ def main(words: List[str]) -> int:
     except Refused as refused:
         return tell_refused(refused, given.source)
     if '-' not in (given.csv, given.json, given.svg):
-        print(table(rows), end='')
+        say(table(rows, columns()))
     if given.csv:
         write(given.csv, as_csv(rows), given.source)
     if given.json:

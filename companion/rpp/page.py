@@ -10,6 +10,7 @@ from .places import Text
 from .program import PACKAGE, keep_apart
 from .reading import shown
 from .report import failure_lines, rule_lines, source_refused
+from .screen import say
 from .trace import Refused
 
 PAGES = os.path.join(PACKAGE, 'pages')
@@ -68,5 +69,5 @@ def tell_refused(refused: Refused, source: str) -> int:
         lines = [f'rpp: {told.first_line}'] + rule_lines(refusal(told.number))
     else:
         lines = failure_lines(told, shown(source))
-    print('\n'.join(lines), file=sys.stderr)
+    say(lines, sys.stderr)
     return told.status

@@ -10,6 +10,7 @@ from .page import tell_refused
 from .places import decoded
 from .program import Folder, Program, keep_apart
 from .reading import title
+from .screen import say
 from .session import Session
 from .store_picture import Store
 from .trace import FAR, Moment, Refused
@@ -119,5 +120,5 @@ def main(words: List[str]) -> int:
         else:
             with open(given.out, 'w', encoding='utf-8') as file:
                 file.write(svg)
-    print(f'{given.out}: position {position}')
+    say([f'{given.out}: position {position}'])
     return 0

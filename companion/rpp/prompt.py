@@ -7,7 +7,7 @@ from typing import List, Optional
 from .complete import matching
 from .options import Unfit
 from .program import Interrupted, Killed, OutOfTime
-from .screen import wrapped
+from .screen import say, wrapped
 from .trace import Refused
 
 HISTORY = os.path.join('~', '.rpp_history')
@@ -27,8 +27,7 @@ class Prompt(cmd.Cmd):
         self.use_rawinput = not echo
 
     def say(self, lines: List[str]) -> None:
-        for line in lines:
-            print(line)
+        say(lines)
 
     def notify(self, text: str) -> None:
         """Progress of a long search, only on a terminal."""
@@ -129,7 +128,7 @@ class Prompt(cmd.Cmd):
         for line in lines:
             line = line.split('//')[0].strip()
             if line:
-                print(f'{self.prompt}{line}')
+                say([f'{self.prompt}{line}'])
                 if self.onecmd(self.precmd(line)):
                     return True
         return False
@@ -138,7 +137,7 @@ class Prompt(cmd.Cmd):
 def hold(prompt: Prompt, lines: List[str], greeting: str) -> int:
     """Holds the session; the status is 1 where a command of a script was wrong."""
     if not prompt.echo:
-        print(greeting)
+        say([greeting])
     prompt.here()
     if lines:
         prompt.obey(lines)

@@ -39,13 +39,13 @@ def caret_lines(text: Text, at: int) -> List[str]:
     line, marks = text.pointed(at).split('\n')
     most = columns()
     if most is not None:
-        line, marks = cut_around(line, marks, most)
+        line, marks = cut_around(line.expandtabs(), marks.expandtabs(), most)
     return [line, marks.replace(marks.lstrip(' |\t'), paint('mark', marks.lstrip(' |\t')))]
 
 
 def cut_around(line: str, marks: str, most: int) -> Tuple[str, str]:
     """A source line with its number and the line of carets below it, cut to so many columns around the carets."""
-    if len(line) <= most or '\t' in line:
+    if len(line) <= most:
         return line, marks
     margin, begin = line.index('|') + 2, marks.index('^')
     room = most - margin - len('.. ' + ' ..')

@@ -15,7 +15,7 @@ from .program import Interrupted, Program
 from .reading import shown, title
 from .report import failure_lines, fault_title, message_lines, pointed_lines, rule_lines, source_refused, test_lines
 from .run_values import run_value
-from .screen import wrapped
+from .screen import say, wrapped
 from .session import Frame
 from .folding import folded
 
@@ -57,7 +57,7 @@ def main(words: List[str]) -> int:
             json.dump(run_value(program, wanted, told), sys.stdout, indent=2)
             print()
         else:
-            print('\n'.join(said(program, wanted, told)))
+            say(said(program, wanted, told))
     return told.status
 
 

@@ -8,7 +8,7 @@ from .faults import Failing
 from .formulas import BadFormula, Formula
 from .reading import title
 from .report import caret_lines, message_lines, test_lines
-from .screen import paint
+from .screen import columns, cut, paint
 from .session import Breakpoint, Frame, Session, Stop
 from .trace import Moment, Thing
 
@@ -166,8 +166,14 @@ def listing_lines(session: Session, line: int, around: int = 5) -> List[str]:
     lines = []
     for number in range(max(1, line - around), min(text.line_count, line + around) + 1):
         mark = ('>' if number == here else ' ') + ('*' if number in breaks else ' ')
-        lines.append(f'{mark}{number:5d} | {text.line(number)}'.rstrip())
+        lines.append(shortened(f'{mark}{number:5d} | {text.line(number)}'))
     return lines
+
+
+def shortened(line: str) -> str:
+    """A line with a source line at its end, cut to the terminal where there is one."""
+    most = columns()
+    return line.rstrip() if most is None else cut(line.expandtabs().rstrip(), most)
 
 
 def history_lines(session: Session, count: int) -> List[str]:
@@ -178,5 +184,5 @@ def history_lines(session: Session, count: int) -> List[str]:
     for point in session.run.points(first, session.position - first):
         place = session.run.text.place(point.place)
         source = '  ' * min(20, point.depth - 1) + session.run.text.line(place.line).strip()
-        lines.append(f'[{point.position}] {file}:{place.line}:{place.column} {source}')
+        lines.append(shortened(f'[{point.position}] {file}:{place.line}:{place.column} {source}'))
     return lines or ['nothing was done before']

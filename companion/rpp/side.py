@@ -2,13 +2,14 @@
 are what `show-inverse` wrote: of the program, and of its inverse again."""
 import re
 from itertools import zip_longest
-from typing import Iterator, List, Tuple, Union
+from typing import Iterator, List, NamedTuple, Optional, Tuple, Union
 
 from .messages import read_answer
 from .options import Parser, add_source
 from .page import as_script, page, tell_refused, write_page
 from .program import Folder, Program
 from .reading import title
+from .screen import columns, say
 from .tokens import KEYWORDS
 from .trace import Refused
 
@@ -19,8 +20,21 @@ WORDS = ('Lines that belong together have one number; a line under the pointer o
 SCRIPT = '''RooplSide.show(document.querySelector('main'), {data}).select(Number(location.hash.slice(1)) || 1, 'program');
 '''
 
+# The columns of a line's number, and of all that is not a line of one of the programs.
+NUMBER = 4
+FRAME = len('   1   |    1  ')
+# where a line may be broken: after each of these
+PIECE = re.compile(r' *(?:[^ :(\[]+(?:::|[(\[])?|::|[:(\[])')
+
 # a line's number, or the list of the statements of a block; a statement is a list of these
 Part = Union[int, list]
+
+
+class Shape(NamedTuple):
+    """The columns of a line, of a line of the inverse, and of the number of each."""
+    width: int
+    of_inverse: int
+    margin: int
 
 
 class LaidOut:
@@ -134,14 +148,51 @@ def side_texts(program: Program, source: str) -> Tuple[str, str]:
         return inverse_text(program, folder.name('inverse'), folder, 'program'), inverse
 
 
-def side_rows(texts: Tuple[str, str]) -> List[str]:
-    """The two texts side by side for a terminal: each line of the inverse has the number of the one that it undoes."""
+def side_rows(texts: Tuple[str, str], most: Optional[int] = None) -> List[str]:
+    """The two texts side by side, in so many columns: each line of the inverse has the number of the one that it undoes."""
     program, inverse = LaidOut(texts[0]), LaidOut(texts[1])
     number = {of_inverse: of_program + 1 for of_program, of_inverse in pairs(program, inverse)}
-    width = max(len(line) for line in program.lines)
-    rows = [f'{"":4}  {"program":{width}}   {"":4}  inverse']
+    shape = shape_of(program.lines, inverse.lines, most)
+    rows = [f'{"":{shape.margin}}  {"program":{shape.width}}   {"":{shape.margin}}  inverse']
     for at, (line, other) in enumerate(zip_longest(program.lines, inverse.lines, fillvalue='')):
-        rows.append(f'{at + 1:4}  {line:{width}} | {number.get(at, ""):4}  {other}'.rstrip())
+        rows += side_row((at + 1, line), (number.get(at, ''), other), shape)
+    return rows
+
+
+def shape_of(lines: List[str], others: List[str], most: Optional[int]) -> Shape:
+    """As wide as the lines are, or as the terminal allows: the halves share it, and a narrow one leaves what it does not need."""
+    own, other = max(map(len, lines)), max(map(len, others))
+    if most is None or FRAME + own + other <= most:
+        return Shape(own, other, NUMBER)
+    margin = len(str(max(len(lines), len(others))))
+    left = most - FRAME + 2 * (NUMBER - margin)
+    width = min(own, max(left // 2, left - other))
+    return Shape(width, left - width, margin)
+
+
+def cell_rows(line: str, width: int) -> List[str]:
+    """A line of a program in rows of so many columns, the later ones further in: broken at spaces, after `::` and brackets, and
+    within a name only where it is longer than a row."""
+    if len(line) <= width:
+        return [line]
+    margin = line[:len(line) - len(line.lstrip())][:width // 3]
+    rows, room = [''], width - len(margin)
+    for piece in PIECE.findall(line.strip()):
+        if len(rows[-1] + piece) <= room:
+            rows[-1] += piece
+            continue
+        room = width - len(margin) - 2
+        piece = piece.lstrip()
+        rows += [piece[at:at + room] for at in range(0, len(piece), room)]
+    return [margin + rows[0], *(f'{margin}  {row}' for row in rows[1:])]
+
+
+def side_row(one: Tuple[int, str], other: Tuple[Union[int, str], str], shape: Shape) -> List[str]:
+    """Two lines side by side, each in as many rows as it needs."""
+    (width, of_other, margin), rows = shape, []
+    for own, partner in zip_longest(cell_rows(one[1], width), cell_rows(other[1], of_other), fillvalue=''):
+        first = not rows
+        rows.append(f'{one[0] if first else "":{margin}}  {own:{width}} | {other[0] if first else "":{margin}}  {partner}'.rstrip())
     return rows
 
 
@@ -165,7 +216,7 @@ def main(words: List[str]) -> int:
         return tell_refused(refused, given.source)
     if given.out:
         write_page(given.out, side_page(title(given.source), texts), given.source)
-        print(given.out)
+        say([given.out])
     else:
-        print('\n'.join(side_rows(texts)))
+        say(side_rows(texts, columns()))
     return 0

@@ -8,6 +8,7 @@ from .options import DEPTH, HEAP, MOST_DEPTH, MOST_HEAP, Parser, Unfit
 from .program import Program, keep_apart
 from .reading import is_kept, readable, shown
 from .report import failure_lines
+from .screen import say
 from .tokens import NAME
 
 HEADER = struct.Struct('<4sI32iI')
@@ -86,8 +87,7 @@ def main(words: List[str]) -> int:
     changed = with_numbers(state, field_cells(program, given.image), numbers)
     with open(given.out, 'wb') as out:
         out.write(changed)
-    print(f'{given.out}: a start state with {len(numbers)} number{"s" * (len(numbers) != 1)}')
     image = 'IMG' if is_kept(given.image) else given.image
-    print(f'rooplpp run {image} {given.heap} {given.depth} STEPS {given.out} SAVE begins with it; '
-          '`debug` and `profile` take no state')
+    say([f'{given.out}: a start state with {len(numbers)} number{"s" * (len(numbers) != 1)}',
+         f'rooplpp run {image} {given.heap} {given.depth} STEPS {given.out} SAVE begins with it; `debug` and `profile` take no state'])
     return 0

@@ -9,6 +9,7 @@ import json
 import os
 import stat
 import sys
+import textwrap
 import time
 from typing import Any, Dict, List, NamedTuple, Optional
 
@@ -21,9 +22,13 @@ from .messages import placed
 from .options import SOURCES, Parser, Unfit, refuse_sources
 from .program import OverSource, Program, keep_apart
 from .reading import readable, shown
+from .screen import columns, say
 
 MOST_BYTES = 262_144
 WHOLE_SECONDS = 30.0
+GAP = '  '
+# The columns that the table leaves for what is wrong, or else this is in a line of its own.
+LEAST_WHY = 24
 COLUMNS = ('submission', 'exercise', 'verdict', 'held', 'expected', 'seconds', 'why')
 TOLD = {'right': 'all expectations hold', 'wrong': 'not all expectations hold', 'open': 'answers are still open',
         'refused': 'the text is refused', 'fault': 'a run stopped with a fault', 'endless': 'a run did not end',
@@ -165,13 +170,25 @@ def told(row: Row) -> List[str]:
     return lines + [f'  {line}' for line in row.verdict.lines]
 
 
-def table(rows: List[Row]) -> List[str]:
-    """A line for each file, in columns, and the sums."""
+def table(rows: List[Row], most: Optional[int] = None) -> List[str]:
+    """A line for each file, in columns, and the sums. On a terminal that is too narrow, the names are in lines of their own."""
     cells = [[row.name, row.verdict.kind, f'{row.verdict.held} of {row.expected}', row.verdict.first_line] for row in rows]
     widths = [max(len(row[at]) for row in cells) for at in range(3)]
-    lines = ['  '.join([text.ljust(width) for text, width in zip(row, widths)] + [row[3]]).rstrip()[:200] for row in cells]
+    if most is not None and sum(widths) + 3 * len(GAP) + LEAST_WHY > most:
+        lines = [line for row in cells for line in [row[0], '  ' + GAP.join(each for each in row[1:] if each)]]
+    else:
+        lines = [line for row in cells for line in table_row(row, widths, most)]
     counts = {kind: sum(row.verdict.kind == kind for row in rows) for kind in TOLD}
     return lines + [', '.join(f'{count} {kind}' for kind, count in counts.items() if count)]
+
+
+def table_row(row: List[str], widths: List[int], most: Optional[int]) -> List[str]:
+    """A line of the table; on a terminal the last cell is in as many rows as it needs."""
+    front = GAP.join(text.ljust(width) for text, width in zip(row, widths)) + GAP
+    if most is None:
+        return [(front + row[3]).rstrip()[:200]]
+    rows = textwrap.wrap(row[3], most - len(front)) or ['']
+    return [(front + rows[0]).rstrip(), *(' ' * len(front) + each for each in rows[1:])]
 
 
 def as_csv(rows: List[Row]) -> str:
@@ -224,7 +241,7 @@ def main(words: List[str]) -> int:
     rows = all_judged(paths, named, Grading(given.by, given.seconds, given.each), given.jobs)
     if '-' not in (given.csv, given.json):
         as_table = given.table or len(named) < len(paths)
-        print('\n'.join(table(rows) if as_table else [line for row in rows for line in told(row)]))
+        say(table(rows, columns()) if as_table else [line for row in rows for line in told(row)])
     try:
         if given.csv:
             write_out(given.csv, as_csv(rows), paths)

@@ -1,12 +1,12 @@
 """`rpp version`: Prints the commit of this tool, the program that it calls, and what is known about that."""
 import os
 import subprocess
-import sys
 from typing import List
 
 from .options import Parser
 from .program import BUILT, TOP, NoProgram, Program, is_program, why_no_program
 from .record import released, standing_of
+from .screen import complain, say
 
 
 def parser() -> Parser:
@@ -15,19 +15,17 @@ def parser() -> Parser:
 
 def main(words: List[str]) -> int:
     parser().parse_args(words)
-    print(f'rpp: {commit()}')
+    say([f'rpp: {commit()}'])
     if os.path.exists(BUILT) and not is_program(BUILT) and not os.environ.get('ROOPLPP_PROGRAM'):
-        print(f'passed over: {BUILT}, which {why_no_program(BUILT)}')
+        say([f'passed over: {BUILT}, which {why_no_program(BUILT)}'])
     try:
         program = Program.found(unpacks=False)
     except NoProgram as missing:
-        print(missing, file=sys.stderr)
+        complain(str(missing))
         return 126
     standing = standing_of(program)
-    print(f'program: {program.path} ({program.origin})')
-    print(f'sha256: {standing.digest}')
-    print(f'kit: {standing.kit or "not known"}')
-    print(f'proved: {standing.proved}')
+    say([f'program: {program.path} ({program.origin})', f'sha256: {standing.digest}', f'kit: {standing.kit or "not known"}',
+         f'proved: {standing.proved}'])
     return 0
 
 
