@@ -7,7 +7,7 @@ function refusalMessage(text, number, place) { return companion.explain.of_refus
 // The blocks that have no end yet where a text leaves the grammar: the words that open them, with their lines from 1.
 function openBlocks(text) {
   const bytes = Bytes.of(text), [tokens] = companion.tokens.cut(bytes), wrong = companion.grammar.first_wrong(tokens);
-  const open = (wrong?.open ?? []).filter(({ what }) => OPENERS.includes(what)), place = wrong && companion.syntax.Place.made({}, bytes, tokens, wrong);
+  const open = (wrong?.open ?? []).filter(({ what }) => OPENERS.includes(what)), place = wrong && companion.syntax_place.Place.made({}, bytes, tokens, wrong);
   return open.map(({ what, first }) => [what, place.line_of(first)]);
 }
 
