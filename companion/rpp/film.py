@@ -135,8 +135,9 @@ def as_text(source: bytes) -> str:
     return ''.join('?' if '\udc80' <= each <= '\udcff' else each for each in source.decode('utf-8', 'surrogateescape'))
 
 
-def film_page(data: Dict[str, Any]) -> str:
-    return page(f'{data["name"]}: the film of its run', WORDS, FILES, script=SCRIPT.format(data=as_script(data)))
+def film_page(data: Dict[str, Any], lacking: str = '') -> str:
+    rest = f' These are the first {len(data["positions"])} positions, and the run goes on: {lacking}.' if lacking else ''
+    return page(f'{data["name"]}: the film of its run', WORDS + rest, FILES, script=SCRIPT.format(data=as_script(data)))
 
 
 def parser() -> Parser:
@@ -167,7 +168,7 @@ def main(words: List[str]) -> int:
         data, lacking = read_film(given)
     except Refused as refused:
         return tell_refused(refused, given.source)
-    write_page(out, film_page(data), *filter(None, (given.source, given.input)))
+    write_page(out, film_page(data, lacking), *filter(None, (given.source, given.input)))
     tests = sum('end' in each for each in data['positions'])
     count = len(data['positions']) - tests
     whole = f'all {count} positions, and the test that fails' if tests else f'all {count} positions'

@@ -118,7 +118,11 @@ class FilmTest(Folder):
         done = self.rpp('film', source, 'x=3', '--most', '2', '-o', f'{self.folder}/two.html')
         self.assertEqual(done.stdout, f'{self.folder}/two.html: the first 2 positions; --most 20 shows more\n')
         with open(f'{self.folder}/two.html', encoding='utf-8') as file:
-            self.assertIn('["x","3"]', file.read())
+            page = file.read()
+        self.assertIn('["x","3"]', page)
+        self.assertIn('These are the first 2 positions, and the run goes on: --most 20 shows more.</p>', page)
+        with open(f'{self.folder}/turns.html', encoding='utf-8') as file:
+            self.assertNotIn('and the run goes on', file.read())
         self.assertNotEqual(self.rpp('film', source, '-o', source).returncode, 0)
         with open(source, encoding='utf-8') as file:
             self.assertEqual(file.read(), TURNS)
