@@ -2,7 +2,7 @@
 import argparse
 import importlib
 import os
-from typing import Iterable, List, Optional
+from typing import Iterable, List, Optional, Tuple
 
 from .forms import FORMS, WORDS
 from .names import input_fields as fields_of
@@ -10,7 +10,10 @@ from .options import Parser
 from .rules import FAULTS, REFUSALS
 from .screen import WHEN
 
-SOURCES = ('source', 'sources')
+# Arguments that are sources, and those that give numbers to fields.
+SOURCES, INPUTS = ('source', 'sources'), ('assignments', 'ranges')
+# What the names of files end with; some commands also take an image for their source.
+TEXTS, OF_IMAGES, WITH_IMAGES = ('.rpp',), ('.rpp', '.img'), ('debug', 'list')
 
 
 def parser() -> Parser:
@@ -42,13 +45,16 @@ def candidates(before: List[str], last: str) -> List[str]:
     words = parser_of(command.module)
     asked = option_named(words, before[-1])
     if asked is not None and asked.nargs != 0:
-        return matching(last, asked.choices) if asked.choices else files(last, '')
+        return matching(last, asked.choices) if asked.choices else files(last, ('',))
     if last.startswith('-'):
         return matching(last, [name for each in words._actions for name in each.option_strings if name.startswith('--')] + [COLOUR])
     positional = [each.dest for each in words._actions if not each.option_strings]
-    fields = input_fields(before) if 'assignments' in positional else []
+    fields = input_fields(before) if set(positional) & set(INPUTS) else []
     named = matching(last, [f'{name}=' for name in fields])
-    return named or files(last, '.rpp' if set(positional) & set(SOURCES) else '')
+    if named or 'source' in positional and source_among(before):
+        return named
+    endings = OF_IMAGES if before[0] in WITH_IMAGES else TEXTS
+    return files(last, endings if set(positional) & set(SOURCES) else ('',))
 
 
 def parser_of(module: str) -> argparse.ArgumentParser:
@@ -65,8 +71,8 @@ def matching(last: str, words: Iterable[str]) -> List[str]:
     return [str(each) for each in words if str(each).startswith(last)]
 
 
-def files(last: str, ending: str) -> List[str]:
-    """The files with this ending, and the folders, whose names begin so."""
+def files(last: str, endings: Tuple[str, ...]) -> List[str]:
+    """The files with one of these endings, and the folders, whose names begin so."""
     folder, begin = os.path.split(last)
     try:
         names = sorted(os.listdir(folder or '.'))
@@ -79,14 +85,18 @@ def files(last: str, ending: str) -> List[str]:
             continue
         if os.path.isdir(path):
             found.append(f'{path}/')
-        elif name.endswith(ending):
+        elif name.endswith(endings):
             found.append(path)
     return found
 
 
+def source_among(before: List[str]) -> Optional[str]:
+    return next((word for word in before[1:] if os.path.isfile(word)), None)
+
+
 def input_fields(before: List[str]) -> List[str]:
     """The int fields of the main object of the source among these words, less those that have a number."""
-    source = next((word for word in before[1:] if os.path.isfile(word)), None)
+    source = source_among(before)
     if source is None:
         return []
     given = {word.split('=')[0] for word in before if '=' in word}

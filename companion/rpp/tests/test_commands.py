@@ -246,13 +246,17 @@ class Width(unittest.TestCase):
 class Completion(Case):
     ROWS = [(['ver'], ['version']), (['run', 'count'], ['counter.rpp']), (['run', 'counter.rpp', 'c'], ['count=']),
             (['run', 'counter.rpp', 'count=1', 'b'], ['before=']), (['check', '--br'], ['--brief']), (['help', 'TooD'], ['TooDeep']),
-            (['run', '--co'], ['--color']), (['--color', 'a'], ['auto', 'always']), (['--color', 'never', 'ver'], ['version'])]
+            (['run', '--co'], ['--color']), (['--color', 'a'], ['auto', 'always']), (['--color', 'never', 'ver'], ['version']),
+            (['stat', 'counter.rpp', ''], ['count=', 'before=']), (['stat', 'counter.rpp', '--results', 'c'], ['counter.img', 'counter.rpp']),
+            (['run', 'counter.rpp', 'before=1', 'count=2', ''], []), (['list', 'co'], ['counter.img', 'counter.rpp']), (['run', 'co'], ['counter.rpp']),
+            (['check', 'counter.rpp', 'co'], ['counter.rpp']), (['test', 'co'], ['counter.img', 'counter.rpp']), (['debug', 'counter.img', ''], [])]
 
     def setUp(self):
         super().setUp()
         shutil.copy(os.path.join(EXAMPLES, 'counter.rpp'), self.folder)
 
     def test_words(self):
+        self.write('counter.img', '')
         for words, wanted in self.ROWS:
             with self.subTest(words=words):
                 self.assertEqual(self.rpp('complete', *words).stdout.split(), wanted)
