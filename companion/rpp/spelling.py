@@ -170,6 +170,9 @@ TYPE_HEAD = re.compile(r'^\s*(?:pub\s+|public\s+|typedef\s+)*(struct|record|inte
 SLICE = re.compile(r'\[[^\]]*$')
 LAMBDA = re.compile(r'\blambda\b[^:]*$')
 CONDITION = re.compile(r'^\s*(if|elif|while|until|fi|from)\b')
+# A condition that has begun, up to its left side; and its right side up to the next word of the statement.
+CONDITION_OPEN = re.compile(r"\b(if|fi|from|until|&&|\|\|)\s+[\w'().+-]+\s*$")
+UNEQUAL_TO = re.compile(r"#\s*([\w'()+-]+\s*(then|do|loop|&&|\|\|)|-?\d+\s*$)")
 ELSE = re.compile(r'^\s*(else|do|loop|then)\s*$')
 CLASS = re.compile(rf'\bclass\s+{NAME}\s*$')
 DECLARING = re.compile(rf'\b(let|var|val|const|local|delocal)\s+(?:mut\s+)?({NAME})\s*$')
@@ -286,7 +289,9 @@ def of_dot_call(it: Spot, receiver: str, method: str, is_bare: bool) -> Hint:
 
 
 def of_hash(it: Spot) -> Optional[Hint]:
-    """`#include`, `#define`, and comments."""
+    """`#include`, `#define`, comments, and Janus' `x # 0`."""
+    if CONDITION_OPEN.search(it.before) and UNEQUAL_TO.match(it.after):
+        return Hint('"Not equal" is `!=`, not `#`.', '', it.changes(0, 1, '!='), 'Write `!=`')
     word = re.sub('[^A-Za-z].*', '', it.after[1:].strip())
     if word in ('include', 'import', 'pragma', 'use'):
         return Hint(ALONE.replace('{word}', f'#{word}'), 'Leave the line out.', it.changes(0, len(it.after), ''), 'Remove the line')

@@ -79,7 +79,9 @@ def of_comment_as_quotient(it: Place) -> Optional[Hint]:
 
 
 def of_arrow(it: Place) -> Optional[Hint]:
-    """`c->m()`, and `->` in front of a type."""
+    """`c->m()`, `->` in front of a type, and `x <-> y`."""
+    if it.written(0, 2).replace(' ', '') == '<->' and it.is_joined(0) and it.is_joined(1):
+        return Hint('Two variables are exchanged by `<=>`, not by `<->`.', '', it.changes(0, 2, '<=>'), 'Write `<=>`')
     if it.word() == '-' and it.word(1) == '>' and it.is_joined() and it.is_statement() and it.word(-1) == ')':
         return Hint('A method must have no type: it has no result.', 'Let it add what it computes to a parameter.',
                     (Edit(it.end(-1), it.end(2), ''),), 'Remove the type')
