@@ -18,6 +18,8 @@ NOTES_OF_NPM = r'/\.npm(/.*)?'
 FOLDER_OF_NPM = r'/usr/local/lib/node_modules'
 # What fish writes of the manuals of a system when it is first started.
 NOTES_OF_FISH = rf'{HOME}/\.local(/share(/fish(/generated_completions(/.*)?)?)?)?'
+# What Neovim and Emacs keep in a home.
+NOTES_OF_EDITORS = rf'{HOME}/\.(local|cache|config|emacs\.d)(/.*)?'
 PACKED = rf'{CLONE}/release/[\w.-]+\.(tgz|vsix|tar|tar\.gz)'
 
 
@@ -99,10 +101,12 @@ def ways_of_others():
               emacs('(package-install-file (car (file-expand-wildcards "release/rpp-mode-*.tar")))'),
               emacs('(package-delete (cadr (assq (quote rpp-mode) package-alist)))'), path=path, before=made,
               stays=rf'{HOME}/\.emacs(\.d(/(?!elpa/rpp-mode).*)?)?|{COMPILED}', use='emacs')
-    install, remove = (it.replace('sudo apt', 'apt -y') for it in of_readme('Debian, Ubuntu'))
+    debian = tuple(it.replace('sudo apt', 'apt -y') for it in of_readme('Debian, Ubuntu'))
     shells = 'python3 bash-completion zsh fish'
-    yield Way('completion, by the Debian package', shells, install, remove, is_root=True, before=(install, remove),
+    yield Way('completion, by the Debian package', shells, *debian, is_root=True, before=debian,
               stays=f'{NOTES_OF_APT}|{NOTES_OF_FISH}', use='shells')
+    yield Way('editors, by the Debian package', 'python3 vim-nox neovim emacs-nox elpa-eglot', *debian, is_root=True, before=debian,
+              stays=f'{NOTES_OF_APT}|{NOTES_OF_EDITORS}', use='editors')
     install, remove = of_readme('other x86-64 Linux')
     yield Way('completion, by --install', shells, install, remove, path=f'{HOME}/.local/bin', stays=NOTES_OF_FISH, use='shells')
 

@@ -14,10 +14,10 @@ ZSH = 'share/zsh/site-functions'
 # Where completions go, by the shell that they are for.
 COMPLETIONS = {'editors/bash': 'share/bash-completion/completions', 'editors/zsh': ZSH,
                'editors/fish': 'share/fish/vendor_completions.d'}
-# Where whole folders go.
-FOLDERS = {'docs': 'share/doc/rooplpp/docs', 'examples': 'share/doc/rooplpp/examples', 'editors/vim': 'share/vim/vimfiles',
-           'editors/emacs': 'share/emacs/site-lisp/rooplpp', 'editors/vscode': 'share/rooplpp/vscode',
-           'editors/tree-sitter': 'share/rooplpp/tree-sitter', 'editors/latex': 'share/texmf/tex/latex/rooplpp'}
+# Where whole folders go. Neovim does not look where Vim does.
+FOLDERS = (('docs', 'share/doc/rooplpp/docs'), ('examples', 'share/doc/rooplpp/examples'), ('editors/vim', 'share/vim/vimfiles'),
+           ('editors/vim', 'share/nvim/site'), ('editors/emacs', 'share/emacs/site-lisp/rooplpp'), ('editors/vscode', 'share/rooplpp/vscode'),
+           ('editors/tree-sitter', 'share/rooplpp/tree-sitter'), ('editors/latex', 'share/texmf/tex/latex/rooplpp'))
 LEFT_OUT = ('.png',)
 # The files that were installed, one in a line.
 LIST = 'share/rooplpp/installed'
@@ -61,7 +61,7 @@ def tree(programs, proved):
     found = {**{f'bin/{command}': (PROGRAM, data) for command, data in commands.items()}, **companion(COMPANION, proved), **dict(completions())}
     for name in names_below(MANUALS):
         found[f'share/man/man1/{os.path.basename(name)}.gz'] = (FILE, zipped(read_bytes(name)))
-    for folder, target in FOLDERS.items():
+    for folder, target in FOLDERS:
         for name in names_below(folder):
             if not name.endswith(LEFT_OUT) and not name.startswith(MANUALS):
                 found[target + name[len(folder):]] = (FILE, read_bytes(name))

@@ -2,6 +2,7 @@
 
 ;; `emacs --batch -q -l emacs.el', with $RPP_TOP the repository and $RPP_FOLDER a folder to write in.  It writes a line `ok NAME',
 ;; `FAILED NAME: why' or `skipped NAME: why' for each trial into the file `said' there.  Eglot and dap-mode are those of Debian.
+;; If $RPP_INSTALLED is set, the mode and the command are as a package installed them.
 
 ;;; Code:
 
@@ -9,8 +10,9 @@
 (defvar top (getenv "RPP_TOP"))
 (defvar folder (file-name-as-directory (getenv "RPP_FOLDER")))
 (defvar said nil)
-(add-to-list 'load-path (expand-file-name "editors/emacs" top))
-(setq rpp-command (expand-file-name "rpp" top))
+(unless (getenv "RPP_INSTALLED")
+  (add-to-list 'load-path (expand-file-name "editors/emacs" top))
+  (setq rpp-command (expand-file-name "rpp" top)))
 (require 'rpp-mode)
 (ignore-errors (package-initialize))
 (setq compilation-ask-about-save nil)

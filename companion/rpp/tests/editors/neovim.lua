@@ -1,8 +1,10 @@
 -- Neovim reads editors/vim: `nvim --headless -u NONE -i NONE -l`-like, by `-c 'luafile neovim.lua'`, with $RPP_TOP the repository and
--- $RPP_FOLDER a folder to write in. It writes a line `ok NAME` or `FAILED NAME: why` for each trial into the file `said` there.
+-- $RPP_FOLDER a folder to write in. If $RPP_INSTALLED is set, all is as a package installed it. It writes a line `ok NAME` or `FAILED NAME: why` for each trial into the file `said` there.
 local top, folder, said = os.getenv('RPP_TOP'), os.getenv('RPP_FOLDER'), {}
-vim.opt.runtimepath:prepend(top .. '/editors/vim')
-vim.g.rpp_command = top .. '/rpp'
+if not os.getenv('RPP_INSTALLED') then
+  vim.opt.runtimepath:prepend(top .. '/editors/vim')
+  vim.g.rpp_command = top .. '/rpp'
+end
 vim.cmd('filetype plugin indent on')
 vim.cmd('syntax enable')
 

@@ -1,10 +1,12 @@
 " Vim reads editors/vim: `vim -es -N -u NONE -i NONE -S vim.vim`, with $RPP_TOP the repository and $RPP_FOLDER a folder to write in.
-" It writes a line `ok NAME` or `FAILED NAME: why` for each trial into the file `said` of that folder.
+" If $RPP_INSTALLED is set, Vim and the command `rpp` are as a package installed them. It writes a line `ok NAME` or `FAILED NAME: why` for each trial into the file `said` of that folder.
 set nomore
 let s:top = $RPP_TOP
 let s:said = []
-execute 'set runtimepath^=' . fnameescape(s:top . '/editors/vim')
-let g:rpp_command = s:top . '/rpp'
+if $RPP_INSTALLED ==# ''
+    execute 'set runtimepath^=' . fnameescape(s:top . '/editors/vim')
+    let g:rpp_command = s:top . '/rpp'
+endif
 filetype plugin indent on
 syntax enable
 
