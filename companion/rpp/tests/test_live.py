@@ -11,7 +11,7 @@ from rpp.formulas import Formula
 from rpp.live import BATCH, Live, Lost, Reply, batches, path_of
 from rpp.program import Interrupted, OutOfTime, Program
 from rpp.session import Session
-from rpp.trace import FAR, Failure, Fault, SourceRun, read_failure
+from rpp.trace import FAR, Failure, Fault, MachineRun, SourceRun, read_failure
 
 from .base import EXAMPLES, Case
 
@@ -242,3 +242,22 @@ class Held(Case):
             held.back()
         self.assertEqual(held.position, 100_000 - 20)
         self.assertLess(held.run.program.calls, 5)
+
+@unittest.skipUnless(HAS_LIVE, 'there is no rooplpp-live')
+class Images(Case):
+    """A run of an image in a session is that of `debug`."""
+
+    def test_walks(self):
+        image = os.path.join(self.folder, 'c.img')
+        self.program.call('compile', os.path.join(EXAMPLES, 'counter.rpp'), image)
+        chance = random.Random(5)
+        with MachineRun(self.program, image) as held, MachineRun(self.program, image) as called:
+            called._live.close()
+            called._live = None
+            for _ in range(40):
+                moves = [f'{chance.choice(("step", "back"))} {chance.randrange(60)}' for _ in range(3)]
+                lines = [f'step {chance.randrange(60)}', 'regs', *moves, 'to 9 40', 'cells 40 4', 'backto 2 40']
+                self.assertEqual(held.walk(lines), called.walk(lines))
+            self.assertEqual(held.registers(9), called.registers(9))
+            self.assertEqual(held.cells(9, 40, 5), called.cells(9, 40, 5))
+            self.assertIsNotNone(held._live, 'it was one session')
