@@ -3,17 +3,20 @@
 
 class Stopped extends Error {}
 
-// Calls the program in a worker. Calls wait for each other; `stop` ends the one that runs and those that wait.
+// Calls the program in a worker, which holds sessions too. Calls wait for each other; `stop` ends the one that runs,
+// those that wait, and all sessions.
 class Caller {
-  constructor(module, source) {
-    this.module = module;
+  // `modules` has those of the program and of the live program.
+  constructor(modules, source) {
+    this.modules = modules;
     this.source = URL.createObjectURL(new Blob([source], { type: 'text/javascript' }));
     this.waiting = new Map();
-    this.number = 0;
+    this.number = this.begun = 0;
     this.start();
   }
 
   start() {
+    this.begun++;
     this.worker = new Worker(this.source);
     const { worker } = this;
     worker.onmessage = ({ data }) => {
@@ -22,7 +25,7 @@ class Caller {
     };
     worker.onerror = event => this.died(worker, event.message || 'the worker of this page has ended');
     worker.onmessageerror = () => this.died(worker, 'an answer could not be read');
-    worker.postMessage({ module: this.module });
+    worker.postMessage({ modules: this.modules });
   }
 
   // The calls of a worker that dies fail; the next call begins another one.
@@ -34,11 +37,14 @@ class Caller {
   }
 
   // Makes a call; `files` is a list of names with bytes or texts.
-  call(words, files) {
+  call(words, files) { return this.send({ words, files }); }
+
+  // Sends a message to the worker: a call, or what a session is to do.
+  send({ words, files = [], ...more }) {
     if (!this.worker) this.start();
     const number = ++this.number, encoder = new TextEncoder();
     const bytes = files.map(([name, it]) => [name, typeof it === 'string' ? encoder.encode(it) : it]);
-    this.worker.postMessage({ number, words: words.map(String), files: bytes });
+    this.worker.postMessage({ number, words: words?.map(String), files: bytes, ...more });
     return new Promise((done, failed) => this.waiting.set(number, { done, failed })).then(told);
   }
 

@@ -1,8 +1,8 @@
 // What a test that fails says: which test it is, the values that it saw, and what it must have given.
 'use strict';
 
-// The faults of the tests that end a statement with blocks, and the word with which the statement begins.
-const TESTS = { 1: 'if', 2: 'from', 3: 'local' };
+// The tests of statements with blocks, by their words: whether a loop has them, and whether they are at its head.
+const TESTS = { if: { isHead: true }, fi: {}, from: { isLoop: true, isHead: true }, until: { isLoop: true }, local: { isHead: true }, delocal: {} };
 
 class Unknown extends Error {}
 
@@ -75,61 +75,53 @@ function applied(operator, left, right) {
   }
 }
 
-// The text with a `skip` before and after each end of a statement's blocks, on the same lines, and their places with
-// how a run comes there. The positions at these have the values that the tests see.
-function probed(source, first) {
-  const parts = source.parts(first), spots = [];
-  const before = (index, role) => spots.push({ at: source.tokens[index].at, role });
-  const after = (index, role) => spots.push({ at: source.tokens[index].end, role });
-  if (source.word(first) === 'local') after(source.afterHead(first) - 1, 'head');
-  parts.middle.forEach((index, at) => {
-    if (at > 0) before(index, 'first');
-    after(index, at > 0 ? 'head second' : 'head first');
-  });
-  before(parts.closer, parts.middle.length > 1 ? 'second' : 'foot');
-  spots.sort((one, other) => one.at - other.at);
-  const roles = new Map();
-  let text = '', from = 0;
-  for (const { at, role } of spots) {
-    text += `${source.text.slice(from, at)} `;
-    roles.set(byteOf(text, text.length), role);
-    text += 'skip ';
-    from = at;
-  }
-  return { text: text + source.text.slice(from), roles, parts };
+// What `fault` says, or nothing if nothing failed: the fault, the word and the place of its test, and the place of the
+// statement. Then what the test found and needed, how many calls are open, and the variables at that moment.
+function failureOf(text) {
+  const found = /^test (\w+) at (\d+) of (\d+)\n(?:found (.*)\nwanted (.*)\n)?depth (\d+)\n([^]*)$/m.exec(text);
+  if (!found) return undefined;
+  const [, word, at, place, is, needed, depth, variables] = found;
+  return { ...faultOf(text), word, at: Number(at), place: Number(place), is, needed, depth: Number(depth), variables: valuesOf(variables) };
+}
+
+// The text with a `skip` between a test that failed and the last statement before it, on the same line. Nothing if
+// there is no such statement: then the statement of the test began at the last position.
+function withSkip(source, first, { word, needed }) {
+  const { middle, closer } = source.parts(first), isTrue = needed === 'true';
+  const before = { fi: isTrue ? middle[1] : closer, from: isTrue ? undefined : closer, delocal: closer }[word];
+  const after = { if: middle[isTrue ? 0 : 1], until: isTrue ? undefined : middle[1], local: source.afterHead(first) - 1 }[word];
+  if (before === undefined && after === undefined) return undefined;
+  const place = before === undefined ? source.tokens[after].end : source.tokens[before].at;
+  return `${source.text.slice(0, place)} skip ${source.text.slice(place)}`;
 }
 
 class Failure {
-  // `role` says how the run came to the test, `look` has the variables and objects there.
-  constructor(source, parts, role, look) {
+  // `told` is what the program says of the fault, `look` has the variables and objects there.
+  constructor(source, first, told, look) {
     this.source = source;
-    const name = word => look.variables.filter(it => it[0] === word).pop()?.[1];
-    this.look = name;
-    this.expression = new Expression(source, name, (array, index) => look.objects.get(array)?.cells[index]?.[1]);
-    this.head = [parts.first + 1, source.afterHead(parts.first) - 1];
-    this.foot = [parts.closer + 1, source.afterExpression(parts.closer + 1)];
-    if (source.word(parts.first) === 'local') this.ofLocal(parts, role.startsWith('head'));
-    else this.ofTest(source.word(parts.first) === 'from', role);
+    this.look = name => look.variables.filter(([own]) => own === name).pop()?.[1];
+    this.expression = new Expression(source, this.look, (array, index) => look.objects.get(array)?.cells[index]?.[1]);
+    const { closer } = source.parts(first), { word } = told, { isHead } = TESTS[word];
+    if (word === 'local' || word === 'delocal') this.ofLocal(isHead ? first : closer, told);
+    else if (isHead) this.ofTest(first + 1, source.afterHead(first) - 1, told);
+    else this.ofTest(closer + 1, source.afterExpression(closer + 1), told);
   }
 
   // A local that is closed with another value; in a body that is undone the head closes it.
-  ofLocal(parts, isHead) {
-    const keyword = isHead ? parts.first : parts.closer, equals = this.source.afterWord(keyword, '=');
-    const behind = this.source.afterExpression(equals), name = this.source.word(equals - 2);
-    const text = this.source.slice(equals, behind), value = this.expression.value(equals, behind);
+  ofLocal(keyword, { is, needed }) {
+    const equals = this.source.afterWord(keyword, '='), behind = this.source.afterExpression(equals), name = this.source.word(equals - 2);
     this.span(keyword, behind);
-    this.found = `${name} = ${this.look(name)}`;
-    this.wanted = `${name} = ${value ?? text}`;
-    const seen = this.values(equals, behind).map(([it, is]) => `${it} is ${is}`);
-    this.told = `\`${name}\` is ${this.look(name)}, and must be ${value ?? `\`${text}\``} to be closed${seen.length ? `: ${seen.join(', ')}` : ''}`;
+    this.found = `${name} = ${is}`;
+    this.wanted = `${name} = ${needed}`;
+    const seen = this.values(equals, behind).map(([it, value]) => `${it} is ${value}`);
+    this.told = `\`${name}\` is ${is}, and must be ${needed} to be closed${seen.length ? `: ${seen.join(', ')}` : ''}`;
   }
 
   // A loop tests at its head, an alternative at its foot; in a body that is undone it is the other end.
-  ofTest(isLoop, role) {
-    const isHead = role.startsWith('head'), isEntry = role.endsWith('entry'), isSecond = role.includes('second');
-    const [first, behind] = (isLoop ? !isHead : isHead) ? this.head : this.foot;
-    const mustHold = isLoop ? isEntry : !isSecond, text = this.source.slice(first, behind), seen = this.values(first, behind);
-    const branch = isLoop ? (isEntry ? 'the loop begins' : 'the loop goes round again') : `the ${isSecond ? 'else' : 'then'} block ran`;
+  ofTest(first, behind, { word, needed }) {
+    const mustHold = needed === 'true', text = this.source.slice(first, behind), seen = this.values(first, behind);
+    const ofLoop = mustHold ? 'the loop begins' : 'the loop goes round again';
+    const branch = TESTS[word].isLoop ? ofLoop : `the ${mustHold ? 'then' : 'else'} block ran`;
     const holds = it => (it ? 'holds' : 'does not hold');
     this.span(first - 1, behind);
     this.found = `${seen.map(([name, value]) => `${name} = ${value}`).join(', ') || 'constants'}: ${text} ${holds(!mustHold)}`;

@@ -2,7 +2,7 @@
 // fails is a position of its own, with the values that it saw.
 'use strict';
 
-const IMAGE_HEADER = 16, CELL_BYTES = 8, TO_THE_END = 'step 100000000000000000\nregs\ncells 1 1000\n';
+const IMAGE_HEADER = 16, CELL_BYTES = 8, TO_THE_END = 'step 100000000000000000';
 
 // The image with the numbers of a run in its static words.
 function withNumbers(image, listing, numbers) {
@@ -13,22 +13,36 @@ function withNumbers(image, listing, numbers) {
 }
 
 // The fault of a run: its number and name, the place of its statement if the program names it, and what a failed test
-// says. `machine` is what `go` answered, `runImage` runs the image, `trace` follows a script along another text.
-async function findFault(run, machine, runImage, trace) {
-  const fault = faultOf(machine.text), from = /^from (\d+)$/m.exec((await runImage()).text);
-  const isTest = TESTS[fault.number] !== undefined, filmed = faultOf(run.note);
-  // A statement that fails without a test at its end is the last one that began.
+// says. `machine` is what `go` answered, `runImage` runs the image, `sessionOf` gives a session of another text.
+async function findFault(run, machine, runImage, sessionOf) {
+  const fault = faultOf(machine.text), told = run.note ? await run.failing() : undefined;
   fault.isUndone = run.undone[run.last];
-  if (from) fault.place = Number(from[1]);
-  else if (!isTest && filmed?.number === fault.number) fault.place = run.places[run.last];
-  const first = fault.place === undefined ? undefined : run.source.first(fault.place);
-  if (!isTest || first === undefined || filmed?.number !== fault.number || run.source.word(first) !== TESTS[fault.number]) return fault;
-  const probe = probed(run.source, first), [end] = looksOf((await trace(TO_THE_END, probe.text)).text);
-  if (faultOf(end?.note ?? '')?.number !== fault.number) return fault;
-  const role = probe.roles.get(end.place) ?? (run.undone[run.last] ? 'head entry' : 'entry');
-  fault.failure = new Failure(run.source, probe.parts, role, end);
-  run.addTest(byteOf(run.text, fault.failure.at), end);
+  if (told?.number !== fault.number) {
+    const from = /^from (\d+)$/m.exec((await runImage()).text);
+    if (from) fault.place = Number(from[1]);
+    return fault;
+  }
+  fault.place = told.place;
+  if (!TESTS[told.word] || told.is === undefined) return fault;
+  const first = run.source.first(told.place), objects = await objectsAtTest(run, first, told, sessionOf);
+  const look = { variables: told.variables, objects };
+  fault.failure = new Failure(run.source, first, told, look);
+  run.addTest(byteOf(run.text, fault.failure.at), told.depth, look);
+  fault.isUndone = run.undone[run.last];
   return fault;
+}
+
+// The objects at a test that failed. `fault` does not say them, and the last position is the one before the last
+// statement. So the run is made once more with a `skip` between that statement and the test.
+async function objectsAtTest(run, first, told, sessionOf) {
+  const text = withSkip(run.source, first, told);
+  if (text) {
+    const session = sessionOf(text), { replies } = await session.ask(() => [TO_THE_END, ...run.cellLines]);
+    session.end();
+    if (replies[0]?.last === 'fault') return new Look(0, { variables: '', objects: replies.slice(1).map(it => it.text).join('') }, run.known).objects;
+  }
+  await run.ask([run.last]);
+  return run.looks.get(run.last)?.objects ?? new Map();
 }
 
 // The faults of `new`. Where a `construct` fails with another one, what fails is its `delete`.

@@ -1,7 +1,7 @@
 // The workbench: the editor, the views and the transport, all at one position of one run.
 'use strict';
 
-const SOURCE = 'program.rpp', INPUT = 'input.txt', INVERSE = 'inverse.rpp', IMAGE = 'image', LISTING = 'listing', SCRIPT = 'script', END = 'end';
+const SOURCE = 'program.rpp', INPUT = 'input.txt', INVERSE = 'inverse.rpp', IMAGE = 'image', LISTING = 'listing', END = 'end';
 const VIEWS = ['store', 'output', 'inverse', 'machine'];
 const EDIT_MILLISECONDS = 350, SLOW_MILLISECONDS = 400, IDLE_MILLISECONDS = 150, KEEP_MILLISECONDS = 500, TOAST_MILLISECONDS = 4000, UNDO_MILLISECONDS = 10000;
 const LEAST_SPLIT = 20, MOST_SPLIT = 75, FAULTED = 5, MORE_POSITIONS = 46000;
@@ -157,9 +157,11 @@ class Workbench {
   // ---- calls
 
   // Makes a call of the program; `isAhead` says that nothing waits for it.
-  async call(words, files, isAhead) {
+  call(words, files, isAhead) { return this.send({ words, files }, isAhead); }
+
+  async send(message, isAhead) {
     if (this.isStopped) throw new Stopped('stopped');
-    return this.during(() => this.caller.call(words, files), isAhead);
+    return this.during(() => this.caller.send(message), isAhead);
   }
 
   // Does work. Where what is waited for takes long together, the key Stop is shown until it is done.
@@ -224,9 +226,11 @@ class Workbench {
 
   question(words) { return this.call(words({ input: this.input, names: this.inputs.names }, this.limits), this.files()); }
 
-  trace(script, text, isAhead) {
-    const [heap, depth] = this.limits, files = [...this.files(this.inputs.numbers(), text), [SCRIPT, script]];
-    return this.call(['trace', SOURCE, heap, depth, SCRIPT, ...this.input], files, isAhead);
+  // A session of the run of a text.
+  sessionOf(text) {
+    const [heap, depth] = this.limits;
+    return new LiveSession(this.caller, (message, isAhead) => this.send(message, isAhead), ['source', SOURCE, heap, depth, ...this.input],
+      this.files(this.inputs.numbers(), text));
   }
 
   // ---- judging and running
@@ -266,7 +270,9 @@ class Workbench {
   // Walks along the run, runs it on the machine, and finds the place of a fault.
   async film(still) {
     this.keepSetting();
-    const text = this.editor.text, run = new Run(text, script => this.trace(script, text)), bad = this.inputs.bad();
+    const text = this.editor.text, run = new Run(text, this.sessionOf(text)), bad = this.inputs.bad();
+    this.begun?.session.end();
+    this.begun = run;
     this.inputs.markBad(bad);
     const refused = still(await run.walk());
     if (refused) {
@@ -278,7 +284,8 @@ class Workbench {
     const picture = still(await StorePicture.of(run, this.pane()));
     run.start = await this.fieldsAt(run, 0);
     still();
-    Object.assign(this, { run, fault, picture, machine, text, hasInverse: false, hasListing: false });
+    this.run?.session.end();
+    Object.assign(this, { run, fault, picture, machine, text, begun: undefined, hasInverse: false, hasListing: false });
     this.output.load(run, machine);
     $('views').classList.remove('stale');
     this.transport.fill(fault && run.isWhole);
@@ -290,14 +297,14 @@ class Workbench {
 
   async faultOf(run, machine) {
     if (machine.status !== FAULTED) return undefined;
-    const { heap, depth } = this.inputs.limits, fault = await findFault(run, machine, () => this.runImage(), (script, text) => this.trace(script, text));
+    const { heap, depth } = this.inputs.limits, fault = await findFault(run, machine, () => this.runImage(), text => this.sessionOf(text));
     return { ...fault, message: await faultMessage(fault, run, heap, depth) };
   }
 
   // Walks on along a long run, where the position comes near the last one that is known.
   async walkOn() {
     const { run, machine } = this;
-    if (run.isWhole || this.isWalking || this.at < run.last - PIECE) return;
+    if (run.isWhole || this.isWalking || this.at < run.last - NEAR_THE_LAST) return;
     this.isWalking = true;
     try {
       await run.walk(run.last + MORE_POSITIONS);
@@ -372,7 +379,7 @@ class Workbench {
     if (!isQuiet && !isPlaying) this.speakSoon();
     this.keepPlace();
     this.walkOn();
-    run.ahead(index, this.way, script => this.trace(script, run.text, true));
+    run.ahead(index, this.way);
   }
 
   // Loads the positions round one, and says whether it was not stopped.

@@ -1,4 +1,4 @@
-"""Puts the page together: one file with the module, the program's side of its calls, the editor and the layout, the examples
+"""Puts the page together: one file with the modules, the program's side of its calls, the editor and the layout, the examples
 and lessons, the project's highlighting, and the companion's messages for refusals and faults."""
 import base64
 import glob
@@ -7,13 +7,14 @@ import hashlib
 import html
 import importlib
 import json
+import lzma
 import os
 import re
 import shutil
 import subprocess
 import sys
-import tempfile
 
+import suspend
 import translate
 
 HERE = os.path.dirname(os.path.realpath(__file__))
@@ -23,13 +24,16 @@ EDITOR = '/usr/share/javascript/codemirror'
 EDITOR_SCRIPTS = ('lib/codemirror.js', 'addon/mode/simple.js', 'addon/edit/matchbrackets.js', 'addon/comment/comment.js')
 LAYOUT = '/usr/share/nodejs/dagre/dist/dagre.min.js'
 RIGHTS = ('libjs-codemirror', 'node-dagre-layout', 'node-graphlibrary', 'node-lodash')
-# Debian's packages uglifyjs, and zopfli, which packs smaller than Python's library.
+# Debian's package uglifyjs.
 MINIFIER = 'uglifyjs'
-PACKER = 'zopfli'
+# How what the page carries is packed. Both modules are packed as one: much is in both.
+PACKED = {'id': lzma.FILTER_LZMA1, 'preset': 9 | lzma.PRESET_EXTREME, 'dict_size': 1 << 22, 'lc': 4, 'lp': 0, 'pb': 0, 'nice_len': 273}
 # In the order in which they use each other: what the page begins with, and what it unpacks then.
-FIRST_SCRIPTS = ('common.js', 'sharing.js', 'lessons.js', 'start.js')
-SCRIPTS = ('source.js', 'texts.js', 'messages.js', 'caller.js', 'run.js', 'failure.js', 'faults.js', 'places.js', 'arrows.js', 'store.js',
+FIRST_SCRIPTS = ('common.js', 'unpack.js', 'sharing.js', 'lessons.js', 'start.js')
+SCRIPTS = ('source.js', 'texts.js', 'messages.js', 'caller.js', 'session.js', 'run.js', 'failure.js', 'faults.js', 'places.js', 'arrows.js', 'store.js',
            'editor.js', 'inverse.js', 'listing.js', 'inputs.js', 'problems.js', 'output.js', 'transport.js', 'figure.js', 'page.js')
+# The scripts of the worker that makes calls and holds sessions, and of the one that unpacks the modules.
+WORKER_SCRIPTS, ASIDE_SCRIPTS = ('program.js', 'live.js', 'worker.js'), ('unpack.js', 'aside.js')
 PAIRS = f'{TOP}/companion/rpp/pages/side.js'
 # What the companion says of refusals and faults, in the order in which these modules use each other.
 RULES = ('tokens', 'source', 'names', 'expressions', 'spelling', 'slots', 'grammar', 'syntax_place', 'syntax_declarations', 'syntax_changes',
@@ -159,18 +163,20 @@ def grammar():
 
 
 def packed(data):
-    """Bytes as the base64 text of a gzip file."""
-    with tempfile.NamedTemporaryFile() as file:
-        file.write(data)
-        file.flush()
-        done = subprocess.run([PACKER, '--i5', '-c', file.name], stdout=subprocess.PIPE, check=False)
-    if done.returncode or not done.stdout:
-        raise CannotBuild(f'{PACKER} did not pack {len(data)} bytes')
-    return base64.b64encode(done.stdout).decode()
+    """Bytes as the base64 text of an LZMA file."""
+    return base64.b64encode(lzma.compress(data, format=lzma.FORMAT_ALONE, filters=[PACKED])).decode()
 
 
 def unpacked(text):
-    return gzip.decompress(base64.b64decode(text))
+    return lzma.decompress(base64.b64decode(text))
+
+
+def modules_of(data):
+    """The modules of what a page carries: that of the program, and that of the live program, which pages up to 0.9.7 do not have."""
+    if 'module' in data:
+        return gzip.decompress(base64.b64decode(data['module'])), None
+    both, (first, _) = unpacked(data['modules']), data['sizes']
+    return both[:first], both[first:]
 
 
 def minified(*files):
@@ -188,7 +194,7 @@ def shortened(text, what):
 def missing_packages():
     """Debian's packages that the page is made with and that are not here."""
     files = {'libjs-codemirror': os.path.isdir(EDITOR), 'node-dagre-layout': os.path.isfile(LAYOUT)}
-    programs = {'uglifyjs': MINIFIER, 'zopfli': PACKER}
+    programs = {'uglifyjs': MINIFIER, 'binaryen': suspend.PROGRAM}
     lacking = [name for name, is_here in files.items() if not is_here]
     return lacking + [name for name, program in programs.items() if not shutil.which(program)]
 
@@ -207,15 +213,18 @@ def rights():
     return '/*\n' + '\n'.join(texts).replace('*/', '* /') + '*/'
 
 
-def carried(module, made):
-    """What the page carries as plain data. `made` says of what the module was made."""
-    programs = examples()
+def carried(module, live, made):
+    """What the page carries as plain data. `made` says of what the modules were made."""
+    programs, scripts = examples(), packed_scripts().encode()
     return {
         **made,
         'version': version(),
-        'module': packed(module),
-        'scripts': packed(packed_scripts().encode()),
-        'worker': minified(f'{HERE}/program.js', f'{HERE}/worker.js'),
+        'modules': packed(module + live),
+        'sizes': [len(module), len(live)],
+        'scripts': packed(scripts),
+        'length': len(scripts),
+        'worker': minified(*(f'{HERE}/{it}' for it in WORKER_SCRIPTS)),
+        'aside': minified(*(f'{HERE}/{it}' for it in ASIDE_SCRIPTS)),
         'examples': programs,
         **lessons(programs),
         'grammar': grammar(),
@@ -230,11 +239,12 @@ def style(*files):
     return re.sub(r' ?([{};,]) ?', r'\1', text).replace(';}', '}').replace('}', '}\n')
 
 
-def help_text(module, made):
+def help_text(module, live, made):
     text = read(f'{HERE}/help.html')
     tables = of_companion('rules')
     lists = {'faults': rule_list(tables.FAULTS), 'refusals': rule_list(tables.REFUSALS)}
-    for name, value in {**made, **lists, 'version': version(), 'size': len(module), 'sum': hashlib.sha256(module).hexdigest()}.items():
+    sums = {'size': len(module), 'sum': hashlib.sha256(module).hexdigest(), 'liveSize': len(live), 'liveSum': hashlib.sha256(live).hexdigest()}
+    for name, value in {**made, **lists, **sums, 'version': version()}.items():
         text = text.replace(f'{{{name}}}', str(value))
     return text
 
@@ -251,18 +261,18 @@ def marked_up(sentence):
     return re.sub('`(.*?)`', r'<code>\1</code>', html.escape(on_page(sentence), quote=False))
 
 
-def page(module, made):
-    """The page over the bytes of a WebAssembly module of 32-bit addresses."""
+def page(module, live, made):
+    """The page over the WebAssembly modules of the program and of the live program, of 32-bit addresses. The second can be suspended."""
     lacking = missing_packages()
     if lacking:
         raise CannotBuild(f'the page is made with Debian\'s packages {" ".join(lacking)}, which are not here')
     scripts = minified(*(f'{HERE}/{it}' for it in FIRST_SCRIPTS))
     if '</script' in scripts:
         raise CannotBuild('a script would end the element of which it is a part')
-    data = json.dumps(carried(module, made), separators=(',', ': ')).replace('</', '<\\/')
+    data = json.dumps(carried(module, live, made), separators=(',', ': ')).replace('</', '<\\/')
     parts = {
         '/*{styles}*/': style(f'{EDITOR}/lib/codemirror.css', f'{HERE}/page.css', f'{HERE}/store.css'),
-        '<!--{help}-->': help_text(module, made),
+        '<!--{help}-->': help_text(module, live, made),
         '/*{carried}*/': data,
         '/*{scripts}*/': scripts,
     }

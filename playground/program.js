@@ -81,16 +81,18 @@ function imports(words, files, memory) {
   };
 }
 
-// Calls the program. Where the engine can, it runs on a stack of its own, which is larger than the rest of a worker's.
+// Calls a function of a module. Where the engine can, it runs on a stack of its own, which is larger than the rest of a
+// worker's.
+function onOwnStack(main) { return WebAssembly.promising ? WebAssembly.promising(main)() : main(); }
+
 async function callProgram(module, words, given) {
   const files = new Files(given);
   const page = imports(words, files, () => instance.exports.memory);
   const instance = await WebAssembly.instantiate(module, { page });
-  const main = instance.exports.program_main;
   const begin = performance.now();
   let status, stopped;
   try {
-    status = await (WebAssembly.promising ? WebAssembly.promising(main)() : main());
+    status = await onOwnStack(instance.exports.program_main);
   } catch (error) {
     status = STOPPED;
     stopped = String(error);

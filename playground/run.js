@@ -1,38 +1,37 @@
-// The positions of a run: for each its statement, how many calls are open and which one called, and for those near the
-// position that is shown the variables and objects, as `trace` prints them.
+// The positions of a run: for each its statement, how many calls are open and which one called. Those near the position
+// that is shown have the variables and objects, as the session prints them.
 'use strict';
 
-// A script has at most 65,536 bytes. A run is asked for in pieces of so many positions, at first up to so many in all.
-const SCRIPT_BYTES = 65000, PIECE = 9200, MOST_POSITIONS = 92000;
+// A run is walked along over so many positions at first, and on when a position comes so near to the last known one.
+const MOST_POSITIONS = 92000, NEAR_THE_LAST = 9200;
 // So many characters of variables and cells are asked for at once, for at least so many positions, names by the
 // thousand.
 const CHARACTERS_AT_ONCE = 1200000, LEAST_WINDOW = 24, NAMES_AT_ONCE = 1000, SAMPLES = 300, MOST_KEPT = 40000000;
-const USUAL_SIZE = 1000;
-const AT = /^at (\d+) (?:place (\d+) depth (\d+)|end)(?: (.*))?$/;
+const USUAL_SIZE = 1000, NO_MEMORY = 7;
 
-// A position as a script printed it. Its variables and objects are read when they are asked for. Objects that are
-// printed alike are one and the same: `known` has them by what is printed.
+// A position as it was printed. Its variables and objects are read when they are asked for. Objects that are printed
+// alike are one and the same: `known` has them by what is printed.
 class Look {
-  constructor(at, place, note, printed, known) { Object.assign(this, { at, place, note, printed, known }); }
+  constructor(at, printed, known) { Object.assign(this, { at, printed, known }); }
 
   get variables() { return this.parts.variables; }
 
   get objects() { return this.parts.objects; }
 
   get parts() {
-    if (this.printed !== undefined) this.read = this.partsOf(this.printed);
+    if (this.printed) this.read = { variables: valuesOf(this.printed.variables), objects: this.objectsOf(this.printed.objects) };
     this.printed = undefined;
     return this.read;
   }
 
-  partsOf(text) {
-    const objects = new Map(), first = text.startsWith('#') ? 0 : text.indexOf('\n#') + 1 || text.length;
-    for (let at = first, next; at < text.length; at = next) {
+  objectsOf(text) {
+    const objects = new Map();
+    for (let at = 0, next; at < text.length; at = next) {
       next = text.indexOf('\n#', at) + 1 || text.length;
       const object = this.object(text.slice(at, next));
       objects.set(object.name, object);
     }
-    return { variables: valuesOf(text.slice(0, first)), objects };
+    return objects;
   }
 
   object(printed) {
@@ -50,21 +49,10 @@ function valuesOf(text) {
   return text.split('\n').filter(line => line !== '').map(line => line.trimStart().split(' = '));
 }
 
-// What a script printed: one item for each position. A variable may be called `at` too.
-function looksOf(printed, known = new Map()) {
-  const looks = [], isMove = at => printed.startsWith('at ', at) && /\d/.test(printed[at + 3]);
-  for (let at = 0, next; at < printed.length; at = next) {
-    const end = printed.indexOf('\n', at) + 1 || printed.length, found = AT.exec(printed.slice(at, end).trimEnd());
-    for (next = end; next < printed.length && !isMove(next);) next = printed.indexOf('\nat ', next) + 1 || printed.length;
-    if (found) looks.push(new Look(Number(found[1]), Number(found[2] ?? -1), found[4] ?? '', printed.slice(end, next), known));
-  }
-  return looks;
-}
-
 class Run {
-  // `trace` follows a script along the run of the text, and gives the answer.
-  constructor(text, trace) {
-    Object.assign(this, { text, trace, source: new Source(text), looks: new Map(), known: new Map(), receivers: new Map(), bases: new Map() });
+  // `session` holds the run of the text open.
+  constructor(text, session) {
+    Object.assign(this, { text, session, source: new Source(text), looks: new Map(), known: new Map(), receivers: new Map(), bases: new Map() });
     Object.assign(this, { kept: 0, size: USUAL_SIZE, coming: undefined });
     Object.assign(this, { places: [], depths: [], callers: [], undone: [], note: '', isWhole: false, names: 1, stop: undefined });
   }
@@ -72,25 +60,21 @@ class Run {
   get last() { return this.places.length - 1; }
 
   // Walks along the run to its end, or over so many positions. Gives the answer if the program refuses, else nothing.
-  // No script goes on after a fault: the program would come to it again with each move.
   async walk(most = MOST_POSITIONS) {
-    const far = await this.trace(`step ${most}\n`);
-    if (far.status !== 0) return far;
-    const [, end, place, , note] = AT.exec(far.text.trimEnd()), last = Number(end);
-    do {
-      const first = Math.max(0, this.last), moves = Math.min(PIECE, last - first);
-      this.append((await this.trace(`step ${first}\n` + 'step 1\n'.repeat(moves))).text);
-    } while (this.last < last);
-    this.isWhole = last < most || place === undefined;
-    if (note?.startsWith('fault')) this.note = note;
+    const first = Math.max(0, this.last), begin = this.last < 0 ? ['step 0'] : [];
+    const answer = await this.session.ask(at => [...begin, ...movesTo(at, first), `points ${most - first}`]);
+    if (answer.status !== undefined) return answer;
+    const { text, last } = answer.replies.at(-1);
+    if (last === 'memory') return { ...answer, status: NO_MEMORY };
+    for (const line of [...answer.replies.slice(0, begin.length).map(it => it.text), ...text.split('\n')]) this.append(line);
+    this.isWhole = last !== 'done' || this.places[this.last] < 0;
+    if (last === 'fault') this.note = moveOf(text).note;
     return undefined;
   }
 
-  append(printed) {
-    for (const line of printed.split('\n')) {
-      const at = AT.exec(line);
-      if (at && Number(at[1]) === this.places.length) this.add(at[2] === undefined ? -1 : Number(at[2]), Number(at[3] ?? 0));
-    }
+  append(line) {
+    const move = moveOf(line);
+    if (move?.at === this.places.length) this.add(move.place, move.depth);
   }
 
   add(place, depth) {
@@ -108,10 +92,13 @@ class Run {
 
   word(index) { return this.source.statement(this.places[index])?.words[0]; }
 
+  // What the program says of the fault at the last position.
+  async failing() { return failureOf((await this.session.ask(at => [...movesTo(at, this.last), 'fault'])).replies.at(-1)?.text ?? ''); }
+
   // Adds the position at which a test fails, with the place of the test and the values that it saw.
-  addTest(place, look) {
-    this.add(place, this.depths[this.last]);
-    this.stop = Object.assign(look, { at: this.last });
+  addTest(place, depth, { variables, objects }) {
+    this.add(place, depth);
+    this.stop = { at: this.last, variables, objects };
     this.looks.set(this.last, this.stop);
   }
 
@@ -119,32 +106,24 @@ class Run {
 
   // ---- variables and objects
 
-  // The script that looks at these positions, which are sorted.
-  script(indices) {
-    const cells = [];
-    for (let name = 1; name <= this.names; name += NAMES_AT_ONCE) cells.push(`cells ${name} ${NAMES_AT_ONCE}\n`);
-    let at = 0;
-    return indices.map(index => {
-      const move = `step ${index - at}\n`;
-      at = index;
-      return `${move}regs\n${cells.join('')}`;
-    });
-  }
+  // The lines that show the objects.
+  get cellLines() { return Array.from({ length: Math.ceil(this.names / NAMES_AT_ONCE) }, (_, at) => `cells ${1 + at * NAMES_AT_ONCE} ${NAMES_AT_ONCE}`); }
 
-  // Asks for the positions that are not known, in as many calls as the length of scripts needs.
-  async ask(indices, trace = this.trace) {
+  // Asks for the positions that are not known.
+  async ask(indices, isAhead) {
     const wanted = [...new Set(indices)].filter(it => it >= 0 && it <= this.last && !this.looks.has(it)).sort((one, other) => one - other);
-    for (let first = 0; first < wanted.length;) {
-      let behind = first, length = 0;
-      const parts = this.script(wanted.slice(first));
-      while (behind < wanted.length && length + parts[behind - first].length + 12 < SCRIPT_BYTES) length += parts[behind++ - first].length;
-      const answer = await trace(this.script(wanted.slice(first, behind)).join(''));
-      const looks = looksOf(answer.text, this.known);
-      looks.forEach(look => this.looks.set(look.at, look));
-      this.size = Math.max(this.size, answer.text.length / Math.max(1, looks.length));
-      this.kept += answer.text.length;
-      first = Math.max(behind, first + 1);
+    if (!wanted.length) return;
+    const shows = ['regs', ...this.cellLines], each = 1 + shows.length;
+    const lines = wanted.flatMap((index, at) => [`step ${at ? index - wanted[at - 1] : 0}`, ...shows]);
+    let before;
+    const linesAt = at => [...(before = movesTo(at, wanted[0])), ...lines];
+    const { text, replies } = await this.session.ask(linesAt, isAhead);
+    for (let first = before?.length ?? 0; first + each <= replies.length; first += each) {
+      const [move, variables, ...objects] = replies.slice(first, first + each).map(it => it.text), at = moveOf(move)?.at;
+      if (at !== undefined) this.looks.set(at, new Look(at, { variables, objects: objects.join('') }, this.known));
     }
+    this.size = Math.max(this.size, text.length / wanted.length);
+    this.kept += text.length;
   }
 
   get window() { return Math.max(LEAST_WINDOW, Math.floor(CHARACTERS_AT_ONCE / this.size)); }
@@ -192,7 +171,7 @@ class Run {
 
   // Asks for positions before the run comes there: where half a window that way is not all known, for half a window
   // more.
-  ahead(index, way, trace) {
+  ahead(index, way) {
     const half = Math.floor(this.window / 2), isNear = at => Math.abs(at - index) <= half && at >= 0 && at <= this.last;
     if (this.coming) return;
     let next = index + way;
@@ -201,7 +180,7 @@ class Run {
     this.forget(index);
     const wanted = Array.from({ length: half }, (_, at) => next + at * way).filter(at => at >= 0 && at <= this.last);
     // What fails here is asked for again when the run is there.
-    this.coming = this.ask(wanted.flatMap(at => this.needed(at)), trace).catch(() => undefined).finally(() => { this.coming = undefined; });
+    this.coming = this.ask(wanted.flatMap(at => this.needed(at)), true).catch(() => undefined).finally(() => { this.coming = undefined; });
   }
 
   // Lets go what is far from a position, where too much is kept.

@@ -7,14 +7,6 @@ async function through(stream, bytes) {
   return new Uint8Array(await new Response(new Blob([bytes]).stream().pipeThrough(stream)).arrayBuffer());
 }
 
-async function unzipped(base64) {
-  return through(new DecompressionStream('gzip'), bytesOf(base64));
-}
-
-function bytesOf(base64) {
-  return Uint8Array.from(atob(base64), letter => letter.charCodeAt(0));
-}
-
 function base64Of(bytes) {
   return btoa(Array.from(bytes, byte => String.fromCharCode(byte)).join(''));
 }

@@ -8,20 +8,33 @@ function needs(holds, what) {
   if (!holds) throw new CannotRun(`it has no ${what}`);
 }
 
-// A caller of the program that has answered once.
-async function readyCaller(carried) {
+// The modules of the program and of the live program.
+function compiled({ aside, modules, sizes }) {
   needs(typeof WebAssembly === 'object', 'WebAssembly');
   needs(typeof Worker === 'function', 'workers');
-  const caller = new Caller(await WebAssembly.compile(await unzipped(carried.module)), carried.worker);
+  const worker = new Worker(URL.createObjectURL(new Blob([aside], { type: 'text/javascript' })));
+  return new Promise((done, failed) => {
+    worker.onmessage = ({ data }) => {
+      worker.terminate();
+      if (data.modules) done(data.modules); else failed(new Error(data.why));
+    };
+    worker.onerror = event => failed(new Error(event.message || 'a worker does not begin'));
+    worker.postMessage({ modules, sizes });
+  });
+}
+
+// A caller of the program that has answered once.
+async function readyCaller(modules, worker) {
+  const caller = new Caller(modules, worker);
   const answer = await caller.call(['check', 'p'], [['p', 'class P int x method main() skip']]);
   if (answer.status !== 0) throw new CannotRun(`the program does not answer (${answer.stopped ?? answer.status})`);
   return caller;
 }
 
 // The editor, the layout and most of the page's own scripts, which it carries packed.
-async function loadScripts(carried) {
-  needs(typeof DecompressionStream === 'function', 'DecompressionStream, by which this page unpacks what it carries');
-  document.head.append(made('script', { textContent: new TextDecoder().decode(await unzipped(carried.scripts)) }));
+function loadScripts({ scripts, length }) {
+  needs(typeof DecompressionStream === 'function', 'DecompressionStream, by which this page reads links');
+  document.head.append(made('script', { textContent: new TextDecoder().decode(unzipped(scripts, length)) }));
 }
 
 // The page without runs: the text can be read and written, and the examples can be chosen.
@@ -49,9 +62,9 @@ async function start() {
   for (const key of all('[data-close]')) key.onclick = () => key.closest('dialog').close();
   for (const dialog of all('dialog')) dialog.onclick = event => event.target === dialog && dialog.close();
   try {
-    await loadScripts(carried);
+    const [modules] = await Promise.all([compiled(carried), loadScripts(carried)]);
     // For the tests of this page.
-    globalThis.playground = new Workbench(carried, await readyCaller(carried), lessons);
+    globalThis.playground = new Workbench(carried, await readyCaller(modules, carried.worker), lessons);
   } catch (error) {
     startWithoutRuns(carried, lessons, error);
     document.body.dataset.ready = 'without';

@@ -1,15 +1,31 @@
-// Makes the calls that the page sends, one after the other, each in an instance of its own. The first message is the
-// module. The page ends this worker to stop a call; a program that runs without end is only stopped by that.
-let program;
-onmessage = async ({ data }) => {
-  if (data.module) {
-    program = data.module;
-    return;
+// Makes the calls that the page sends, one after the other, and holds its sessions. Each call and each session is an
+// instance of its own. The first message has the modules. The page ends this worker to stop a call; a program that runs
+// without end is only stopped by that.
+const sessions = new Map();
+let modules, last = Promise.resolve();
+
+// What a message asks for: a call, or the beginning of a session, lines for it, or its end.
+async function answer({ session, words, files, lines }) {
+  if (session === undefined) return callProgram(modules.program, words, files);
+  if (words) {
+    sessions.set(session, new Session(modules.live, words, files));
+    return sessions.get(session).begin();
   }
+  if (lines !== undefined) return sessions.get(session).ask(lines);
+  sessions.delete(session);
+  return { status: 0, printed: new Uint8Array() };
+}
+
+async function answered(data) {
   try {
-    postMessage({ number: data.number, ...await callProgram(program, data.words, data.files) });
+    postMessage({ number: data.number, ...await answer(data) });
   } catch (error) {
     // A promise that a worker leaves rejected never reaches the page, which would wait for ever.
     postMessage({ number: data.number, status: STOPPED, stopped: String(error), printed: new Uint8Array(), files: data.files });
   }
+}
+
+onmessage = ({ data }) => {
+  if (data.modules) modules = data.modules;
+  else last = last.then(() => answered(data));
 };

@@ -69,13 +69,13 @@ for (let at = 0; at < count; at++) {
 }
 return seen;
 '''
-# From here on no call of the program is answered, until they are let go.
+# From here on the worker answers neither calls nor sessions, until they are let go.
 HOLDS = '''
-const { caller } = playground, { call } = caller;
+const { caller } = playground, { send } = caller;
 caller.held = [];
-caller.call = (...given) => new Promise((done, failed) => caller.held.push(() => call.apply(caller, given).then(done, failed)));
+caller.send = (...given) => new Promise((done, failed) => caller.held.push(() => send.apply(caller, given).then(done, failed)));
 '''
-LETS_GO = 'const { caller } = playground; delete caller.call; for (const it of caller.held) it()'
+LETS_GO = 'const { caller } = playground; delete caller.send; for (const it of caller.held) it()'
 
 
 def read(file):

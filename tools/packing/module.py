@@ -1,9 +1,10 @@
 """The WebAssembly modules of the programs, lowered to addresses of 32 bits. The page carries that of rooplpp. That of rooplpp-live
-is a file, which says in a custom section what it is made of."""
+is a file, which says in a custom section what it is made of; the page carries it only as one that can be suspended."""
 import base64
 import gzip
 import importlib.util
 import json
+import lzma
 import os
 import re
 
@@ -13,9 +14,11 @@ PAGE = 'release/playground.html'
 LIVE = 'release/rooplpp-live.wasm'
 SECTION = b'made'
 OF_SOURCES = re.compile(r'"sources": "([0-9a-f]+)"')
+MODULES = re.compile(r'"modules": "([A-Za-z0-9+/=]+)","sizes": \[(\d+),')
+# How pages up to 0.9.7 carry the module.
 MODULE = re.compile(r'"module": "([A-Za-z0-9+/=]+)"')
 LINKED = re.compile(r'"linked": "([0-9a-f]+)"')
-FOR_TRIALS = 'nothing is claimed of it'
+FOR_TRIALS = 'nothing is claimed of them'
 
 
 def lower():
@@ -40,11 +43,13 @@ def page():
 
 
 def carried(text):
-    """The module in a page."""
-    found = MODULE.search(text)
-    if found is None:
+    """The module of rooplpp in a page."""
+    found, before = MODULES.search(text), MODULE.search(text)
+    if found:
+        return lzma.decompress(base64.b64decode(found.group(1)))[:int(found.group(2))]
+    if before is None:
         raise CannotRelease(f'{PAGE} carries no module')
-    return gzip.decompress(base64.b64decode(found.group(1)))
+    return gzip.decompress(base64.b64decode(before.group(1)))
 
 
 def linked_sum(text, module):
