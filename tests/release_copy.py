@@ -76,6 +76,7 @@ class Copy:
                        'date': '2026-11-29'}
         self.page = re.sub(r'"sources": "\w+"', f'"sources": "{self.sources}"', read(f'{TOP}/release/playground.html'))
         self.module = self.module_of()
+        self.page = re.sub(r'"liveLinked": "\w+"', f'"liveLinked": "{module.origin_of(self.module)["linked"]}"', self.page)
         self.set()
         self.git('init', '-q')
         self.git('add', '-A')

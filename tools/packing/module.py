@@ -18,6 +18,7 @@ MODULES = re.compile(r'"modules": "([A-Za-z0-9+/=]+)","sizes": \[(\d+),')
 # How pages up to 0.9.7 carry the module.
 MODULE = re.compile(r'"module": "([A-Za-z0-9+/=]+)"')
 LINKED = re.compile(r'"linked": "([0-9a-f]+)"')
+LIVE_LINKED = re.compile(r'"liveLinked": "([0-9a-f]+)"')
 FOR_TRIALS = 'nothing is claimed of them'
 
 
@@ -56,6 +57,13 @@ def linked_sum(text, module):
     """The SHA-256 of the module as it was linked, with addresses of 64 bits."""
     found = LINKED.search(text)
     return found.group(1) if found else sum_of(module)
+
+
+def check_live_of_page(text, linked):
+    """Fails if the module of rooplpp-live in a page is of another build than the linked one with this sum."""
+    found = LIVE_LINKED.search(text)
+    if found and found.group(1) != linked:
+        raise CannotRelease(f'{PAGE} has a module of rooplpp-live of another build: run playground/build')
 
 
 def lowered(module):
