@@ -35,7 +35,7 @@ def of_value(it: Place) -> Optional[Hint]:
     if it.word() == before == '*':
         return Hint('There is no `**`: expressions have no powers.', 'A square is a product: docs/learn/from-janus.md has a method for one.')
     if it.word() in ('*', '/') and before in ('*', '/'):
-        return of_comment(it, -1)
+        return of_fractional_product(it) or of_comment(it, -1)
     comparison = of_wrong_comparison(it, before)
     if comparison:
         return comparison
@@ -44,6 +44,17 @@ def of_value(it: Place) -> Optional[Hint]:
     if it.word() in ('&', '|') or it.word() in OPERATORS:
         return Hint(f'`{it.word()}` must have a value on both sides.')
     return of_word_for_value(it, before)
+
+
+def of_fractional_product(it: Place) -> Optional[Hint]:
+    """`y */ 3`, with values on both sides in one line: no end of a comment."""
+    is_pair = it.word(-1) == '*' and it.word() == '/' and it.is_joined(-1)
+    has_left = it.kind(-2) in ('name', 'number') or it.word(-2) in (')', ']')
+    has_right = it.kind(1) in ('name', 'number') or it.word(1) == '('
+    if is_pair and has_left and has_right and b'\n' not in it.text[it.end(-2):it.begin(1)]:
+        return Hint("There is no `*/`, Janus' fractional product: expressions do not multiply.",
+                    'A product is computed into another variable, by additions in a loop. docs/learn/from-janus.md has a method for one.')
+    return None
 
 
 def of_wrong_comparison(it: Place, before: str) -> Optional[Hint]:
