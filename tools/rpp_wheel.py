@@ -1,7 +1,7 @@
 """What builds the package of pyproject.toml with only the standard library, so that `pip install .` needs no network.
 
-It is the form that pip asks for (PEP 517). A wheel has the modules of companion/rpp without their tests, the pages of docs/reference
-from which messages are read, and the command `rpp`."""
+It is the form that pip asks for (PEP 517). A wheel has the modules of companion/rpp without their tests, the pages of docs/
+that messages name, and the command `rpp`."""
 import base64
 import hashlib
 import os
@@ -11,6 +11,7 @@ import zipfile
 TOP = os.path.dirname(os.path.dirname(os.path.realpath(__file__)))
 NAME = 'rooplpp_companion'
 NOT_TAKEN = {'__pycache__', 'tests'}
+PAGE_OF_IDIOMS = 'docs/learn/from-janus.md'
 
 
 def section(name):
@@ -49,7 +50,8 @@ def entries(group, name):
 def contents():
     """All files of the wheel but its record, by their paths in it."""
     found = {}
-    for path, inside in [*files_below('companion/rpp', 'rpp'), *files_below('docs/reference', 'rpp/docs/reference')]:
+    for path, inside in [*files_below('companion/rpp', 'rpp'), *files_below('docs/reference', 'rpp/docs/reference'),
+                         (os.path.join(TOP, PAGE_OF_IDIOMS), f'rpp/{PAGE_OF_IDIOMS}')]:
         with open(path, 'rb') as file:
             found[inside] = file.read()
     info = f'{NAME}-{version()}.dist-info'

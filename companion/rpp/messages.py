@@ -99,16 +99,19 @@ def page_path(page: str) -> Optional[str]:
     return None
 
 
-PAGE = re.compile(r'docs/([\w/]+\.md)')
+PAGE = re.compile(r'docs/([\w/-]+\.md)')
+SENTENCE_OF_PAGE = re.compile(r'(?<!\S)docs/([\w/-]+\.md) [^.]*\.(?!\S)(\s+(?=\S))?')
 
 
 def placed(text: str) -> str:
-    """A text with the pages of docs/ that it names: in the clone by their names there, else by their paths."""
+    """A text with the pages of docs/ that it names: in the clone by their names there, else by their paths. A sentence that begins with
+    a page that the reader does not have is left out."""
     def path(found) -> str:
         there = page_path(found[1])
         return found[0] if there in (None, os.path.join(TOP, found[0])) else there
 
-    return PAGE.sub(path, text)
+    left = SENTENCE_OF_PAGE.sub(lambda found: found[0] if page_path(found[1]) else '', text)
+    return PAGE.sub(path, left if left == text else re.sub(r' +$', '', left, flags=re.M))
 
 
 def see(rule: Rule) -> str:

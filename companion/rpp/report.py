@@ -4,7 +4,7 @@ from typing import List, Tuple
 
 from .explain import Message, of_refusal
 from .failing import FailedTest
-from .messages import Told, see
+from .messages import Told, placed, see
 from .places import Text
 from .rules import Rule
 from .screen import columns, paint, wrapped
@@ -12,7 +12,7 @@ from .screen import columns, paint, wrapped
 
 def rule_lines(rule: Rule) -> List[str]:
     """A rule in general: its sentence, what to do, and its page."""
-    return message_lines(Message(rule, rule.sentence, rule.fix))
+    return message_lines(Message(rule, rule.sentence, placed(rule.fix)))
 
 
 def message_lines(message: Message, margin: str = '', with_sentence: bool = True) -> List[str]:

@@ -74,7 +74,7 @@ def of_comment_as_quotient(it: Place) -> Optional[Hint]:
     between = it.text[it.end(-1):it.begin()].decode('latin-1') if it.at else ''
     if it.is_behind_place() and between.strip().startswith('//='):
         return Hint('There is no `//=`: `//` begins a comment, so nothing is left that changes `' + it.word(-1) + '`.',
-                    'A quotient is computed into another variable: docs/learn/from-janus.md has a method for it.')
+                    'A quotient is computed into another variable. docs/learn/from-janus.md has a method for it.')
     return None
 
 
@@ -98,7 +98,7 @@ def of_arrow(it: Place) -> Optional[Hint]:
 def of_other_update(it: Place, name: str) -> Optional[Hint]:
     if it.word() in PRODUCTS and it.word(1) == '=':
         return Hint(f'There is no `{it.word()}=`: a factor cannot be undone by itself, since 0 would lose the number.',
-                    f'{PRODUCTS[it.word()]} is computed into another variable: docs/learn/from-janus.md has a method for it.')
+                    f'{PRODUCTS[it.word()]} is computed into another variable. docs/learn/from-janus.md has a method for it.')
     if it.word() in ('*', '/') and it.word(1) == it.word():
         return Hint(f'There is no `{it.word()}{it.word()}=`: a power cannot be undone by itself.', 'It is computed into another variable.')
     if it.word() in ('&', '|', '&&', '||') and it.word(1) == '=':

@@ -33,7 +33,7 @@ def of_value(it: Place) -> Optional[Hint]:
     if it.word() == '+':
         return Hint('There must be no sign before a value.', 'Leave the `+` out.', it.changes(0, 0, ''), 'Remove the `+`')
     if it.word() == before == '*':
-        return Hint('There is no `**`: expressions have no powers.', 'A square is a product: docs/learn/from-janus.md has a method for one.')
+        return Hint('There is no `**`: expressions have no powers.', 'A square is a product. docs/learn/from-janus.md has a method for one.')
     if it.word() in ('*', '/') and before in ('*', '/'):
         return of_fractional_product(it) or of_comment(it, -1)
     comparison = of_wrong_comparison(it, before)

@@ -9,6 +9,7 @@ PROGRAM = 0o755
 COMPANION = 'share/rooplpp/rpp'
 # The pages that the companion names are in its own folder, because a system may leave out documents.
 PAGES_OF_COMPANION = 'docs/reference'
+PAGE_OF_IDIOMS = 'docs/learn/from-janus.md'
 MANUALS = 'docs/man'
 ZSH = 'share/zsh/site-functions'
 # Where completions go, by the shell that they are for.
@@ -34,7 +35,7 @@ def companion(target, proved):
     found = {f'{target}/docs/PROVED.txt': (FILE, proved.encode())}
     for name in names_below('companion/rpp'):
         found[target + name[len('companion/rpp'):]] = (FILE, read_bytes(name))
-    for name in names_below(PAGES_OF_COMPANION):
+    for name in [*names_below(PAGES_OF_COMPANION), PAGE_OF_IDIOMS]:
         found[f'{target}/{name}'] = (FILE, read_bytes(name))
     return found
 

@@ -1,8 +1,13 @@
 """Answers taken apart, and the rules as the pages have them."""
+import os
+import re
+import shutil
+import subprocess
+import sys
 import unittest
 
 from rpp.messages import fault, faults, read_answer, refusal, refusals, rules_of
-from rpp.program import Answer
+from rpp.program import PACKAGE, TOP, Answer
 
 from .base import Case
 
@@ -60,6 +65,41 @@ class Rules(Case):
     def test_links_are_headings(self):
         self.assertEqual(refusal(16).link, 'docs/reference/messages.md#16-selfupdate')
         self.assertEqual(fault(1).link, 'docs/reference/messages.md#fault-1-fi')
+
+    def test_pages_are_named_where_the_reader_has_them(self):
+        """Of a package without documents the pages are those of the companion's own folder; a page that is not there is not named."""
+        copy, page = os.path.join(self.folder, 'rpp'), os.path.join('docs', 'learn', 'from-janus.md')
+        shutil.copytree(PACKAGE, copy, ignore=shutil.ignore_patterns('__pycache__', 'tests'))
+        sources = [self.write(f'{at}.rpp', f'class P int x int y method main() {each}')
+                   for at, each in enumerate(('x *= 2', 'x += y ** 2', 'x += y */ 3', 'x //= 2', 'x += y / 2', 'x += y \xd7 2'))]
+        without = self.said_by_copy('check', *sources)
+        self.assertNotIn('docs/', without)
+        self.assertEqual(without.count('Fix: '), len(sources), without)
+        self.assertNotIn('docs/', self.said_by_copy('help', '21') + self.said_by_copy('test', '--help'))
+        os.makedirs(os.path.join(copy, 'docs', 'learn'))
+        shutil.copy(os.path.join(TOP, page), os.path.join(copy, page))
+        self.assertEqual(self.said_by_copy('check', *sources).count(os.path.join(copy, page)), len(sources))
+
+    def said_by_copy(self, *words):
+        env = dict(os.environ, PYTHONPATH=self.folder, ROOPLPP_PROGRAM=self.program.path)
+        return subprocess.run([sys.executable, '-m', 'rpp', *words], cwd=self.folder, env=env, stdout=subprocess.PIPE, stderr=subprocess.PIPE,
+                              universal_newlines=True, check=False).stdout
+
+    def test_packages_have_the_pages_that_are_named(self):
+        sys.path.insert(0, os.path.join(TOP, 'tools'))
+        self.addCleanup(sys.path.remove, os.path.join(TOP, 'tools'))
+        from packing import layout
+        import rpp_wheel
+        there, in_wheel, named = layout.companion('rpp', ''), rpp_wheel.contents()[0], set()
+        for name in os.listdir(PACKAGE):
+            if name.endswith('.py'):
+                with open(os.path.join(PACKAGE, name), encoding='utf-8') as file:
+                    named |= set(re.findall(r'docs/[\w/-]+\.md', file.read()))
+        self.assertIn('docs/learn/from-janus.md', named)
+        for page in sorted(named):
+            with self.subTest(page=page):
+                self.assertIn(f'rpp/{page}', there)
+                self.assertIn(f'rpp/{page}', in_wheel)
 
     def test_rules_by_number_and_name(self):
         self.assertEqual([rule.title for rule in rules_of('16')], ['refusal 16 SelfUpdate', 'fault 16 SharedArray'])
