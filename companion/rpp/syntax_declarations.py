@@ -86,12 +86,18 @@ def of_field(it: Place) -> Optional[Hint]:
 
 def of_head_without_method(it: Place) -> Hint:
     """`int f(..)`, `f(..)` and a constructor."""
-    opened, name = it.opened('class'), it.word(-1)
-    if opened is not None and it.tokens[opened.first + 1].text == name or it.has_class(name):
-        return CONSTRUCTORS._replace(sentence=CONSTRUCTORS.sentence.replace('new C', f'new {name}'))
+    name, owner = it.word(-1), class_above(it)
+    if name == owner or it.has_class(name) or owner and 'constructor' in (name, it.word(-2)):
+        made = name if it.has_class(name) else owner
+        return CONSTRUCTORS._replace(sentence=CONSTRUCTORS.sentence.replace('new C', f'new {made}'))
     first = -2 if it.word(-2) == 'int' or it.kind(-2) == 'name' and it.word(-3) in ('int', ')', 'class') or it.has_class(it.word(-2)) else -1
     return Hint(f'A method must begin with `method`, and has no type: `method {name}(..)`.', 'Let it add what it computes to a parameter.',
                 (Edit(it.begin(first), it.begin(-1), 'method '),), 'Write `method`')
+
+
+def class_above(it: Place) -> str:
+    """The name of the last class that begins in front of the token."""
+    return next((it.word(back + 1) for back in range(-1, -it.at - 1, -1) if it.word(back) == 'class'), '')
 
 
 def of_extends(it: Place) -> Optional[Hint]:
