@@ -458,7 +458,14 @@ class Slots:
 
     def of_22(self):
         statement = self.statement()
-        return {'name': statement.variable.name} if statement and statement.variable else {}
+        if not statement or not statement.variable:
+            return {}
+        name, closing = statement.variable.name, statement.closing_at
+        words = [self.word_at(at) for at in range(closing + 1, statement.last + 1)] if closing is not None else []
+        is_field = self.owner is not None and any(each.name == name for each in self.names.all_fields(self.owner))
+        if name in words and not is_field:
+            return {'final': name, 'line': self.line_of(closing)}
+        return {'name': name}
 
     def of_23(self):
         statement = self.statement()
