@@ -1,5 +1,6 @@
 """A prompt over commands, from a terminal, a script or standard input: what the prompts for sources and for images share."""
 import cmd
+import difflib
 import os
 import sys
 from typing import List, Optional
@@ -11,6 +12,8 @@ from .screen import say, wrapped
 from .trace import Refused
 
 HISTORY = os.path.join('~', '.rpp_history')
+# What other debuggers call a command.
+OF_OTHERS = {'run': 'continue', 'start': 'continue', 'backtrace': 'where', 'info': 'print', 'delete': 'clear', 'exit': 'quit'}
 
 
 class Prompt(cmd.Cmd):
@@ -65,7 +68,9 @@ class Prompt(cmd.Cmd):
         return ' '.join([self.aliases.get(words[0], words[0]).replace('-', '_')] + words[1:])
 
     def default(self, line: str) -> bool:
-        self.fail(f'there is no command {line.split()[0].replace("_", "-")}; `help` names them all')
+        word, names = line.split()[0].replace('_', '-'), [each.replace('_', '-') for each in self.commands()]
+        meant = next(iter(difflib.get_close_matches(OF_OTHERS.get(word, word), names, 1, 0.75)), '')
+        self.fail(f'there is no command {word}; ' + (f'did you mean `{meant}`?' if meant else '`help` names them all'))
         return False
 
     def commands(self) -> List[str]:

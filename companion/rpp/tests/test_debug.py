@@ -200,6 +200,12 @@ class Scripts(Case):
         self.assertIn('there is no breakpoint 4\n', done.stdout)
         self.assertNotIn('(rpp) step\n', done.stdout)
 
+    def test_a_command_of_another_debugger_or_misspelled(self):
+        for word, meant in (('run', 'continue'), ('info', 'print'), ('exit', 'quit'), ('prnt', 'print'), ('reverse-contine', 'reverse-continue')):
+            with self.subTest(word=word):
+                done = self.rpp('debug', self.write('a.rpp', 'class P int x method main() x += 1'), '-c', word)
+                self.assertIn(f'there is no command {word}; did you mean `{meant}`?\n', done.stdout)
+
     def test_what_is_refused(self):
         done = self.rpp('debug', self.write('a.rpp', 'class P int x method main() x += x'))
         self.assertEqual(done.returncode, 3)
