@@ -3,8 +3,10 @@ import json
 import sys
 from typing import Any, Dict, List, NamedTuple, Optional, Sequence
 
+from .advice import of_refusal
 from .editing import Analysis
-from .explain import Message, of_refusal
+from .explain import Message
+from .json_values import JSON_VERSION, message_value, place_value
 from .lint import Remark, warnings
 from .messages import Told, read_answer
 from .options import Parser
@@ -12,7 +14,6 @@ from .places import Text
 from .program import Program
 from .reading import readable, shown
 from .report import caret_lines, failure_lines, message_lines, source_refused_line
-from .json_values import JSON_VERSION, message_value, place_value
 from .screen import paint, say_located
 
 

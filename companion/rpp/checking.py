@@ -2,7 +2,8 @@
 import pathlib
 from typing import NamedTuple, Optional
 
-from .explain import Message, of_refusal
+from .advice import of_refusal
+from .explain import Message
 from .messages import page_path, read_answer, refusal
 from .program import Killed, NoProgram, OutOfTime, Program
 from .rules import PAGE

@@ -7,8 +7,9 @@ import sys
 import threading
 from typing import Any, Callable, Dict, List, Optional, Sequence
 
+from .advice import of_refusal
 from .checking import first_refusal, message_of, spoken
-from .explain import of_fault, of_refusal
+from .explain import of_fault
 from .faults import Failing, failing
 from .formulas import BadFormula, Formula
 from .frames import Statements, statement_on

@@ -9,7 +9,6 @@ import re
 from typing import NamedTuple, Optional, Tuple
 
 from .fault_slots import Where, fault_slots
-from .messages import placed
 from .rules import FAULT_OF, REFUSAL_OF, Rule
 from .slots import filled, slots
 from .spelling import Edit, byte_hint
@@ -38,12 +37,6 @@ class Message(NamedTuple):
 
 
 def of_refusal(text: bytes, number: int, at: Optional[int]) -> Message:
-    """The message of a refusal, with the pages that it names where the reader has them."""
-    found = refusal_message(text, number, at)
-    return found._replace(fix=placed(found.fix))
-
-
-def refusal_message(text: bytes, number: int, at: Optional[int]) -> Message:
     rule = REFUSAL_OF.get(number)
     if rule is None or at is None:
         return Message(rule, rule.sentence if rule else '', rule.fix if rule else '')

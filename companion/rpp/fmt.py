@@ -2,7 +2,7 @@
 import sys
 from typing import List
 
-from .explain import of_refusal
+from .advice import of_refusal
 from .formatter import formatted
 from .messages import read_answer
 from .options import Parser

@@ -6,14 +6,14 @@ printed. If the program refuses a source, an input or a bound, a function raises
 import os
 from typing import Dict, Iterator, List, Mapping, NamedTuple, Optional, Tuple, Union
 
-from .explain import of_refusal
+from .advice import of_refusal
 from .messages import Told, fault, read_answer
+from .outline import Outline
 from .places import Text
 from .program import Closing, Folder, Program
 from .results import Result
 from .session import Session as _Session
 from .session import Stop
-from .outline import Outline
 from .trace import Fault, Refused, SourceRun, Thing
 
 PUBLIC = ('Fault', 'Object', 'Outcome', 'Program', 'Refused', 'Session', 'Stop', 'Verdict', 'check', 'explain', 'inverse', 'run')

@@ -2,7 +2,8 @@
 import os
 from typing import List, Tuple
 
-from .explain import Message, of_refusal
+from .advice import of_refusal
+from .explain import Message
 from .failing import FailedTest
 from .messages import Told, placed, see
 from .places import Text

@@ -1,15 +1,16 @@
 """What `rpp run --json` prints of a run."""
 from typing import Any, Dict, List
 
-from .explain import of_fault, of_refusal
+from .advice import of_refusal
+from .explain import of_fault
 from .fault_slots import Where
 from .faults import find_fault
+from .json_values import JSON_VERSION, message_value, place_value
 from .messages import Told
 from .places import Text
 from .program import Program
 from .reading import shown
 from .results import Result
-from .json_values import JSON_VERSION, message_value, place_value
 from .trace import Moment
 
 OUTCOMES = {'done': 'finished', 'refused': 'refused', 'fault': 'fault', 'bound': 'bound'}
