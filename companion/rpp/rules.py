@@ -170,7 +170,7 @@ REFUSALS = (
         'A product with a small number is a sum: `x + x + x`. The remainder of a number from 0 by 8 is `x & 7`. '
         'docs/learn/from-janus.md has methods for products and quotients.'),
     Rule(22, 'LocalInOwnExpression', 'A local must not occur in its own initial or final value.', (
-        ('`{final}` must not occur in its own final value, in line {line}: the value that it ends with is computed without it.',
+        ('`{final}` must not occur in its own final value, in line {line}.',
          'Compute that value from other variables. If none has it, make the local a field.'),
         '`{name}` must not occur in its own initial or final value, where it is not in scope; a field of that name is hidden.',
         '`{name}` must not occur in its own initial or final value.'),
