@@ -97,7 +97,7 @@ def of_head_without_method(it: Place) -> Hint:
 
 def class_above(it: Place) -> str:
     """The name of the last class that begins in front of the token."""
-    return next((it.word(back + 1) for back in range(-1, -it.at - 1, -1) if it.word(back) == 'class'), '')
+    return next((it.word(1 - back) for back in range(1, it.at + 1) if it.word(-back) == 'class'), '')
 
 
 def of_extends(it: Place) -> Optional[Hint]:
