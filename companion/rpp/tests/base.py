@@ -15,6 +15,22 @@ SUMS = os.path.join(EXAMPLES, 'sums.rpp')
 HANGS = 600
 
 
+def shown_by(started: subprocess.Popen, ours: int) -> str:
+    """What a program writes on a terminal up to its end; `ours` is the other side of the terminal, which is closed then."""
+    said = b''
+    while True:
+        try:
+            piece = os.read(ours, 65536)
+        except OSError:
+            piece = b''
+        if not piece:
+            break
+        said += piece
+    started.wait()
+    os.close(ours)
+    return said.decode().replace('\r\n', '\n')
+
+
 class Case(unittest.TestCase):
     """A test in a folder of its own."""
 

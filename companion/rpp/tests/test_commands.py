@@ -11,7 +11,7 @@ from rpp.places import Text
 from rpp.program import TOP
 from rpp.report import cut_around
 
-from .base import COMMAND, EXAMPLES, LIST, SUMS, Case
+from .base import COMMAND, EXAMPLES, LIST, SUMS, Case, shown_by
 
 LOOSE = 'class P int x   method main()\nif x = 0 then x += 1 else skip fi x = 1 // said\n'
 LAID_OUT = 'class P\n  int x\n\nmethod main()\n  if x = 0 then x += 1 else skip fi x = 1  // said\n'
@@ -209,18 +209,7 @@ class Colours(Case):
                        **settings}
         started = subprocess.Popen([sys.executable, COMMAND, *words], stdout=its, stderr=subprocess.DEVNULL, env=environment)
         os.close(its)
-        said = b''
-        while True:
-            try:
-                piece = os.read(ours, 65536)
-            except OSError:
-                break
-            if not piece:
-                break
-            said += piece
-        started.wait()
-        os.close(ours)
-        return said.decode().replace('\r\n', '\n')
+        return shown_by(started, ours)
 
 
 class Folded(Case):

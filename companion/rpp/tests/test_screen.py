@@ -9,7 +9,7 @@ import sys
 import termios
 import unittest
 
-from .base import COMMAND, EXAMPLES, LIST, SUMS, Case
+from .base import COMMAND, EXAMPLES, LIST, SUMS, Case, shown_by
 
 WIDTHS = (40, 60, 80, 120)
 COUNTER = os.path.join(EXAMPLES, 'counter.rpp')
@@ -31,18 +31,7 @@ def on_screen(case, words, columns, stdin=subprocess.DEVNULL, **settings):
     environment = {**kept, 'TERM': 'xterm', 'NO_COLOR': '1', **settings}
     started = subprocess.Popen([sys.executable, COMMAND, *map(str, words)], cwd=case.folder, stdin=stdin, stdout=its, stderr=its, env=environment)
     os.close(its)
-    said = b''
-    while True:
-        try:
-            piece = os.read(ours, 65536)
-        except OSError:
-            piece = b''
-        if not piece:
-            break
-        said += piece
-    started.wait()
-    os.close(ours)
-    return said.decode().replace('\r\n', '\n').rstrip('\n').split('\n')
+    return shown_by(started, ours).rstrip('\n').split('\n')
 
 
 class Widths(Case):
