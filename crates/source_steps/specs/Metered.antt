@@ -54,6 +54,17 @@ IsOwnOrFull (stop.Fault code) = Unit {0}
 IsOwnOrFull stop.More = Unit {0}
 IsOwnOrFull (stop.Lacks why) = why ≡ lacking.Full
 
+-- a run that stopped with a fault
+abbrev pub IsFault : Stop → Type 0
+IsFault (stop.Fault code) = Unit {0}
+IsFault stop.More = ⊥
+IsFault (stop.Lacks lack) = ⊥
+
+-- this is so if a call stopped with a fault
+abbrev pub OnFault : {A : Type 0} → Result A Stop → Type 0 → Type 0
+OnFault (Ok a) it = Unit {0}
+OnFault (Err why) it = IsFault why → it
+
 -- what a call that returned so gave: its value, or why it stopped
 abbrev pub Gives : {A B : Type 0} → (A → B) → Result A Stop → ℕ → Metered B → Type 0
 Gives f (Ok a) left run = run ≡ Went (f a) left

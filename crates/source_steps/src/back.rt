@@ -6,7 +6,7 @@ ghost use Rattle.source_store.specs.meaning_machine.Reversed.{untaken, ungiven, 
 ghost use Rattle.source_store.specs.ValueView.{value_of, values_of, head_of};
 ghost use Rattle.source_steps.specs.CellView.{cell_of};
 ghost use Rattle.source_steps.specs.Ends.{Ends, array_head, first_element, there_again, array_again, array_undeleted};
-ghost use Rattle.source_steps.specs.Metered.{metered};
+ghost use Rattle.source_steps.specs.Metered.{metered, OnFault};
 ghost use Rattle.source_steps.specs.StateView.{IsFramed, state_of, setting_of};
 
 use crate::cell::{Cell, write_cell};
@@ -33,6 +33,7 @@ fn untake(
         (metered fuel.old (untaken heap.old.log (cell_of cell)
         (state_of setting.now scope.now heap.old values.old.items))) }
     ensures framed { OnOk result (IsFramed setting.now scope.now heap.new values.new.items) }
+    ensures stays { OnFault result ((heap.new ≡ heap.old) × (values.new ≡ values.old)) }
     ensures same { fuel.new ≡ fuel.old }
 {
     write_cell(setting, scope, heap, values, cell, Value::Nil);
@@ -56,6 +57,7 @@ pub fn unmade(
         (metered fuel.old (unmade_in (setting_of setting.now) (lvalue_of place.now)
         (state_of setting.now scope.now heap.old values.old.items))) }
     ensures framed { OnOk result (IsFramed setting.now scope.now heap.new values.new.items) }
+    ensures stays { OnFault result ((heap.new ≡ heap.old) × (values.new ≡ values.old)) }
     ensures less { fuel.new ≤ fuel.old }
 {
     let cell = locate(setting, scope, heap, values, fuel, place)?;
@@ -79,6 +81,7 @@ fn ungive(
         (metered fuel.old (ungiven heap.old.log (cell_of cell) (head_of head)
         (values_of cells.items) (state_of setting.now scope.now heap.old values.old.items))) }
     ensures framed { OnOk result (IsFramed setting.now scope.now heap.new values.new.items) }
+    ensures stays { OnFault result ((heap.new ≡ heap.old) × (values.new ≡ values.old)) }
     ensures same { fuel.new ≡ fuel.old }
 {
     match heap.ungive(head, cells)? {
@@ -105,6 +108,7 @@ fn put_object(
         (metered fuel.old (there_again (setting_of setting.now) class.now (cell_of cell)
         (state_of setting.now scope.now heap.old values.old.items))) }
     ensures framed { OnOk result (IsFramed setting.now scope.now heap.new values.new.items) }
+    ensures stays { OnFault result ((heap.new ≡ heap.old) × (values.new ≡ values.old)) }
     ensures same { fuel.new ≡ fuel.old }
 {
     let number = class_of_name(setting, class);
@@ -136,6 +140,7 @@ pub fn undelete_object(
         (metered fuel.old (undeleted_in (setting_of setting.now) (AnObject class.now)
         (lvalue_of place.now) (state_of setting.now scope.now heap.old values.old.items))) }
     ensures framed { OnOk result (IsFramed setting.now scope.now heap.new values.new.items) }
+    ensures stays { OnFault result ((heap.new ≡ heap.old) × (values.new ≡ values.old)) }
     ensures less { fuel.new ≤ fuel.old }
 {
     let cell = locate(setting, scope, heap, values, fuel, place)?;
@@ -159,6 +164,7 @@ fn put_array(
         (metered fuel.old (array_again (cell_of cell) (array_head kind) (first_element kind)
         (value_of size) (state_of setting.now scope.now heap.old values.old.items))) }
     ensures framed { OnOk result (IsFramed setting.now scope.now heap.new values.new.items) }
+    ensures stays { OnFault result ((heap.new ≡ heap.old) × (values.new ≡ values.old)) }
     ensures same { fuel.new ≡ fuel.old }
 {
     let count = size.number();
@@ -195,6 +201,7 @@ fn undelete_array(
         (expression_of size.now) (array_head kind) (first_element kind)
         (state_of setting.now scope.now heap.old values.old.items))) }
     ensures framed { OnOk result (IsFramed setting.now scope.now heap.new values.new.items) }
+    ensures stays { OnFault result ((heap.new ≡ heap.old) × (values.new ≡ values.old)) }
     ensures less { fuel.new ≤ fuel.old }
 {
     let cell = locate(setting, scope, heap, values, fuel, place)?;
@@ -217,6 +224,7 @@ pub fn undeleted(
         (metered fuel.old (undeleted_in (setting_of setting.now) (creation_of made.now)
         (lvalue_of place.now) (state_of setting.now scope.now heap.old values.old.items))) }
     ensures framed { OnOk result (IsFramed setting.now scope.now heap.new values.new.items) }
+    ensures stays { OnFault result ((heap.new ≡ heap.old) × (values.new ≡ values.old)) }
     ensures less { fuel.new ≤ fuel.old }
 {
     match made {

@@ -5,7 +5,7 @@ ghost use Rattle.rpp_tree.specs.Views.{lvalue_of};
 ghost use Rattle.source_store.specs.roopl_semantics.Execution.{same_cell};
 ghost use Rattle.source_steps.specs.CellView.{cell_of};
 ghost use Rattle.source_steps.specs.Ends.{Ends, does_simply, copied, uncopied};
-ghost use Rattle.source_steps.specs.Metered.{metered, IsOwn, IsOwnOrFull};
+ghost use Rattle.source_steps.specs.Metered.{metered, IsOwn, IsOwnOrFull, OnFault};
 ghost use Rattle.source_steps.specs.StateView.{IsFramed, state_of, setting_of};
 
 use crate::apart::copy_apart;
@@ -45,6 +45,7 @@ fn refer(
         (metered fuel.old (copied (cell_of a) (cell_of b)
         (state_of setting.now scope.now heap.old values.old.items))) }
     ensures framed { OnOk result (IsFramed setting.now scope.now heap.new values.new.items) }
+    ensures stays { OnFault result ((heap.new ≡ heap.old) × (values.new ≡ values.old)) }
     ensures less { fuel.new ≤ fuel.old }
     ensures own { IfErr result IsOwnOrFull }
 {
@@ -76,6 +77,7 @@ pub fn copy(
         (CopyTo at kind.now (lvalue_of source.now) (lvalue_of target.now))
         (state_of setting.now scope.now heap.old values.old.items)) }
     ensures framed { OnOk result (IsFramed setting.now scope.now heap.new values.new.items) }
+    ensures stays { OnFault result ((heap.new ≡ heap.old) × (values.new ≡ values.old)) }
     ensures less { fuel.new ≤ fuel.old }
     ensures own { IfErr result IsOwnOrFull }
 {
@@ -100,6 +102,7 @@ fn take_back(
         (metered fuel.old (uncopied (cell_of a) (cell_of b)
         (state_of setting.now scope.now heap.old values.old.items))) }
     ensures framed { OnOk result (IsFramed setting.now scope.now heap.new values.new.items) }
+    ensures stays { OnFault result ((heap.new ≡ heap.old) × (values.new ≡ values.old)) }
     ensures less { fuel.new ≤ fuel.old }
     ensures own { IfErr result IsOwn }
 {
@@ -130,6 +133,7 @@ pub fn uncopy(
         (Uncopy at kind.now (lvalue_of source.now) (lvalue_of target.now))
         (state_of setting.now scope.now heap.old values.old.items)) }
     ensures framed { OnOk result (IsFramed setting.now scope.now heap.new values.new.items) }
+    ensures stays { OnFault result ((heap.new ≡ heap.old) × (values.new ≡ values.old)) }
     ensures less { fuel.new ≤ fuel.old }
     ensures own { IfErr result IsOwn }
 {

@@ -9,7 +9,7 @@ ghost use Rattle.source_store.specs.roopl_semantics.Execution.{allocated, freed,
 ghost use Rattle.source_store.specs.ValueView.{value_of, values_of, head_of};
 ghost use Rattle.source_steps.specs.CellView.{cell_of};
 ghost use Rattle.source_steps.specs.Ends.{Ends, does_simply, array_head, first_element, new_of, made, filled, made_array, emptied, gone, gone_array};
-ghost use Rattle.source_steps.specs.Metered.{metered};
+ghost use Rattle.source_steps.specs.Metered.{metered, OnFault};
 ghost use Rattle.source_steps.specs.StateView.{IsFramed, state_of, setting_of};
 
 use crate::apart::place_apart;
@@ -64,6 +64,7 @@ fn allocate(
         (head_of head) (values_of cells.items)
         (state_of setting.now scope.now heap.old values.old.items))) }
     ensures framed { OnOk result (IsFramed setting.now scope.now heap.new values.new.items) }
+    ensures stays { OnFault result ((heap.new ≡ heap.old) × (values.new ≡ values.old)) }
     ensures same { fuel.new ≡ fuel.old }
 {
     if heap.is_too_large(cells.len() as u32) {
@@ -93,6 +94,7 @@ fn make(
         (metered fuel.old (made (setting_of setting.now) class.now (cell_of cell)
         (state_of setting.now scope.now heap.old values.old.items))) }
     ensures framed { OnOk result (IsFramed setting.now scope.now heap.new values.new.items) }
+    ensures stays { OnFault result ((heap.new ≡ heap.old) × (values.new ≡ values.old)) }
     ensures less { fuel.new ≤ fuel.old }
 {
     let old = read_cell(setting, scope, heap, values, cell);
@@ -116,6 +118,7 @@ fn allocate_object(
         (metered fuel.old (new_of (setting_of setting.now) class.now (cell_of cell)
         (state_of setting.now scope.now heap.old values.old.items))) }
     ensures framed { OnOk result (IsFramed setting.now scope.now heap.new values.new.items) }
+    ensures stays { OnFault result ((heap.new ≡ heap.old) × (values.new ≡ values.old)) }
     ensures less { fuel.new ≤ fuel.old }
 {
     let number = class_of_name(setting, class);
@@ -166,6 +169,7 @@ pub fn new_object(
         (does_simply setting.now fuel.old (New at (AnObject class.now) (lvalue_of place.now))
         (state_of setting.now scope.now heap.old values.old.items)) }
     ensures framed { OnOk result (IsFramed setting.now scope.now heap.new values.new.items) }
+    ensures stays { OnFault result ((heap.new ≡ heap.old) × (values.new ≡ values.old)) }
     ensures less { fuel.new ≤ fuel.old }
 {
     let cell = locate(setting, scope, heap, values, fuel, place)?;
@@ -217,6 +221,7 @@ fn allocate_array(
         (array_head kind count) (replicate count (first_element kind))
         (state_of setting.now scope.now heap.old values.old.items))) }
     ensures framed { OnOk result (IsFramed setting.now scope.now heap.new values.new.items) }
+    ensures stays { OnFault result ((heap.new ≡ heap.old) × (values.new ≡ values.old)) }
     ensures same { fuel.new ≡ fuel.old }
 {
     if heap.is_too_large(count) {
@@ -252,6 +257,7 @@ fn make_array(
         (first_element kind) (value_of size)
         (state_of setting.now scope.now heap.old values.old.items))) }
     ensures framed { OnOk result (IsFramed setting.now scope.now heap.new values.new.items) }
+    ensures stays { OnFault result ((heap.new ≡ heap.old) × (values.new ≡ values.old)) }
     ensures less { fuel.new ≤ fuel.old }
 {
     let old = read_cell(setting, scope, heap, values, cell);
@@ -278,6 +284,7 @@ fn fill_array(
         (metered fuel.old (filled (setting_of setting.now) (cell_of cell) (array_head kind)
         (first_element kind) count (state_of setting.now scope.now heap.old values.old.items))) }
     ensures framed { OnOk result (IsFramed setting.now scope.now heap.new values.new.items) }
+    ensures stays { OnFault result ((heap.new ≡ heap.old) × (values.new ≡ values.old)) }
     ensures less { fuel.new ≤ fuel.old }
 {
     spend(fuel, setting.limits.heap as u64 + 1)?;
@@ -302,6 +309,7 @@ pub fn new_array(
         (expression_of size.now) (array_head kind) (first_element kind)
         (state_of setting.now scope.now heap.old values.old.items))) }
     ensures framed { OnOk result (IsFramed setting.now scope.now heap.new values.new.items) }
+    ensures stays { OnFault result ((heap.new ≡ heap.old) × (values.new ≡ values.old)) }
     ensures less { fuel.new ≤ fuel.old }
 {
     let cell = locate(setting, scope, heap, values, fuel, place)?;
@@ -346,6 +354,7 @@ fn empty_out(
         ((setting_of setting.now).limits.heap + 1 + cells) (cell_of cell) name
         (state_of setting.now scope.now heap.old values.old.items))) }
     ensures framed { OnOk result (IsFramed setting.now scope.now heap.new values.new.items) }
+    ensures stays { OnFault result ((heap.new ≡ heap.old) × (values.new ≡ values.old)) }
     ensures less { fuel.new ≤ fuel.old }
 {
     spend(fuel, setting.limits.heap as u64 + 1 + cells as u64)?;
@@ -369,6 +378,7 @@ fn drop_object(
         (metered fuel.old (gone (setting_of setting.now) class.now (cell_of cell)
         (state_of setting.now scope.now heap.old values.old.items))) }
     ensures framed { OnOk result (IsFramed setting.now scope.now heap.new values.new.items) }
+    ensures stays { OnFault result ((heap.new ≡ heap.old) × (values.new ≡ values.old)) }
     ensures less { fuel.new ≤ fuel.old }
 {
     let value = read_cell(setting, scope, heap, values, cell);
@@ -396,6 +406,7 @@ pub fn delete_object(
         (does_simply setting.now fuel.old (Delete at (AnObject class.now) (lvalue_of place.now))
         (state_of setting.now scope.now heap.old values.old.items)) }
     ensures framed { OnOk result (IsFramed setting.now scope.now heap.new values.new.items) }
+    ensures stays { OnFault result ((heap.new ≡ heap.old) × (values.new ≡ values.old)) }
     ensures less { fuel.new ≤ fuel.old }
 {
     let cell = locate(setting, scope, heap, values, fuel, place)?;
@@ -418,6 +429,7 @@ fn drop_array(
         (metered fuel.old (gone_array (setting_of setting.now) (cell_of cell) (value_of size)
         (state_of setting.now scope.now heap.old values.old.items))) }
     ensures framed { OnOk result (IsFramed setting.now scope.now heap.new values.new.items) }
+    ensures stays { OnFault result ((heap.new ≡ heap.old) × (values.new ≡ values.old)) }
     ensures less { fuel.new ≤ fuel.old }
 {
     let value = read_cell(setting, scope, heap, values, cell);
@@ -453,6 +465,7 @@ pub fn delete_array(
         (metered fuel.old (delete_array_in (setting_of setting.now) (lvalue_of place.now)
         (expression_of size.now) (state_of setting.now scope.now heap.old values.old.items))) }
     ensures framed { OnOk result (IsFramed setting.now scope.now heap.new values.new.items) }
+    ensures stays { OnFault result ((heap.new ≡ heap.old) × (values.new ≡ values.old)) }
     ensures less { fuel.new ≤ fuel.old }
 {
     let cell = locate(setting, scope, heap, values, fuel, place)?;
@@ -476,6 +489,7 @@ pub fn new_made(
         (does_simply setting.now fuel.old (New at (creation_of made.now) (lvalue_of place.now))
         (state_of setting.now scope.now heap.old values.old.items)) }
     ensures framed { OnOk result (IsFramed setting.now scope.now heap.new values.new.items) }
+    ensures stays { OnFault result ((heap.new ≡ heap.old) × (values.new ≡ values.old)) }
     ensures less { fuel.new ≤ fuel.old }
 {
     match made {
@@ -513,6 +527,7 @@ pub fn delete_made(
         (does_simply setting.now fuel.old (Delete at (creation_of made.now) (lvalue_of place.now))
         (state_of setting.now scope.now heap.old values.old.items)) }
     ensures framed { OnOk result (IsFramed setting.now scope.now heap.new values.new.items) }
+    ensures stays { OnFault result ((heap.new ≡ heap.old) × (values.new ≡ values.old)) }
     ensures less { fuel.new ≤ fuel.old }
 {
     match made {

@@ -5,7 +5,7 @@ ghost use Rattle.rpp_tree.specs.Views.{expression_of, lvalue_of};
 ghost use Rattle.source_store.specs.inverse_rules.Inverse.{inverse_operator};
 ghost use Rattle.source_store.specs.roopl_semantics.Operators.{updated};
 ghost use Rattle.source_steps.specs.Ends.{Ends, does_simply, call_turned};
-ghost use Rattle.source_steps.specs.Metered.{IsOwn};
+ghost use Rattle.source_steps.specs.Metered.{IsOwn, OnFault};
 ghost use Rattle.source_steps.specs.StateView.{IsFramed, state_of, setting_of};
 
 use crate::apart::{swap_apart, update_apart};
@@ -45,6 +45,7 @@ pub fn update(
         (does_simply setting.now fuel.old (Update at op (lvalue_of place.now) (expression_of e.now))
         (state_of setting.now scope.now heap.old values.old.items)) }
     ensures framed { OnOk result (IsFramed setting.now scope.now heap.new values.new.items) }
+    ensures stays { OnFault result ((heap.new ≡ heap.old) × (values.new ≡ values.old)) }
     ensures less { fuel.new ≤ fuel.old }
     ensures own { IfErr result IsOwn }
 {
@@ -73,6 +74,7 @@ pub fn swap(
         (does_simply setting.now fuel.old (Swap at (lvalue_of left.now) (lvalue_of right.now))
         (state_of setting.now scope.now heap.old values.old.items)) }
     ensures framed { OnOk result (IsFramed setting.now scope.now heap.new values.new.items) }
+    ensures stays { OnFault result ((heap.new ≡ heap.old) × (values.new ≡ values.old)) }
     ensures less { fuel.new ≤ fuel.old }
     ensures own { IfErr result IsOwn }
 {
