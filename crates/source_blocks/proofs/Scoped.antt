@@ -1,6 +1,6 @@
 -- The state of a run, by the scope of its variables.
 use Rattle.std.proofs.Common.{◌≡◌, ◌<◌, ℕ, suc, sym, ap, ap₂, subst, ◌∙◌, List, ◌∷◌, ◌++◌, map, length, Bor}
-use Rattle.std.proofs.Common.{arith, [], slice_index_or, remove}
+use Rattle.std.proofs.Common.{arith, [], slice_index_or, remove, Vec, Global}
 use Rattle.std.specs.Prelude.{Result, Ok, Err, OnOk, MatchResult}
 use Rattle.source_steps.specs.roopl_semantics.Store.{State}
 use Rattle.source_steps.specs.roopl_semantics.Execution.{opened, closed}
@@ -13,7 +13,7 @@ use Rattle.source_steps.specs.declared.scope.Scope.{Scope as Chain}
 use Rattle.source_steps.specs.declared.stop.Stop.{Stop}
 use Rattle.source_steps.specs.declared.stop.Stop.TheVariants as stop
 use Rattle.source_steps.specs.source_store.declared.lack.Lack.TheVariants as lacking
-use Rattle.source_steps.specs.Metered.{Metered, Gives}
+use Rattle.source_steps.specs.Metered.{Metered, Gives, OnFault}
 use Rattle.source_steps.specs.StateView.{IsFramed, names_of, bindings, state_of}
 use Rattle.source_blocks.specs.declared.run.Run.{Run}
 use Rattle.source_blocks.specs.Runs.{IsSound, names_in, state_in, config_of, here_in, rest_in}
@@ -81,6 +81,15 @@ module _ (run : Run) (scope : Chain) (names : names_of scope ≡ names_in run) w
         → OnOk result (IsFramed run.setting scope new.heap new.values.items) → OnOk result (IsSound new)
     sound_after (Ok u) s f = still_sound s f
     sound_after (Err why) s f = tt
+
+-- its heap and its values are as they were, and so is all of it
+pub as_it_was : {E : Type 0} (result : Result E Stop) (run new : Run)
+    → new ≡ record run { heap = new.heap; values = new.values }
+    → OnFault result ((new.heap ≡ run.heap) × (new.values ≡ run.values)) → OnFault result (new ≡ run)
+as_it_was (Ok u) run new same h = tt
+as_it_was (Err why) run new same h = λ fault.
+    same ∙ ap₂ (λ (heap : Kept) (values : Vec Held Global). record run { heap = heap; values = values })
+    (h fault).0 (h fault).1
 
 -- ---- one more variable, and one less
 

@@ -54,6 +54,11 @@ pub record IsSound (run : Run) : Type 0 where
   pub opens : All IsOpen run.frames.items
   pub within : run.at ≤ count_of (task_of run.task)
 
+-- a run is where it was
+pub record Stays (old new : Run) : Type 0 where
+  pub place : config_of new ≡ config_of old
+  pub sound : IsSound new
+
 -- the cell of a receiver, if there is one
 abbrev pub only_cell : Option Place → List Cell
 only_cell None = []

@@ -4,7 +4,7 @@ ghost use Rattle.rpp_tree.specs.Tree.{Whole, Object as AnObject};
 ghost use Rattle.rpp_tree.specs.Views.{creation_of, lvalue_of, statement_of};
 ghost use Rattle.source_steps.specs.meaning_machine.Reversed.{undeleted as undeleted_in, unmade as unmade_in};
 ghost use Rattle.source_steps.specs.Ends.{turned};
-ghost use Rattle.source_steps.specs.Metered.{Gives, metered};
+ghost use Rattle.source_steps.specs.Metered.{Gives, metered, OnFault};
 ghost use Rattle.source_steps.specs.StateView.{setting_of};
 ghost use Rattle.source_blocks.specs.Requests.{is_request as asks, taken_back};
 ghost use Rattle.source_blocks.specs.Tasks.{line_of};
@@ -56,6 +56,7 @@ fn unmake(run: &mut Run, fuel: &mut u64, place: &Place) -> Result<(), Stop>
         (state_in run.old))) }
     ensures sound { OnOk result (IsSound run.new) }
     ensures same { run.new ≡ record run.old { heap = run.new.heap; values = run.new.values } }
+    ensures stays { OnFault result (run.new ≡ run.old) }
     ensures less { fuel.new ≤ fuel.old }
 {
     let scope = scope_of(&run.locals, run.params);
@@ -77,6 +78,7 @@ fn undelete(run: &mut Run, fuel: &mut u64, made: &Made, place: &Place) -> Result
         (lvalue_of place.now) (state_in run.old))) }
     ensures sound { OnOk result (IsSound run.new) }
     ensures same { run.new ≡ record run.old { heap = run.new.heap; values = run.new.values } }
+    ensures stays { OnFault result (run.new ≡ run.old) }
     ensures less { fuel.new ≤ fuel.old }
 {
     let scope = scope_of(&run.locals, run.params);
@@ -99,6 +101,7 @@ fn undelete_named(run: &mut Run, fuel: &mut u64, class: &Ident, name: &Ident) ->
         (Whole name.now) (state_in run.old))) }
     ensures sound { OnOk result (IsSound run.new) }
     ensures same { run.new ≡ record run.old { heap = run.new.heap; values = run.new.values } }
+    ensures stays { OnFault result (run.new ≡ run.old) }
     ensures less { fuel.new ≤ fuel.old }
 {
     match whole_place(run.setting.alloc, name) {
@@ -127,6 +130,7 @@ fn unmake_named(run: &mut Run, fuel: &mut u64, name: &Ident) -> Result<(), Stop>
         (state_in run.old))) }
     ensures sound { OnOk result (IsSound run.new) }
     ensures same { run.new ≡ record run.old { heap = run.new.heap; values = run.new.values } }
+    ensures stays { OnFault result (run.new ≡ run.old) }
     ensures less { fuel.new ≤ fuel.old }
 {
     match whole_place(run.setting.alloc, name) {
@@ -143,6 +147,7 @@ fn take_back(run: &mut Run, fuel: &mut u64, stmt: &Stmt) -> Result<(), Stop>
         (state_in run.old))) }
     ensures sound { OnOk result (IsSound run.new) }
     ensures same { run.new ≡ record run.old { heap = run.new.heap; values = run.new.values } }
+    ensures stays { OnFault result (run.new ≡ run.old) }
     ensures less { fuel.new ≤ fuel.old }
 {
     match stmt {
@@ -177,6 +182,7 @@ fn take_undone_back(run: &mut Run, fuel: &mut u64, stmt: &Stmt) -> Result<(), St
         (turned true (statement_of stmt.now)) (state_in run.old))) }
     ensures sound { OnOk result (IsSound run.new) }
     ensures same { run.new ≡ record run.old { heap = run.new.heap; values = run.new.values } }
+    ensures stays { OnFault result (run.new ≡ run.old) }
     ensures less { fuel.new ≤ fuel.old }
 {
     match stmt {
@@ -211,6 +217,7 @@ pub fn take_line_back(run: &mut Run, fuel: &mut u64, line: &Line) -> Result<(), 
         (state_in run.old))) }
     ensures sound { OnOk result (IsSound run.new) }
     ensures same { run.new ≡ record run.old { heap = run.new.heap; values = run.new.values } }
+    ensures stays { OnFault result (run.new ≡ run.old) }
     ensures less { fuel.new ≤ fuel.old }
 {
     match line {

@@ -3,7 +3,7 @@ ghost use Rattle.std.specs.Prelude.{◌≡◌, ◌≤◌, OnOk, true, IfErr};
 ghost use Rattle.rpp_tree.specs.Tree.{New, Delete, Whole, Object as AnObject};
 ghost use Rattle.rpp_tree.specs.Views.{statement_of, lvalue_of};
 ghost use Rattle.source_steps.specs.Ends.{Ends, turned, does_simply};
-ghost use Rattle.source_steps.specs.Metered.{Gives};
+ghost use Rattle.source_steps.specs.Metered.{Gives, OnFault};
 ghost use Rattle.source_steps.specs.StateView.{IsFramed, state_of};
 ghost use Rattle.source_blocks.specs.Tasks.{exchange, line_of};
 ghost use Rattle.source_blocks.specs.Runs.{IsSound, IsSimple, state_in};
@@ -33,6 +33,7 @@ fn do_statement(
         (does_simply setting.now fuel.old (statement_of s.now)
         (state_of setting.now scope.now heap.old values.old.items)) }
     ensures framed { OnOk result (IsFramed setting.now scope.now heap.new values.new.items) }
+    ensures stays { OnFault result ((heap.new ≡ heap.old) × (values.new ≡ values.old)) }
     ensures less { fuel.new ≤ fuel.old }
     ensures stops { IfErr result (λ why. MayStop (statement_of s.now) why) }
 {
@@ -92,6 +93,7 @@ fn undo_statement(
         (does_simply setting.now fuel.old (turned true (statement_of s.now))
         (state_of setting.now scope.now heap.old values.old.items)) }
     ensures framed { OnOk result (IsFramed setting.now scope.now heap.new values.new.items) }
+    ensures stays { OnFault result ((heap.new ≡ heap.old) × (values.new ≡ values.old)) }
     ensures less { fuel.new ≤ fuel.old }
     ensures stops { IfErr result (λ why. MayStop (turned true (statement_of s.now)) why) }
 {
@@ -155,6 +157,7 @@ fn carry_out(run: &mut Run, fuel: &mut u64, s: &Stmt, back: bool) -> Result<(), 
         (state_in run.old)) }
     ensures sound { OnOk result (IsSound run.new) }
     ensures same { run.new ≡ record run.old { heap = run.new.heap; values = run.new.values } }
+    ensures stays { OnFault result (run.new ≡ run.old) }
     ensures less { fuel.new ≤ fuel.old }
     ensures stops { IfErr result (λ why. MayStop (turned back (statement_of s.now)) why) }
 {
@@ -187,6 +190,7 @@ fn make(run: &mut Run, fuel: &mut u64, at: u32, class: &Ident, name: &Ident) -> 
         (state_in run.old)) }
     ensures sound { OnOk result (IsSound run.new) }
     ensures same { run.new ≡ record run.old { heap = run.new.heap; values = run.new.values } }
+    ensures stays { OnFault result (run.new ≡ run.old) }
     ensures less { fuel.new ≤ fuel.old }
 {
     match whole_place(run.setting.alloc, name) {
@@ -216,6 +220,7 @@ fn unmake(run: &mut Run, fuel: &mut u64, at: u32, class: &Ident, name: &Ident) -
         (state_in run.old)) }
     ensures sound { OnOk result (IsSound run.new) }
     ensures same { run.new ≡ record run.old { heap = run.new.heap; values = run.new.values } }
+    ensures stays { OnFault result (run.new ≡ run.old) }
     ensures less { fuel.new ≤ fuel.old }
 {
     match whole_place(run.setting.alloc, name) {
@@ -245,6 +250,7 @@ fn hold(run: &mut Run, fuel: &mut u64, at: u32, element: &Place) -> Result<(), S
         (state_in run.old)) }
     ensures sound { OnOk result (IsSound run.new) }
     ensures same { run.new ≡ record run.old { heap = run.new.heap; values = run.new.values } }
+    ensures stays { OnFault result (run.new ≡ run.old) }
     ensures less { fuel.new ≤ fuel.old }
     ensures stops { IfErr result (λ why. MayStop (exchange at (lvalue_of element.now)) why) }
 {
@@ -275,6 +281,7 @@ pub fn carry_line(run: &mut Run, fuel: &mut u64, line: &Line) -> Result<(), Stop
         (does_simply run.old.setting fuel.old (line_of line.now) (state_in run.old)) }
     ensures sound { OnOk result (IsSound run.new) }
     ensures same { run.new ≡ record run.old { heap = run.new.heap; values = run.new.values } }
+    ensures stays { OnFault result (run.new ≡ run.old) }
     ensures less { fuel.new ≤ fuel.old }
     ensures stops { IfErr result (λ why. MayStop (line_of line.now) why) }
 {

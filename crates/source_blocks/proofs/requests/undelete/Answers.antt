@@ -3,7 +3,7 @@ use Rattle.rpp_tree.specs.Views.{creation_of, lvalue_of}
 use Rattle.source_steps.specs.meaning_machine.Reversed.{undeleted}
 use Rattle.source_steps.specs.Metered.{metered}
 use Rattle.source_steps.specs.StateView.{setting_of}
-use Rattle.source_blocks.proofs.Scoped.{framed_in, changed_gives, sound_after}
+use Rattle.source_blocks.proofs.Scoped.{as_it_was, framed_in, changed_gives, sound_after}
 use Rattle.source_blocks.proofs.requests.undelete.Goals as goal
 
 pub undeleted-requires : goal.undeleted-requires
@@ -23,3 +23,9 @@ returns-clause-sound c =
     sound_after c.args.run.now c.scope_of-scope.result c.scope_of-scope.ensures
     (record c.args.run.now { heap = c.undeleted.new.heap; values = c.undeleted.new.values }) refl c.undeleted.result
     c.requires.sound c.undeleted.ensures.framed
+
+pub returns-clause-stays : goal.returns-clause-stays
+returns-clause-stays c =
+    as_it_was c.undeleted.result c.args.run.now
+    (record c.args.run.now { heap = c.undeleted.new.heap; values = c.undeleted.new.values }) refl
+    c.undeleted.ensures.stays

@@ -5,7 +5,7 @@ use Rattle.source_steps.specs.meaning_machine.Reversed.{undeleted}
 use Rattle.source_steps.specs.Ends.{Ends}
 use Rattle.source_steps.specs.Metered.{metered}
 use Rattle.source_steps.specs.StateView.{setting_of, state_of}
-use Rattle.source_blocks.proofs.Scoped.{framed_in, changed_gives, sound_after}
+use Rattle.source_blocks.proofs.Scoped.{as_it_was, framed_in, changed_gives, sound_after}
 use Rattle.source_blocks.proofs.requests.undelete_named.Goals as goal
 
 pub undelete_object-requires : goal.undelete_object-requires
@@ -31,3 +31,9 @@ returns-in-Ok-clause-sound c =
     sound_after c.args.run.now c.scope_of-scope.result c.scope_of-scope.ensures
     (record c.args.run.now { heap = c.undelete_object.new.heap; values = c.undelete_object.new.values }) refl
     c.undelete_object.result c.requires.sound c.undelete_object.ensures.framed
+
+pub returns-in-Ok-clause-stays : goal.returns-in-Ok-clause-stays
+returns-in-Ok-clause-stays c =
+    as_it_was c.undelete_object.result c.args.run.now
+    (record c.args.run.now { heap = c.undelete_object.new.heap; values = c.undelete_object.new.values }) refl
+    c.undelete_object.ensures.stays

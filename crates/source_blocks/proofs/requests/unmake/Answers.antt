@@ -3,7 +3,7 @@ use Rattle.rpp_tree.specs.Views.{lvalue_of}
 use Rattle.source_steps.specs.meaning_machine.Reversed.{unmade}
 use Rattle.source_steps.specs.Metered.{metered}
 use Rattle.source_steps.specs.StateView.{setting_of}
-use Rattle.source_blocks.proofs.Scoped.{framed_in, changed_gives, sound_after}
+use Rattle.source_blocks.proofs.Scoped.{as_it_was, framed_in, changed_gives, sound_after}
 use Rattle.source_blocks.proofs.requests.unmake.Goals as goal
 
 pub unmade-requires : goal.unmade-requires
@@ -23,3 +23,9 @@ returns-clause-sound c =
     sound_after c.args.run.now c.scope_of-scope.result c.scope_of-scope.ensures
     (record c.args.run.now { heap = c.unmade.new.heap; values = c.unmade.new.values }) refl c.unmade.result
     c.requires.sound c.unmade.ensures.framed
+
+pub returns-clause-stays : goal.returns-clause-stays
+returns-clause-stays c =
+    as_it_was c.unmade.result c.args.run.now
+    (record c.args.run.now { heap = c.unmade.new.heap; values = c.unmade.new.values }) refl
+    c.unmade.ensures.stays

@@ -5,7 +5,7 @@ use Rattle.source_steps.specs.Ends.{Ends, does_simply, turned}
 use Rattle.source_steps.specs.StateView.{state_of}
 use Rattle.source_blocks.specs.Stops.{MayStop}
 use Rattle.source_blocks.proofs.TurnedKinds.{simple_before}
-use Rattle.source_blocks.proofs.Scoped.{framed_in, changed_gives, sound_after}
+use Rattle.source_blocks.proofs.Scoped.{as_it_was, framed_in, changed_gives, sound_after}
 use Rattle.source_blocks.proofs.simple.carry_out.Goals as goal
 
 pub undo_statement-requires-clause-framed : goal.undo_statement-requires-clause-framed
@@ -71,3 +71,15 @@ pub returns-clause-stops : goal.returns-clause-stops
 returns-clause-stops c =
     subst (λ (b : Bool). IfErr c.do_statement.result (λ why. MayStop (turned b (statement_of c.args.s.now)) why))
     (sym c.if-back.false) c.do_statement.ensures.stops
+
+pub returns-then-back-clause-stays : goal.returns-then-back-clause-stays
+returns-then-back-clause-stays c =
+    as_it_was c.undo_statement.result c.args.run.now
+    (record c.args.run.now { heap = c.undo_statement.new.heap; values = c.undo_statement.new.values }) refl
+    c.undo_statement.ensures.stays
+
+pub returns-clause-stays : goal.returns-clause-stays
+returns-clause-stays c =
+    as_it_was c.do_statement.result c.args.run.now
+    (record c.args.run.now { heap = c.do_statement.new.heap; values = c.do_statement.new.values }) refl
+    c.do_statement.ensures.stays

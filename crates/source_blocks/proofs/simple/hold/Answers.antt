@@ -4,7 +4,7 @@ use Rattle.rpp_tree.specs.Views.{lvalue_of, lvalue_with}
 use Rattle.source_steps.specs.roopl_semantics.Execution.{element_name}
 use Rattle.source_steps.specs.Ends.{Ends, does_simply}
 use Rattle.source_steps.specs.StateView.{state_of}
-use Rattle.source_blocks.proofs.Scoped.{framed_in, changed_gives, sound_after}
+use Rattle.source_blocks.proofs.Scoped.{as_it_was, framed_in, changed_gives, sound_after}
 use Rattle.source_blocks.specs.Tasks.{exchange}
 use Rattle.source_blocks.proofs.Stopping.{own_so}
 use Rattle.source_blocks.proofs.simple.hold.Goals as goal
@@ -36,3 +36,9 @@ returns-in-Err-clause-stops c = λ named. absurd (named refl)
 pub returns-in-Ok-clause-stops : goal.returns-in-Ok-clause-stops
 returns-in-Ok-clause-stops c = own_so c.swap.result (exchange c.args.at (lvalue_of c.args.element.now))
     c.swap.ensures.own
+
+pub returns-in-Ok-clause-stays : goal.returns-in-Ok-clause-stays
+returns-in-Ok-clause-stays c =
+    as_it_was c.swap.result c.args.run.now
+    (record c.args.run.now { heap = c.swap.new.heap; values = c.swap.new.values }) refl
+    c.swap.ensures.stays

@@ -3,7 +3,7 @@ use Rattle.rpp_tree.specs.Tree.{New, Whole, Object as AnObject}
 use Rattle.rpp_tree.specs.Views.{lvalue_with}
 use Rattle.source_steps.specs.Ends.{Ends, does_simply}
 use Rattle.source_steps.specs.StateView.{state_of}
-use Rattle.source_blocks.proofs.Scoped.{framed_in, changed_gives, sound_after}
+use Rattle.source_blocks.proofs.Scoped.{as_it_was, framed_in, changed_gives, sound_after}
 use Rattle.source_blocks.proofs.simple.make.Goals as goal
 
 pub new_object-requires : goal.new_object-requires
@@ -29,3 +29,9 @@ returns-in-Ok-clause-sound c =
     (record c.args.run.now { heap = c.new_object.new.heap; values = c.new_object.new.values }) refl c.new_object.result
     c.requires.sound
     c.new_object.ensures.framed
+
+pub returns-in-Ok-clause-stays : goal.returns-in-Ok-clause-stays
+returns-in-Ok-clause-stays c =
+    as_it_was c.new_object.result c.args.run.now
+    (record c.args.run.now { heap = c.new_object.new.heap; values = c.new_object.new.values }) refl
+    c.new_object.ensures.stays

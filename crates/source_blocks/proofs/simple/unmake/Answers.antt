@@ -3,7 +3,7 @@ use Rattle.rpp_tree.specs.Tree.{Delete, Whole, Object as AnObject}
 use Rattle.rpp_tree.specs.Views.{lvalue_with}
 use Rattle.source_steps.specs.Ends.{Ends, does_simply}
 use Rattle.source_steps.specs.StateView.{state_of}
-use Rattle.source_blocks.proofs.Scoped.{framed_in, changed_gives, sound_after}
+use Rattle.source_blocks.proofs.Scoped.{as_it_was, framed_in, changed_gives, sound_after}
 use Rattle.source_blocks.proofs.simple.unmake.Goals as goal
 
 pub delete_object-requires : goal.delete_object-requires
@@ -30,3 +30,9 @@ returns-in-Ok-clause-sound c =
     (record c.args.run.now { heap = c.delete_object.new.heap; values = c.delete_object.new.values }) refl
     c.delete_object.result c.requires.sound
     c.delete_object.ensures.framed
+
+pub returns-in-Ok-clause-stays : goal.returns-in-Ok-clause-stays
+returns-in-Ok-clause-stays c =
+    as_it_was c.delete_object.result c.args.run.now
+    (record c.args.run.now { heap = c.delete_object.new.heap; values = c.delete_object.new.values }) refl
+    c.delete_object.ensures.stays
