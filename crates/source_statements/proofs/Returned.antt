@@ -1,11 +1,11 @@
 -- The end of a call: the values move back, and the caller goes on.
 use Rattle.std.proofs.Common.{◌≡◌, ℕ, suc, sym, ap, ap₂, subst, ◌∙◌, List, [], ◌∷◌, ◌++◌, map, reverse}
-use Rattle.std.proofs.Common.{length, Some}
+use Rattle.std.proofs.Common.{length, All, Some}
 use Rattle.std.proofs.lemmas.List.{length-map}
-use Rattle.std.proofs.lemmas.List.Elements.{All-pop}
-use Rattle.source_blocks.specs.roopl_semantics.Store.{State}
+use Rattle.std.proofs.lemmas.List.Elements.{All-pop, All-push}
+use Rattle.source_blocks.specs.roopl_semantics.Store.{State, Binding}
 use Rattle.source_blocks.specs.roopl_semantics.Execution.{moved_back}
-use Rattle.source_blocks.specs.meaning_machine.Machine.{Config, Open, closing, left}
+use Rattle.source_blocks.specs.meaning_machine.Machine.{Config, Open, Part, Calling, closing, left}
 use Rattle.source_blocks.specs.source_store.declared.value.Value.{Value as Held}
 use Rattle.source_blocks.specs.source_store.HeapView.{Kept}
 use Rattle.source_blocks.specs.source_store.ValueView.{value_of, values_of}
@@ -13,7 +13,7 @@ use Rattle.source_blocks.specs.source_steps.declared.expressions.Setting.{Settin
 use Rattle.source_blocks.specs.source_steps.declared.stop.Stop.{Stop}
 use Rattle.source_blocks.specs.source_steps.CellView.{cell_of}
 use Rattle.source_blocks.specs.source_steps.Metered.{Went, metered, Failed}
-use Rattle.source_blocks.specs.source_steps.StateView.{setting_of}
+use Rattle.source_blocks.specs.source_steps.StateView.{setting_of, bindings}
 use Rattle.source_blocks.specs.declared.frames.Caller.{Caller}
 use Rattle.source_blocks.specs.declared.frames.Frame.{Frame}
 use Rattle.source_blocks.specs.declared.frames.Part.TheVariants as runs
@@ -21,10 +21,10 @@ use Rattle.source_blocks.specs.declared.run.Run.{Run}
 use Rattle.source_blocks.specs.declared.task.Task.{Task}
 use Rattle.source_blocks.specs.Blocks.{rest_at, past_at}
 use Rattle.source_blocks.specs.Tasks.{task_of}
-use Rattle.source_blocks.specs.Opens.{open_of, caller_of, cells_in, values_in, IsOpen}
-use Rattle.source_blocks.specs.Runs.{IsSound, names_in, config_of, state_in}
+use Rattle.source_blocks.specs.Opens.{open_of, part_of, caller_of, caller_names, cells_in, values_in, IsOpen}
+use Rattle.source_blocks.specs.Runs.{IsSound, Stays, names_in, config_of, state_in}
 use Rattle.source_statements.specs.Endings.{caller_state, HasRoom}
-use Rattle.source_blocks.proofs.Opened.{in_front}
+use Rattle.source_blocks.proofs.Opened.{in_front, around_more}
 use Rattle.source_statements.proofs.Ended.{call_fails, call_goes, binding_values}
 
 module _ (run : Run) (sound : IsSound run) (front : List Frame) (task : Task) (at : ℕ) (caller : Caller)
@@ -119,3 +119,44 @@ module _ (run : Run) (sound : IsSound run) (front : List Frame) (task : Task) (a
           (ap (λ (s : State). metered fuel (moved_back (cells_in caller.receiver ++ map cell_of caller.args.items)
           (values_in caller.receiver ++ values_of inside) s)) (sym resumes) ∙ e)
           goes_on
+
+  -- where they have not moved back
+  module _ (after : Caller) (heap : Kept) (new : Run) (same : after ≡ record caller { values = after.values })
+      (room : HasRoom here after heap) (kept : caller_state here after heap ≡ caller_state here caller run.heap)
+      (again : new ≡ record run { heap = heap; frames = new.frames }) where
+    abbrev call_after : Frame
+    call_after = record { task = task; at = at; part = runs.Calling after }
+
+    frame_back : bindings (caller_names caller) (values_of after.values.items) ≡ (caller_of caller).frame
+    frame_back = ap (λ (k : Caller). bindings (caller_names k) (values_of after.values.items)) (sym same)
+        ∙ ap (λ (st : State). st.frame) kept
+
+    part_back : part_of (runs.Calling after) ≡ part_of (runs.Calling caller)
+    part_back = ap (λ (k : Caller). part_of (runs.Calling k)) same
+        ∙ ap (λ (frame : List Binding). Calling (record (caller_of caller) { frame = frame }) (cells_in caller.receiver)
+        (map cell_of caller.args.items) (values_in caller.receiver)) frame_back
+
+    abbrev with_around : State → List Open → Config
+    with_around st around =
+        record (config_of run) { state = record (state_in run) { store = st.store; log = st.log }; around = around }
+
+    pub returned_stays : new.frames.items ≡ front ++ record { task = task; at = at; part = runs.Calling after } ∷ []
+        → Stays run new
+    returned_stays one =
+        let around_back : (config_of new).around ≡ (config_of run).around =
+        ap (λ (fs : List Frame). map open_of (reverse fs)) one ∙ around_more front call_after
+        ∙ ap (λ (p : Part). record (open_of call) { part = p } ∷ map open_of (reverse front)) part_back
+        ∙ sym (ap (λ (fs : List Frame). map open_of (reverse fs)) f ∙ around_more front call) in
+        record {
+          place = ap config_of again
+              ∙ ap (λ (st : State). with_around st (config_of new).around) kept
+              ∙ ap (with_around (caller_state here caller run.heap)) around_back;
+          sound = subst IsSound (sym again) (record {
+            each = sound.each;
+            order = room.order ∙ ap (λ (h : Here). h.limits.heap) is;
+            opens = subst (All IsOpen) (sym one) (All-push IsOpen front call_after
+                (All-pop IsOpen run.frames.items front (Some call) f sound.opens).0
+                (record { within = call_open.within; caller = room.each }));
+            within = sound.within;
+          });
+        }

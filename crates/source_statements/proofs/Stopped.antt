@@ -1,16 +1,18 @@
--- Where a step may run out of memory.
-use Rattle.std.proofs.Common.{◌≡◌, ◌<◌, ◌≤◌, sym, subst, true}
+-- Where a step may run out of memory, and what a fault leaves.
+use Rattle.std.proofs.Common.{◌≡◌, ◌<◌, ◌≤◌, sym, ap, subst, true}
 use Rattle.std.proofs.lemmas.Bool.{false≢true}
-use Rattle.std.specs.Prelude.{Result, Ok, Err, IfErr}
+use Rattle.std.specs.Prelude.{Result, Ok, Err, IfErr, MatchResult}
 use Rattle.rpp_tree.specs.Tree.{Statement, Statements, Update, Swap, If, From, Construct, Local, New, Delete, Copy}
 use Rattle.rpp_tree.specs.Tree.{Uncopy, Call, Skip}
 use Rattle.source_blocks.specs.source_steps.declared.stop.Stop.{Stop}
-use Rattle.source_blocks.specs.source_steps.Metered.{IsOwn, IsOwnOrFull}
+use Rattle.source_blocks.specs.source_steps.declared.stop.Stop.TheVariants as stop
+use Rattle.source_blocks.specs.source_store.declared.lack.Lack.TheVariants as lacking
+use Rattle.source_blocks.specs.source_steps.Metered.{IsOwn, IsOwnOrFull, IsFault, OnFault}
 use Rattle.source_blocks.specs.declared.run.Run.{Run}
 use Rattle.source_blocks.specs.Blocks.{count_of}
 use Rattle.source_blocks.specs.Tasks.{task_of}
 use Rattle.source_blocks.specs.Requests.{is_request}
-use Rattle.source_blocks.specs.Runs.{config_of, here_in}
+use Rattle.source_blocks.specs.Runs.{IsSound, Stays, config_of, here_in}
 use Rattle.source_blocks.specs.Stops.{MayStop}
 use Rattle.source_blocks.proofs.Blocks.{rest_here, rest_end}
 use Rattle.source_blocks.proofs.Stopping.{own_may}
@@ -48,3 +50,18 @@ module _ (run : Run) where
   pub unpaid_so : (why : Stop) → run.at < count_of (task_of run.task) → IsOwn why → MayStopAt (config_of run).rest why
   unpaid_so why h own = subst (λ (rest : Statements). MayStopAt rest why) (sym (rest_here run.at (task_of run.task) h))
       (own_may (here_in run) why own)
+
+-- what stops only if memory runs out meets no fault
+pub no_fault : {E : Type 0} (result : Result E Stop) (P : E → Type 0) (it : Type 0)
+    → MatchResult result P (λ why. why ≡ stop.Lacks lacking.NoMemory) → OnFault result it
+no_fault (Ok e) P it m = tt
+no_fault (Err why) P it m = λ fault. absurd (subst IsFault m fault)
+
+-- a run that is as it was is where it was
+pub stays_so : {E : Type 0} (result : Result E Stop) (old new : Run) → IsSound old → OnFault result (new ≡ old)
+    → OnFault result (Stays old new)
+stays_so (Ok e) old new sound h = tt
+stays_so (Err why) old new sound h = λ fault. record {
+  place = ap config_of (h fault);
+  sound = subst IsSound (sym (h fault)) sound;
+}

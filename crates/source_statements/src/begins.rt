@@ -6,7 +6,7 @@ ghost use Rattle.source_blocks.specs.roopl_semantics.Execution.{in_direction, op
 ghost use Rattle.source_blocks.specs.meaning_machine.Machine.{begun, held_local, inside, Chosen, Holding};
 ghost use Rattle.source_blocks.specs.source_store.ValueView.{value_of};
 ghost use Rattle.source_blocks.specs.source_steps.Ends.{turned};
-ghost use Rattle.source_blocks.specs.source_steps.Metered.{Gives, metered};
+ghost use Rattle.source_blocks.specs.source_steps.Metered.{Gives, metered, OnFault};
 ghost use Rattle.source_blocks.specs.source_steps.StateView.{setting_of};
 ghost use Rattle.source_blocks.specs.Blocks.{count_of};
 ghost use Rattle.source_blocks.specs.Tasks.{task_of, line_of};
@@ -47,6 +47,7 @@ fn choose<'a>(run: &mut Run<'a>, fuel: &mut u64, at: u32, choice: &Choice<'a>) -
     ensures sound { OnOk result (IsSound run.new) }
     ensures opens { OnOk result (length run.new.frames.items ≤ 1 + length run.old.frames.items) }
     ensures setting { setting_of run.new.setting ≡ setting_of run.old.setting }
+    ensures stays { OnFault result (run.new ≡ run.old) }
     ensures less { fuel.new ≤ fuel.old }
 {
     match value_in(run, fuel, choice.test) {
@@ -103,6 +104,7 @@ fn repeat<'a>(run: &mut Run<'a>, fuel: &mut u64, at: u32, turns: &Loop<'a>) -> R
     ensures sound { OnOk result (IsSound run.new) }
     ensures opens { OnOk result (length run.new.frames.items ≤ 1 + length run.old.frames.items) }
     ensures setting { setting_of run.new.setting ≡ setting_of run.old.setting }
+    ensures stays { OnFault result (run.new ≡ run.old) }
     ensures less { fuel.new ≤ fuel.old }
 {
     match value_in(run, fuel, turns.entry) {
@@ -150,6 +152,7 @@ pub fn open_local<'a>(
     ensures sound { OnOk result (IsSound run.new) }
     ensures opens { OnOk result (length run.new.frames.items ≤ 1 + length run.old.frames.items) }
     ensures setting { setting_of run.new.setting ≡ setting_of run.old.setting }
+    ensures stays { OnFault result (run.new ≡ run.old) }
     ensures less { fuel.new ≤ fuel.old }
 {
     match closing_value(run, fuel, &local.value) {
@@ -194,6 +197,7 @@ fn begin_simple<'a>(run: &mut Run<'a>, fuel: &mut u64, line: &Line<'a>) -> Resul
     ensures sound { OnOk result (IsSound run.new) }
     ensures opens { OnOk result (length run.new.frames.items ≤ 1 + length run.old.frames.items) }
     ensures setting { setting_of run.new.setting ≡ setting_of run.old.setting }
+    ensures stays { OnFault result (run.new ≡ run.old) }
     ensures less { fuel.new ≤ fuel.old }
     ensures stops { IfErr result (λ why. MayStop (line_of line.now) why) }
 {
@@ -217,6 +221,7 @@ fn begin_forward<'a>(run: &mut Run<'a>, fuel: &mut u64, s: &'a Stmt) -> Result<(
     ensures sound { OnOk result (IsSound run.new) }
     ensures opens { OnOk result (length run.new.frames.items ≤ 1 + length run.old.frames.items) }
     ensures setting { setting_of run.new.setting ≡ setting_of run.old.setting }
+    ensures stays { OnFault result (run.new ≡ run.old) }
     ensures less { fuel.new ≤ fuel.old }
     ensures stops { IfErr result (λ why. MayStop (statement_of s.now) why) }
 {
@@ -341,6 +346,7 @@ fn begin_backward<'a>(run: &mut Run<'a>, fuel: &mut u64, s: &'a Stmt) -> Result<
     ensures sound { OnOk result (IsSound run.new) }
     ensures opens { OnOk result (length run.new.frames.items ≤ 1 + length run.old.frames.items) }
     ensures setting { setting_of run.new.setting ≡ setting_of run.old.setting }
+    ensures stays { OnFault result (run.new ≡ run.old) }
     ensures less { fuel.new ≤ fuel.old }
     ensures stops { IfErr result (λ why. MayStop (turned true (statement_of s.now)) why) }
 {
@@ -465,6 +471,7 @@ fn construct<'a>(run: &mut Run<'a>, fuel: &mut u64, made: &Construct<'a>) -> Res
     ensures sound { OnOk result (IsSound run.new) }
     ensures opens { OnOk result (length run.new.frames.items ≤ 1 + length run.old.frames.items) }
     ensures setting { setting_of run.new.setting ≡ setting_of run.old.setting }
+    ensures stays { OnFault result (run.new ≡ run.old) }
     ensures less { fuel.new ≤ fuel.old }
 {
     open_local(
@@ -490,6 +497,7 @@ pub fn begin<'a>(run: &mut Run<'a>, fuel: &mut u64, line: &Line<'a>) -> Result<(
     ensures sound { OnOk result (IsSound run.new) }
     ensures opens { OnOk result (length run.new.frames.items ≤ 1 + length run.old.frames.items) }
     ensures setting { setting_of run.new.setting ≡ setting_of run.old.setting }
+    ensures stays { OnFault result (run.new ≡ run.old) }
     ensures less { fuel.new ≤ fuel.old }
     ensures stops { IfErr result (λ why. MayStop (line_of line.now) why) }
 {

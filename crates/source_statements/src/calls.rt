@@ -10,7 +10,7 @@ ghost use Rattle.source_blocks.specs.roopl_semantics.Execution.{in_direction, ce
 ghost use Rattle.source_blocks.specs.meaning_machine.Machine.{called, entered, held_local};
 ghost use Rattle.source_blocks.specs.source_store.ValueView.{value_of, values_of};
 ghost use Rattle.source_blocks.specs.source_steps.CellView.{cell_of};
-ghost use Rattle.source_blocks.specs.source_steps.Metered.{Gives, metered};
+ghost use Rattle.source_blocks.specs.source_steps.Metered.{Gives, metered, OnFault};
 ghost use Rattle.source_blocks.specs.source_steps.StateView.{setting_of};
 ghost use Rattle.source_blocks.specs.Blocks.{count_of};
 ghost use Rattle.source_blocks.specs.Tasks.{task_of};
@@ -277,6 +277,7 @@ fn call_own<'a>(run: &mut Run<'a>, fuel: &mut u64, calls: &Calls<'a>) -> Result<
     ensures sound { OnOk result (IsSound run.new) }
     ensures opens { OnOk result (length run.new.frames.items ≤ 1 + length run.old.frames.items) }
     ensures setting { setting_of run.new.setting ≡ setting_of run.old.setting }
+    ensures stays { OnFault result (run.new ≡ run.old) }
     ensures less { fuel.new ≤ fuel.old }
 {
     let deep = is_deep(&run.setting);
@@ -305,6 +306,7 @@ pub fn call_on<'a>(
     ensures sound { OnOk result (IsSound run.new) }
     ensures opens { OnOk result (length run.new.frames.items ≤ 1 + length run.old.frames.items) }
     ensures setting { setting_of run.new.setting ≡ setting_of run.old.setting }
+    ensures stays { OnFault result (run.new ≡ run.old) }
     ensures less { fuel.new ≤ fuel.old }
 {
     let deep = is_deep(&run.setting);
@@ -351,6 +353,7 @@ pub fn call<'a>(
     ensures sound { OnOk result (IsSound run.new) }
     ensures opens { OnOk result (length run.new.frames.items ≤ 1 + length run.old.frames.items) }
     ensures setting { setting_of run.new.setting ≡ setting_of run.old.setting }
+    ensures stays { OnFault result (run.new ≡ run.old) }
     ensures less { fuel.new ≤ fuel.old }
 {
     match receiver {

@@ -6,12 +6,12 @@ ghost use Rattle.source_blocks.specs.roopl_semantics.Execution.{closed, moved_ba
 ghost use Rattle.source_blocks.specs.meaning_machine.Machine.{closing};
 ghost use Rattle.source_blocks.specs.source_store.ValueView.{value_of, values_of};
 ghost use Rattle.source_blocks.specs.source_steps.CellView.{cell_of};
-ghost use Rattle.source_blocks.specs.source_steps.Metered.{Gives, metered, IsOwn, IsOwnOrFull};
+ghost use Rattle.source_blocks.specs.source_steps.Metered.{Gives, metered, IsOwn, IsOwnOrFull, OnFault};
 ghost use Rattle.source_blocks.specs.source_steps.StateView.{setting_of};
 ghost use Rattle.source_blocks.specs.Blocks.{past_at, rest_at, count_of};
 ghost use Rattle.source_blocks.specs.Tasks.{task_of};
 ghost use Rattle.source_blocks.specs.Opens.{open_of, part_of, caller_of, caller_names, cells_in, values_in, HasPart};
-ghost use Rattle.source_blocks.specs.Runs.{IsSound, config_of, state_in};
+ghost use Rattle.source_blocks.specs.Runs.{IsSound, Stays, config_of, state_in};
 ghost use Rattle.source_statements.specs.Endings.{IsEnding, IsInSide, IsInCall, caller_state, HasRoom, Falls};
 
 use rpp_tree::tree::Expr;
@@ -81,6 +81,7 @@ fn end_side(run: &mut Run, fuel: &mut u64, side: bool, after: &Expr) -> Result<(
     ensures sound { OnOk result (IsSound run.new) }
     ensures opens { OnOk result (length run.new.frames.items < length run.old.frames.items) }
     ensures setting { setting_of run.new.setting ≡ setting_of run.old.setting }
+    ensures stays { OnFault result (run.new ≡ run.old) }
     ensures less { fuel.new ≤ fuel.old }
     ensures own { IfErr result IsOwn }
 {
@@ -106,6 +107,7 @@ fn end_first<'a>(run: &mut Run<'a>, fuel: &mut u64, turns: &Loop<'a>) -> Result<
     ensures sound { OnOk result (IsSound run.new) }
     ensures opens { OnOk result (length run.new.frames.items ≤ length run.old.frames.items) }
     ensures setting { setting_of run.new.setting ≡ setting_of run.old.setting }
+    ensures stays { OnFault result (run.new ≡ run.old) }
     ensures some { OnOk result (fuel.new < fuel.old) }
     ensures less { fuel.new ≤ fuel.old }
     ensures own { IfErr result IsOwn }
@@ -138,6 +140,7 @@ fn end_again<'a>(run: &mut Run<'a>, fuel: &mut u64, turns: &Loop<'a>) -> Result<
     ensures sound { OnOk result (IsSound run.new) }
     ensures opens { OnOk result (length run.new.frames.items ≤ length run.old.frames.items) }
     ensures setting { setting_of run.new.setting ≡ setting_of run.old.setting }
+    ensures stays { OnFault result (run.new ≡ run.old) }
     ensures some { OnOk result (fuel.new < fuel.old) }
     ensures less { fuel.new ≤ fuel.old }
     ensures own { IfErr result IsOwn }
@@ -191,6 +194,7 @@ fn end_local(run: &mut Run, fuel: &mut u64, local: &Local) -> Result<(), Stop>
     ensures sound { OnOk result (IsSound run.new) }
     ensures opens { OnOk result (length run.new.frames.items < length run.old.frames.items) }
     ensures setting { setting_of run.new.setting ≡ setting_of run.old.setting }
+    ensures stays { OnFault result (run.new ≡ run.old) }
     ensures less { fuel.new ≤ fuel.old }
     ensures own { IfErr result IsOwnOrFull }
 {
@@ -306,7 +310,8 @@ fn caller_setting<'a>(setting: &Setting<'a>, caller: &Caller) -> Setting<'a>
     }
 }
 
-/// A method ends: the values move back, and its caller goes on.
+/// A method ends: the values move back, and its caller goes on. If one finds its cell written, the
+/// method stays active.
 fn end_call(run: &mut Run, fuel: &mut u64) -> Result<(), Stop>
     requires sound { IsSound run.old }
     requires within { IsInCall (config_of run.old).around }
@@ -316,6 +321,7 @@ fn end_call(run: &mut Run, fuel: &mut u64) -> Result<(), Stop>
     ensures sound { OnOk result (IsSound run.new) }
     ensures opens { OnOk result (length run.new.frames.items < length run.old.frames.items) }
     ensures setting { setting_of run.new.setting ≡ setting_of run.old.setting }
+    ensures stays { OnFault result (Stays run.old run.new) }
     ensures less { fuel.new ≤ fuel.old }
     ensures own { IfErr result IsOwn }
 {
@@ -329,7 +335,11 @@ fn end_call(run: &mut Run, fuel: &mut u64) -> Result<(), Stop>
                         become_caller(run, task, at, caller);
                         Ok(())
                     }
-                    Err(why) => Err(why),
+                    Err(why) => {
+                        let part = Part::Calling(caller);
+                        run.frames.push_reserved(Frame { task, at, part });
+                        Err(why)
+                    }
                 }
             }
             _ => Ok(()),
@@ -348,6 +358,7 @@ pub fn end(run: &mut Run, fuel: &mut u64) -> Result<(), Stop>
         (2 * fuel.new + length run.new.frames.items)
         (2 * fuel.old + length run.old.frames.items)) }
     ensures setting { setting_of run.new.setting ≡ setting_of run.old.setting }
+    ensures stays { OnFault result (Stays run.old run.new) }
     ensures less { fuel.new ≤ fuel.old }
     ensures own { IfErr result IsOwnOrFull }
 {

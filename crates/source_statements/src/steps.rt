@@ -1,11 +1,11 @@
 // A step of a run: a statement of the block that runs begins, or the block ends.
 ghost use Rattle.std.specs.Prelude.{◌≡◌, ◌+◌, ◌*◌, ◌<◌, ◌≤◌, OnOk, length, true, IfErr};
-ghost use Rattle.source_blocks.specs.source_steps.Metered.{Gives, metered};
+ghost use Rattle.source_blocks.specs.source_steps.Metered.{Gives, metered, OnFault};
 ghost use Rattle.source_blocks.specs.source_steps.StateView.{setting_of};
 ghost use Rattle.source_blocks.specs.Blocks.{count_of};
 ghost use Rattle.source_blocks.specs.Tasks.{task_of, line_of};
 ghost use Rattle.source_blocks.specs.Requests.{is_request as asks};
-ghost use Rattle.source_blocks.specs.Runs.{IsSound, config_of, here_in, rest_in};
+ghost use Rattle.source_blocks.specs.Runs.{IsSound, Stays, config_of, here_in, rest_in};
 ghost use Rattle.source_statements.specs.Steps.{StepFalls, begun_in, step_in, MayStopAt};
 ghost use Rattle.source_blocks.specs.Stops.{MayStop};
 
@@ -26,6 +26,7 @@ fn begin_request(run: &mut Run, fuel: &mut u64, line: &Line) -> Result<(), Stop>
     ensures sound { OnOk result (IsSound run.new) }
     ensures opens { OnOk result (length run.new.frames.items ≤ 1 + length run.old.frames.items) }
     ensures setting { setting_of run.new.setting ≡ setting_of run.old.setting }
+    ensures stays { OnFault result (run.new ≡ run.old) }
     ensures less { fuel.new ≤ fuel.old }
     ensures stops { IfErr result (λ why. MayStop (line_of line.now) why) }
 {
@@ -54,6 +55,7 @@ fn begin_line<'a>(
     ensures sound { OnOk result (IsSound run.new) }
     ensures opens { OnOk result (length run.new.frames.items ≤ 1 + length run.old.frames.items) }
     ensures setting { setting_of run.new.setting ≡ setting_of run.old.setting }
+    ensures stays { OnFault result (run.new ≡ run.old) }
     ensures less { fuel.new ≤ fuel.old }
     ensures stops { IfErr result (λ why. MayStop (line_of line.now) why) }
 {
@@ -76,6 +78,7 @@ pub fn step<'a>(run: &mut Run<'a>, fuel: &mut u64, back: bool) -> Result<(), Sto
         (2 * fuel.new + length run.new.frames.items)
         (2 * fuel.old + length run.old.frames.items)) }
     ensures setting { setting_of run.new.setting ≡ setting_of run.old.setting }
+    ensures stays { OnFault result (Stays run.old run.new) }
     ensures less { fuel.new ≤ fuel.old }
     ensures stops { IfErr result (λ why. MayStopAt (config_of run.old).rest why) }
 {

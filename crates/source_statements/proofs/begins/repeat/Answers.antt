@@ -4,6 +4,7 @@ use Rattle.source_blocks.specs.source_store.ValueView.{value_of}
 use Rattle.source_blocks.specs.source_steps.StateView.{setting_of}
 use Rattle.source_blocks.specs.Runs.{config_of, here_in, rest_in}
 use Rattle.source_statements.proofs.Begun.{loop_fails, loop_refused, loop_goes}
+use Rattle.source_statements.proofs.Stopped.{no_fault}
 use Rattle.source_statements.proofs.begins.repeat.Goals as goal
 
 pub returns-in-Err-clause-gives : goal.returns-in-Err-clause-gives
@@ -25,3 +26,6 @@ returns-in-Ok-refuse-clause-gives c =
     (rest_in c.args.run.now) c.args.fuel.now c.args.at _ _ _ _ c.requires.here c.open_block.result c.value_in.new.fuel
     c.refuse.new.fuel (value_of c.in-Ok.value) (not c.is_true.result) (config_of c.open_block.new.run)
     c.in-Ok.ensures.gives (ap not c.is_true.ensures) c.in-Ok-refuse.ensures.gives c.open_block.ensures.opened
+
+pub returns-in-Ok-refuse-clause-stays : goal.returns-in-Ok-refuse-clause-stays
+returns-in-Ok-refuse-clause-stays c = no_fault c.open_block.result _ _ c.open_block.ensures.opened

@@ -1,6 +1,7 @@
 use Rattle.source_blocks.specs.source_steps.StateView.{setting_of}
 use Rattle.source_blocks.specs.Runs.{config_of, here_in, rest_in}
 use Rattle.source_statements.proofs.Entered.{own_unpaid, own_too_deep, own_goes}
+use Rattle.source_statements.proofs.Stopped.{no_fault}
 use Rattle.source_statements.proofs.calls.call_own.Goals as goal
 
 pub returns-in-Err-clause-gives : goal.returns-in-Err-clause-gives
@@ -25,3 +26,6 @@ returns-in-Ok-refuse-clause-gives c =
     c.args.calls.now.args.now c.args.fuel.now c.cost_of.result c.cost_of.ensures c.enter.result c.spend.new.fuel
     c.refuse.new.fuel c.is_deep-deep.result (config_of c.enter.new.run) c.in-Ok.ensures.gives
     c.in-Ok-refuse.ensures.gives c.is_deep-deep.ensures c.enter.ensures.entered
+
+pub returns-in-Ok-refuse-clause-stays : goal.returns-in-Ok-refuse-clause-stays
+returns-in-Ok-refuse-clause-stays c = no_fault c.enter.result _ _ c.enter.ensures.entered

@@ -2,7 +2,7 @@ use Rattle.std.proofs.Common.{◌+◌, ◌*◌, length, sym}
 use Rattle.source_blocks.specs.Runs.{config_of}
 use Rattle.source_statements.proofs.Stepped.{ended_gives, begins_unpaid, begins_gives, begins_falls, end_falls}
 use Rattle.source_statements.proofs.Stepped.{paid_falls}
-use Rattle.source_statements.proofs.Stopped.{ends_so, begins_so, unpaid_so}
+use Rattle.source_statements.proofs.Stopped.{ends_so, begins_so, unpaid_so, stays_so}
 use Rattle.source_statements.proofs.steps.step.Goals as goal
 
 pub begin_line-requires-clause-here : goal.begin_line-requires-clause-here
@@ -48,3 +48,7 @@ pub returns-in-Ok-clause-stops : goal.returns-in-Ok-clause-stops
 returns-in-Ok-clause-stops c =
     begins_so c.args.run.now c.begin_line.result _ c.in-Some.ensures.within (sym c.in-Some.ensures.statement)
     c.begin_line.ensures.stops
+
+pub returns-in-Ok-clause-stays : goal.returns-in-Ok-clause-stays
+returns-in-Ok-clause-stays c =
+    stays_so c.begin_line.result c.args.run.now c.begin_line.new.run c.requires.sound c.begin_line.ensures.stays
