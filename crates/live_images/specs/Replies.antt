@@ -7,7 +7,9 @@ use Rattle.pisa_scripts.specs.declared.command.Command.TheVariants.{Regs, Cells}
 use Rattle.two_way_debugger.specs.pisa_machine.Position.{Position}
 use Rattle.two_way_debugger.specs.Shown.{walk_of, text_of}
 use Rattle.live_requests.specs.declared.request.Request.{Request}
-use Rattle.live_requests.specs.declared.request.Request.TheVariants.{Nothing, Carry, Fault, Quit}
+use Rattle.live_requests.specs.declared.request.Request.TheVariants.{Nothing, Carry, Stack}
+use Rattle.live_requests.specs.declared.request.Request.TheVariants.{RegsOf, Fault, FaultCells}
+use Rattle.live_requests.specs.declared.request.Request.TheVariants.{Quit}
 use Rattle.live_requests.specs.declared.request.Request.TheVariants.{Bad}
 use Rattle.live_requests.specs.Requests.{request_of}
 use Rattle.live_talks.specs.declared.ends.End.{End}
@@ -44,7 +46,10 @@ said request p = []
 abbrev pub end_of : Request → List ℕ → End
 end_of Nothing text = end.Done
 end_of (Carry command) text = end_shown command text
+end_of Stack text = end.Bad
+end_of (RegsOf depth) text = end.Bad
 end_of Fault text = end.Bad
+end_of (FaultCells number count) text = end.Bad
 end_of Quit text = end.Bye
 end_of Bad text = end.Bad
 

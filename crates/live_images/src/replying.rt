@@ -78,7 +78,10 @@ pub(crate) fn answer<L: Ledger, K: Sink>(
     match request {
         Request::Nothing => say_end(out, End::Done),
         Request::Carry(command) => say_carried(alloc, debugger, steps, command, out),
+        Request::Stack => say_end(out, End::Bad),
+        Request::RegsOf(_depth) => say_end(out, End::Bad),
         Request::Fault => say_end(out, End::Bad),
+        Request::FaultCells(_from, _count) => say_end(out, End::Bad),
         Request::Quit => Some(say_bye(out)),
         Request::Bad => say_end(out, End::Bad),
     }

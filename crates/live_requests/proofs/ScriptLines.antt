@@ -11,7 +11,7 @@ use Rattle.pisa_scripts.specs.declared.command.Command.{Command}
 use Rattle.two_way_debugger.specs.declared.error.ScriptError.{ScriptError}
 use Rattle.two_way_debugger.specs.Scripts.{script_of, command_of, with_command, with_line, and_then, commands_from}
 use Rattle.live_requests.specs.declared.request.Request.TheVariants.{Nothing, Carry}
-use Rattle.live_requests.specs.Requests.{read_as, request_of}
+use Rattle.live_requests.specs.Requests.{or_other, request_of}
 
 -- ---- lines have no line feed
 
@@ -80,6 +80,10 @@ quit_is_no_command : command_of (pieces 32 (codes "quit")) ≡ None
 unfolding command_of
 quit_is_no_command = refl
 
+stack_is_no_command : command_of (pieces 32 (codes "stack")) ≡ None
+unfolding command_of
+stack_is_no_command = refl
+
 fault_is_no_command : command_of (pieces 32 (codes "fault")) ≡ None
 unfolding command_of
 fault_is_no_command = refl
@@ -102,29 +106,43 @@ no_word line word other = false_from_ne_true (bytes_eq line word) (λ e. other (
 blank_quit : is_blank (codes "quit") ≡ true → ⊥
 blank_quit e = cc
 
+blank_stack : is_blank (codes "stack") ≡ true → ⊥
+blank_stack e = cc
+
 blank_fault : is_blank (codes "fault") ≡ true → ⊥
 blank_fault e = cc
 
 command_quit : (command : Command) → command_of (pieces 32 (codes "quit")) ≡ Some command → ⊥
 command_quit command e = none_some command (sym quit_is_no_command ∙ e)
 
+command_stack : (command : Command) → command_of (pieces 32 (codes "stack")) ≡ Some command → ⊥
+command_stack command e = none_some command (sym stack_is_no_command ∙ e)
+
 command_fault : (command : Command) → command_of (pieces 32 (codes "fault")) ≡ Some command → ⊥
 command_fault command e = none_some command (sym fault_is_no_command ∙ e)
 
-asks_read : (line : List ℕ) → has_feed line ≡ false → (line ≡ codes "quit" → ⊥) → (line ≡ codes "fault" → ⊥)
-    → request_of line ≡ read_as (with_line 1 [] line)
-asks_read line none quits fails =
-    rw (no_word line (codes "quit") quits, no_word line (codes "fault") fails, one_line line none) refl
+asks_read : (line : List ℕ) → has_feed line ≡ false → (line ≡ codes "quit" → ⊥) → (line ≡ codes "stack" → ⊥)
+    → (line ≡ codes "fault" → ⊥) → request_of line ≡ or_other line (with_line 1 [] line)
+asks_read line none quits stacks fails =
+    rw (
+      no_word line (codes "quit") quits,
+      no_word line (codes "stack") stacks,
+      no_word line (codes "fault") fails,
+      one_line line none,
+    ) refl
 
 blank_asks : (line : List ℕ) → has_feed line ≡ false → is_blank line ≡ true → request_of line ≡ Nothing
 blank_asks line none blank =
     asks_read line none (λ e. blank_quit (subst (λ (l : List ℕ). is_blank l ≡ true) e blank))
+    (λ e. blank_stack (subst (λ (l : List ℕ). is_blank l ≡ true) e blank))
     (λ e. blank_fault (subst (λ (l : List ℕ). is_blank l ≡ true) e blank)) ∙ rw blank refl
 
 command_asks : (line : List ℕ) (command : Command) → has_feed line ≡ false → is_blank line ≡ false
     → command_of (pieces 32 line) ≡ Some command → request_of line ≡ Carry command
 command_asks line command none blank is =
     asks_read line none (λ e. command_quit command
+    (subst (λ (l : List ℕ). command_of (pieces 32 l) ≡ Some command) e is))
+    (λ e. command_stack command
     (subst (λ (l : List ℕ). command_of (pieces 32 l) ≡ Some command) e is))
     (λ e. command_fault command
     (subst (λ (l : List ℕ). command_of (pieces 32 l) ≡ Some command) e is)) ∙ rw (blank, is) refl

@@ -1,11 +1,18 @@
 -- What a line of a session asks.
-use Rattle.std.specs.Prelude.{ℕ, Bool, true, false, List, [], ◌∷◌, Result, Ok, Err, codes, if◌then◌else◌}
+use Rattle.std.specs.Prelude.{ℕ, Bool, true, false, List, [], ◌∷◌, Result, Ok, Err, codes}
+use Rattle.std.specs.Prelude.{if◌then◌else◌, take, drop}
+use Rattle.std.specs.Prelude.{length, nat_lt, Option, Some, None}
+use Rattle.pisa_scripts.specs.Lines.{short_number}
 use Rattle.std.specs.Str.{bytes_eq}
 use Rattle.pisa_scripts.specs.declared.command.Command.{Command}
+use Rattle.pisa_scripts.specs.declared.command.Command.TheVariants.{Cells}
 use Rattle.two_way_debugger.specs.declared.error.ScriptError.{ScriptError}
 use Rattle.two_way_debugger.specs.Scripts.{script_of}
 use Rattle.live_requests.specs.declared.request.Request.{Request}
-use Rattle.live_requests.specs.declared.request.Request.TheVariants.{Nothing, Carry, Fault, Quit, Bad}
+use Rattle.live_requests.specs.declared.request.Request.TheVariants.{Nothing, Carry, Stack}
+use Rattle.live_requests.specs.declared.request.Request.TheVariants.{RegsOf, Fault, FaultCells}
+use Rattle.live_requests.specs.declared.request.Request.TheVariants.{Quit}
+use Rattle.live_requests.specs.declared.request.Request.TheVariants.{Bad}
 
 -- one command, or none where the line is blank
 abbrev pub asked : List Command → Request
@@ -17,10 +24,34 @@ abbrev pub read_as : Result (List Command) ScriptError → Request
 read_as (Ok commands) = asked commands
 read_as (Err e) = Bad
 
--- `quit`, `fault`, or what a script of this one line does
+-- of the commands of a script, only `cells` is asked of the step that fails
+abbrev pub of_the_fault : Request → Request
+of_the_fault (Carry (Cells from count)) = FaultCells from count
+of_the_fault it = Bad
+
+-- `regs E`, if E is a number
+abbrev pub of_a_call : Option ℕ → Request
+of_a_call None = Bad
+of_a_call (Some depth) = RegsOf depth
+
+-- a line that is no script: `fault` with one that is, or `regs E`
+abbrev pub other_of : List ℕ → Request
+other_of line = if nat_lt (length line) 6 then Bad
+    else if bytes_eq (take 6 line) (codes "fault ")
+    then of_the_fault (read_as (script_of (drop 6 line)))
+    else if bytes_eq (take 5 line) (codes "regs ") then of_a_call (short_number (drop 5 line))
+    else Bad
+
+-- what a script of this one line does, or else another line
+abbrev pub or_other : (line : List ℕ) → Result (List Command) ScriptError → Request
+or_other line (Ok commands) = asked commands
+or_other line (Err e) = other_of line
+
+-- `quit`, `stack`, `fault`, or another line
 abbrev pub request_of : List ℕ → Request
 request_of line = if bytes_eq line (codes "quit") then Quit
-    else if bytes_eq line (codes "fault") then Fault else read_as (script_of line)
+    else if bytes_eq line (codes "stack") then Stack
+    else if bytes_eq line (codes "fault") then Fault else or_other line (script_of line)
 
 abbrev pub is_quit : Request → Bool
 is_quit Quit = true

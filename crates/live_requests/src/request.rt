@@ -1,10 +1,12 @@
 // What a line asks.
-ghost use Rattle.std.specs.Prelude.{◌≡◌, ◌≤◌, false, length, IfOk, OnErr};
+ghost use Rattle.std.specs.Prelude.{◌≡◌, ◌≤◌, false, length, take, drop, codes, if◌then◌else◌, IfOk, OnErr};
+ghost use Rattle.std.specs.Str.{bytes_eq};
+ghost use Rattle.pisa_scripts.specs.Lines.{short_number as short_number_of};
 ghost use Rattle.pisa_scripts.specs.declared.lines.TheConstants.{MOST_SCRIPT};
 ghost use Rattle.two_way_debugger.specs.Scripts.{script_of};
-ghost use Rattle.live_requests.specs.Requests.{asked, read_as, request_of, is_quit};
+ghost use Rattle.live_requests.specs.Requests.{asked, read_as, of_the_fault, of_a_call, other_of, or_other, request_of, is_quit};
 
-use pisa_scripts::Command;
+use pisa_scripts::{Command, short_number};
 use rpp_words::NoMemory;
 use std::alloc::Global;
 use two_way_debugger::{ScriptError, read_script};
@@ -16,36 +18,108 @@ pub enum Request {
     Nothing,
     /// A command of a script.
     Carry(Command),
+    /// `stack`: the active calls.
+    Stack,
+    /// `regs E`: the fields and variables of the call with so many active calls.
+    RegsOf(u64),
     /// `fault`: what fails if one more move is made.
     Fault,
+    /// `fault cells A N`: the objects and arrays of so many names from one on, as they are then.
+    FaultCells(u32, u32),
     /// `quit`: the end of the session.
     Quit,
     /// The line is no request.
     Bad,
 }
 
-/// What a line asks. It is read as a script of this one line, except `quit` and `fault`.
+/// What a line asks. It is read as a script of this one line, except `quit`, `stack`, `regs E`, and
+/// what begins with `fault`.
 pub fn read_request(alloc: Global, line: &[u8]) -> Result<Request, NoMemory>
     requires { length line.now ≤ MOST_SCRIPT }
     ensures request { IfOk result (λ request. request ≡ request_of line.now) }
     ensures quit { OnErr result (is_quit (request_of line.now) ≡ false) }
 {
-    match line {
-        b"quit" => Ok(Request::Quit),
-        b"fault" => Ok(Request::Fault),
-        _ => read_commands(alloc, line),
+    if is_word(line, b"quit") {
+        return Ok(Request::Quit);
     }
+    if is_word(line, b"stack") {
+        return Ok(Request::Stack);
+    }
+    if is_word(line, b"fault") {
+        return Ok(Request::Fault);
+    }
+    read_commands(alloc, line)
 }
 
-// What a script of this one line does.
+fn is_word(line: &[u8], word: &[u8]) -> bool
+    ensures { result ≡ bytes_eq line.now word.now }
+{
+    line == word
+}
+
+// What a script of this one line does, or else another line.
 fn read_commands(alloc: Global, line: &[u8]) -> Result<Request, NoMemory>
     requires { length line.now ≤ MOST_SCRIPT }
-    ensures { IfOk result (λ request. request ≡ read_as (script_of line.now)) }
+    ensures { IfOk result (λ request. request ≡ or_other line.now (script_of line.now)) }
 {
     match read_script(alloc, line) {
         Ok(commands) => Ok(asked_by(&commands)),
+        Err(ScriptError::BadCommand { line: _ }) => read_other(alloc, line),
+        Err(ScriptError::NoMemory) => Err(NoMemory),
+    }
+}
+
+// What a line asks that is no script.
+fn read_other(alloc: Global, line: &[u8]) -> Result<Request, NoMemory>
+    requires { length line.now ≤ MOST_SCRIPT }
+    ensures { IfOk result (λ request. request ≡ other_of line.now) }
+{
+    if line.len() < 6 {
+        return Ok(Request::Bad);
+    }
+    let (word, rest) = line.split_at(6);
+    if is_word(word, b"fault ") {
+        read_cells(alloc, rest)
+    } else {
+        Ok(read_call(line))
+    }
+}
+
+// `regs E`, or no request.
+fn read_call(line: &[u8]) -> Request
+    requires { 6 ≤ length line.now }
+    ensures { result ≡ (if bytes_eq (take 5 line.now) (codes "regs ")
+        then of_a_call (short_number_of (drop 5 line.now)) else Request.Bad) }
+{
+    let (word, rest) = line.split_at(5);
+    if !is_word(word, b"regs ") {
+        return Request::Bad;
+    }
+    match short_number(rest) {
+        None => Request::Bad,
+        Some(depth) => Request::RegsOf(depth),
+    }
+}
+
+// What a script of this one line asks of the step that fails.
+fn read_cells(alloc: Global, line: &[u8]) -> Result<Request, NoMemory>
+    requires { length line.now ≤ MOST_SCRIPT }
+    ensures { IfOk result (λ request. request ≡ of_the_fault (read_as (script_of line.now))) }
+{
+    match read_script(alloc, line) {
+        Ok(commands) => Ok(cells_asked(asked_by(&commands))),
         Err(ScriptError::BadCommand { line: _ }) => Ok(Request::Bad),
         Err(ScriptError::NoMemory) => Err(NoMemory),
+    }
+}
+
+// Only `cells` is asked of the step that fails.
+fn cells_asked(request: Request) -> Request
+    ensures { result ≡ of_the_fault request }
+{
+    match request {
+        Request::Carry(Command::Cells(from, count)) => Request::FaultCells(from, count),
+        _ => Request::Bad,
     }
 }
 

@@ -2,26 +2,31 @@
 use Rattle.std.proofs.Common.{◌≡◌, ◌∙◌, refl, sym, ap, subst, ℕ, List, ◌∷◌, ◌++◌, Bool, false, true, Some, None, Ok}
 use Rattle.std.proofs.Common.{Err}
 use Rattle.std.proofs.Common.{inl, inr}
-use Rattle.std.specs.Prelude.{Option, Result, ⊤}
+use Rattle.std.specs.Prelude.{Option, Result, IfOk, ⊤}
 use Rattle.source_debugger.specs.meaning_points.rpp_tree.Views.{source_of}
 use Rattle.source_debugger.specs.Standing.{Standing}
-use Rattle.source_debugger.specs.Failures.{account_of, fails_at}
+use Rattle.source_debugger.specs.Stacks.{TellsStack, TellsCall}
+use Rattle.source_debugger.specs.meaning_points.rpp_tree.Tree.{Source}
+use Rattle.source_debugger.specs.declared.failing.Detail.{Detail}
+use Rattle.source_debugger.specs.declared.failing.Detail.TheVariants as details
+use Rattle.source_debugger.specs.Failures.{Account, account_of, shown_of, fails_at}
 use Rattle.pisa_scripts.specs.declared.command.Command.{Command}
 use Rattle.pisa_scripts.specs.Lines.{pieces}
 use Rattle.live_port.specs.rpp_ports.declared.sink.SinkFault.{SinkFault}
 use Rattle.live_port.specs.Heard.{Heard, Line, Long, Lost, Over, Failed, Tells}
 use Rattle.live_requests.specs.declared.request.Request.{Request}
-use Rattle.live_requests.specs.declared.request.Request.TheVariants.{Nothing, Carry, Fault, Quit, Bad}
+use Rattle.live_requests.specs.declared.request.Request.TheVariants.{Nothing, Carry, Stack, RegsOf, Quit, Bad}
 use Rattle.live_requests.specs.Requests.{request_of, is_quit}
 use Rattle.live_searches.specs.declared.asks.Ask.{Ask}
 use Rattle.live_searches.specs.Asks.{ask_of}
 use Rattle.live_talks.specs.declared.ends.End.TheVariants as end
 use Rattle.live_talks.specs.Ends.{end_line}
-use Rattle.live_session.specs.Replies.{failure_reply}
+use Rattle.live_session.specs.Replies.{failure_reply, or_none, replied, RepliesStack, RepliesCall}
 use Rattle.live_talks.specs.Talks.{Talk, Printed, Puts, PutsText, PutsBye, status_by}
 use Rattle.live_talks.specs.Sessions.{IsReply, IsLine, quits}
 use Rattle.live_session.specs.Sessions.{RepliesOf}
-use Rattle.live_session.specs.Serving.{IsSameRun, Answers, Moves, IsReplyTo, IsReplyBy, IsMoves, PutsBy, Goes}
+use Rattle.live_session.specs.Serving.{IsSameRun, Answers, request_for, Moves, IsReplyTo, IsReplyBy, IsStack, IsCall}
+use Rattle.live_session.specs.Serving.{IsMoves, PutsBy, Goes}
 use Rattle.live_session.proofs.Putting.{by_text, goes}
 
 -- what is put of the reply to a request
@@ -57,39 +62,144 @@ unsaid before after request quit old new result same on puts =
     result (end_line end.Memory) puts (inr (refl, ap (λ (d : Standing). d.position) same)) on
     (subst (λ (d : Standing). IsSameRun before d) (sym same) refl)
 
--- what fails, if something does
-failure_told : (d : Standing) (o : Option (List ℕ)) (reply : List ℕ) → o ≡ fails_at (account_of d) d.position
-    → failure_reply d.position o ≡ Some (record { position = d.position; text = reply }) → Answers d Fault d reply
-failure_told d o reply is told = record { replied = sym (ap (failure_reply d.position) is) ∙ told; same = refl }
+-- what is asked of the step that fails, if one does
+failure_is : (program : Source) (account : Account) (detail : Detail) (j : ℕ)
+    → replied program account (request_for detail) j ≡ failure_reply j (fails_at account (shown_of program detail) j)
+failure_is program account details.Test j = refl
+failure_is program account (details.Cells from count) j = refl
 
-pub nothing_fails : (before after : Standing) (reply : List ℕ) → after ≡ before
-    → None ≡ fails_at (account_of before) before.position → reply ≡ end_line end.None
-    → Answers before Fault after reply
-nothing_fails before after reply stays is shown =
-    subst (λ (d : Standing). Answers before Fault d reply) (sym stays)
-    (failure_told before None reply is
-    (ap (λ (t : List ℕ). Some (record { position = before.position; text = t })) (sym shown)))
+pub failure_told : (before after : Standing) (detail : Detail) (o : Option (List ℕ)) (reply : List ℕ)
+    → after ≡ before → o ≡ fails_at (account_of before) (shown_of (source_of before.program) detail) before.position
+    → reply ≡ or_none o → Answers before (request_for detail) after reply
+failure_told before after detail o reply stays is shown =
+    subst (λ (d : Standing). Answers before (request_for detail) d reply) (sym stays)
+    (record {
+      replied = failure_is (source_of before.program) (account_of before) detail before.position
+          ∙ sym (ap (failure_reply before.position) is)
+          ∙ ap (λ (t : List ℕ). Some (record { position = before.position; text = t })) (sym shown);
+      same = refl;
+    })
 
-pub something_fails : (before after : Standing) (text reply : List ℕ) → after ≡ before
-    → Some text ≡ fails_at (account_of before) before.position → reply ≡ text ++ end_line end.Done
-    → Answers before Fault after reply
-something_fails before after text reply stays is shown =
-    subst (λ (d : Standing). Answers before Fault d reply) (sym stays)
-    (failure_told before (Some text) reply is
-    (ap (λ (t : List ℕ). Some (record { position = before.position; text = t })) (sym shown)))
+-- the same of what a function returned
+pub failure_told_ok : {X E : Type 0} (view : X → List ℕ) (o : Option (List ℕ)) (result : Result X E)
+    (before after : Standing) (detail : Detail) → after ≡ before
+    → o ≡ fails_at (account_of before) (shown_of (source_of before.program) detail) before.position
+    → IfOk result (λ x. view x ≡ or_none o) → IfOk result (λ x. Answers before (request_for detail) after (view x))
+failure_told_ok view o (Ok x) before after detail stays is shown =
+    failure_told before after detail o (view x) stays is shown
+failure_told_ok view o (Err e) before after detail stays is shown = tt
 
-pub failure_said : (before after : Standing) (text shown : List ℕ) (old new : Printed) (result : Option ℕ)
-    → Answers before Fault after text → shown ≡ text → PutsText shown old new result
-    → PutsTo Fault false before after old new result
-failure_said before after text shown old new result answers is puts =
-    by_text (IsReplyTo (source_of before.program) (account_of before) Fault before.position) false ⊤ before after
+pub failure_said : (before after : Standing) (detail : Detail) (text shown : List ℕ) (old new : Printed)
+    (result : Option ℕ) → Answers before (request_for detail) after text → shown ≡ text → PutsText shown old new result
+    → PutsTo (request_for detail) false before after old new result
+failure_said before after detail text shown old new result answers is puts =
+    by_text (IsReplyTo (source_of before.program) (account_of before) (request_for detail) before.position) false ⊤
+    before after
     old new result text (subst (λ (t : List ℕ). PutsText t old new result) is puts) (inl answers.replied) refl
     answers.same
 
-pub fault_said : (before after : Standing) (request : Request) (line : List ℕ) (old new : Printed)
-    (result : Option ℕ) → request ≡ Fault → PutsTo Fault false before after old new result
+-- a request for something of the step that fails is no `quit`, and is no word of moves
+by_detail : (before after : Standing) (detail : Detail) (line : List ℕ) (old new : Printed) (result : Option ℕ)
+    → PutsTo (request_for detail) false before after old new result
+    → PutsByLine (request_for detail) line (is_quit (request_for detail)) before after old new result
+by_detail before after details.Test line old new result puts = puts
+by_detail before after (details.Cells from count) line old new result puts = puts
+
+pub fault_said : (before after : Standing) (request : Request) (detail : Detail) (line : List ℕ) (old new : Printed)
+    (result : Option ℕ) → request ≡ request_for detail
+    → PutsTo (request_for detail) false before after old new result
     → PutsByLine request line (is_quit request) before after old new result
-fault_said before after request line old new result is puts =
+fault_said before after request detail line old new result is puts =
+    subst (λ (r : Request). PutsByLine r line (is_quit r) before after old new result) (sym is)
+    (by_detail before after detail line old new result puts)
+
+-- ---- the active calls
+
+-- what is put of the reply to `stack`
+abbrev pub PutsStack : (before after : Standing) → (old new : Printed) → Option ℕ → Type 0
+PutsStack before after old new result =
+    PutsBy (IsStack (source_of before.program) (account_of before) before.position) false ⊤ before after old new result
+
+pub stack_tells : (before after : Standing) (text reply : List ℕ)
+    → TellsStack (source_of before.program) before.limits before.input before.position text → after ≡ before
+    → reply ≡ text ++ end_line end.Done
+    → RepliesStack (source_of before.program) (account_of before) before.position reply after.position
+stack_tells before after text reply tells stays ends = record {
+  text = text;
+  tells = tells;
+  ends = ends;
+  stays = ap (λ (d : Standing). d.position) stays;
+}
+
+pub stack_said : (before after : Standing) (text shown : List ℕ) (old new : Printed) (result : Option ℕ)
+    → RepliesStack (source_of before.program) (account_of before) before.position text after.position → after ≡ before
+    → shown ≡ text → PutsText shown old new result → PutsStack before after old new result
+stack_said before after text shown old new result replies stays is puts =
+    by_text (IsStack (source_of before.program) (account_of before) before.position) false ⊤ before after old new
+    result text (subst (λ (t : List ℕ). PutsText t old new result) is puts) (inl replies) refl
+    (subst (λ (d : Standing). IsSameRun before d) (sym stays) refl)
+
+pub stack_unsaid : (before after : Standing) (old new : Printed) (result : Option ℕ) → after ≡ before
+    → PutsText (end_line end.Memory) old new result → PutsStack before after old new result
+stack_unsaid before after old new result stays puts =
+    by_text (IsStack (source_of before.program) (account_of before) before.position) false ⊤ before after old new
+    result (end_line end.Memory) puts (inr (refl, ap (λ (d : Standing). d.position) stays)) refl
+    (subst (λ (d : Standing). IsSameRun before d) (sym stays) refl)
+
+pub stack_is_said : (before after : Standing) (request : Request) (line : List ℕ) (old new : Printed)
+    (result : Option ℕ) → request ≡ Stack → PutsStack before after old new result
+    → PutsByLine request line (is_quit request) before after old new result
+stack_is_said before after request line old new result is puts =
+    subst (λ (r : Request). PutsByLine r line (is_quit r) before after old new result) (sym is) puts
+
+-- ---- the variables of a call
+
+-- what is put of the reply to `regs E`
+abbrev pub PutsCall : ℕ → (before after : Standing) → (old new : Printed) → Option ℕ → Type 0
+PutsCall depth before after old new result =
+    PutsBy (IsCall (source_of before.program) (account_of before) depth before.position) false ⊤ before after old new
+    result
+
+pub call_tells : (before after : Standing) (depth : ℕ) (text : Option (List ℕ)) (reply : List ℕ)
+    → TellsCall (source_of before.program) before.limits before.input before.position depth text → after ≡ before
+    → reply ≡ or_none text
+    → RepliesCall (source_of before.program) (account_of before) depth before.position reply after.position
+call_tells before after depth text reply tells stays ends = record {
+  text = text;
+  tells = tells;
+  ends = ends;
+  stays = ap (λ (d : Standing). d.position) stays;
+}
+
+pub call_tells_ok : {X E : Type 0} (view : X → List ℕ) (result : Result X E) (before after : Standing) (depth : ℕ)
+    (text : Option (List ℕ))
+    → TellsCall (source_of before.program) before.limits before.input before.position depth text → after ≡ before
+    → IfOk result (λ x. view x ≡ or_none text)
+    → IfOk result (λ x. RepliesCall (source_of before.program) (account_of before) depth before.position (view x)
+    after.position)
+call_tells_ok view (Ok x) before after depth text tells stays ends =
+    call_tells before after depth text (view x) tells stays ends
+call_tells_ok view (Err e) before after depth text tells stays ends = tt
+
+pub call_said : (before after : Standing) (depth : ℕ) (text shown : List ℕ) (old new : Printed) (result : Option ℕ)
+    → RepliesCall (source_of before.program) (account_of before) depth before.position text after.position
+    → after ≡ before → shown ≡ text → PutsText shown old new result → PutsCall depth before after old new result
+call_said before after depth text shown old new result replies stays is puts =
+    by_text (IsCall (source_of before.program) (account_of before) depth before.position) false ⊤ before after old new
+    result text (subst (λ (t : List ℕ). PutsText t old new result) is puts) (inl replies) refl
+    (subst (λ (d : Standing). IsSameRun before d) (sym stays) refl)
+
+pub call_unsaid : (before after : Standing) (depth : ℕ) (old new : Printed) (result : Option ℕ) → after ≡ before
+    → PutsText (end_line end.Memory) old new result → PutsCall depth before after old new result
+call_unsaid before after depth old new result stays puts =
+    by_text (IsCall (source_of before.program) (account_of before) depth before.position) false ⊤ before after old new
+    result (end_line end.Memory) puts (inr (refl, ap (λ (d : Standing). d.position) stays)) refl
+    (subst (λ (d : Standing). IsSameRun before d) (sym stays) refl)
+
+pub call_is_said : (before after : Standing) (request : Request) (depth : ℕ) (line : List ℕ) (old new : Printed)
+    (result : Option ℕ) → request ≡ RegsOf depth → PutsCall depth before after old new result
+    → PutsByLine request line (is_quit request) before after old new result
+call_is_said before after request depth line old new result is puts =
     subst (λ (r : Request). PutsByLine r line (is_quit r) before after old new result) (sym is) puts
 
 pub roomless : (before after : Standing) (request : Request) (quit : Bool) (old : Printed)

@@ -3,13 +3,16 @@ use Rattle.std.specs.Prelude.{◌≡◌, ◌⊎◌, ℕ, Bool, true, false, List
 use Rattle.std.specs.declared.option.Option.{Option}
 use Rattle.source_debugger.specs.meaning_points.rpp_tree.Tree.{Source}
 use Rattle.source_debugger.specs.meaning_points.rpp_tree.Views.{source_of}
+use Rattle.source_debugger.specs.declared.failing.Detail.{Detail}
+use Rattle.source_debugger.specs.declared.failing.Detail.TheVariants.{Test, Cells}
 use Rattle.source_debugger.specs.Failures.{Account, account_of}
 use Rattle.source_debugger.specs.Standing.{Standing}
 use Rattle.live_port.specs.rpp_ports.declared.sink.SinkFault.{SinkFault}
 use Rattle.live_requests.specs.declared.request.Request.{Request}
+use Rattle.live_requests.specs.declared.request.Request.TheVariants.{Fault, FaultCells}
 use Rattle.live_searches.specs.declared.asks.Ask.{Ask}
 use Rattle.live_talks.specs.declared.ends.End.TheVariants.{Memory}
-use Rattle.live_session.specs.Replies.{replied, replied_to, replied_by}
+use Rattle.live_session.specs.Replies.{replied, replied_by, RepliesStack, RepliesCall, IsReplyOf}
 use Rattle.live_talks.specs.Talks.{Talk, Printed, Puts, status_by}
 use Rattle.live_talks.specs.Sessions.{IsAlone, Replies, Closes}
 use Rattle.live_session.specs.Sessions.{RepliesOf}
@@ -17,6 +20,11 @@ use Rattle.live_session.specs.Sessions.{RepliesOf}
 -- a debugger of the same run, at some position
 abbrev pub IsSameRun : (before after : Standing) → Type 0
 IsSameRun before after = after ≡ record before { position = after.position }
+
+-- the request for something of the step that fails
+abbrev pub request_for : Detail → Request
+request_for Test = Fault
+request_for (Cells from count) = FaultCells from count
 
 -- this is the reply to a request
 pub record Answers (before : Standing) (request : Request) (after : Standing) (reply : List ℕ)
@@ -36,8 +44,17 @@ IsReplyTo program account request from reply to =
 abbrev pub IsReplyBy : Source → Account → Request → (line : List ℕ) → (from : ℕ) → (reply : List ℕ)
     → (to : ℕ) → Type 0
 IsReplyBy program account request line from reply to =
-    (replied_to program account request line from
-    ≡ Some (record { position = to; text = reply })) ⊎ IsAlone Memory from reply to
+    IsReplyOf program account request line from reply to ⊎ IsAlone Memory from reply to
+
+-- the reply to `stack`
+abbrev pub IsStack : Source → Account → (from : ℕ) → (reply : List ℕ) → (to : ℕ) → Type 0
+IsStack program account from reply to =
+    RepliesStack program account from reply to ⊎ IsAlone Memory from reply to
+
+-- the reply to `regs E`
+abbrev pub IsCall : Source → Account → (depth from : ℕ) → (reply : List ℕ) → (to : ℕ) → Type 0
+IsCall program account depth from reply to =
+    RepliesCall program account depth from reply to ⊎ IsAlone Memory from reply to
 
 -- the reply to moves that words ask for
 abbrev pub IsMoves : Source → Account → Option Ask → (words : List (List ℕ)) → (from : ℕ)

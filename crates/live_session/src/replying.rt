@@ -1,14 +1,15 @@
 // The replies to requests.
-ghost use Rattle.std.specs.Prelude.{◌≡◌, ◌++◌, false, ⊤, IfOk, IsErrOf, map, Some, string_bytes};
+ghost use Rattle.std.specs.Prelude.{◌≡◌, ◌++◌, false, ⊤, IfOk, IsErrOf, map, option_map, Some, string_bytes};
 ghost use Rattle.pisa_scripts.specs.Lines.{pieces as pieces_of};
 ghost use Rattle.source_debugger.specs.meaning_points.rpp_tree.Views.{source_of};
 ghost use Rattle.source_debugger.specs.Failures.{account_of};
-ghost use Rattle.live_requests.specs.declared.request.Request.TheVariants.{Carry, Fault};
+ghost use Rattle.live_requests.specs.declared.request.Request.TheVariants.{Carry};
 ghost use Rattle.live_requests.specs.Requests.{is_quit};
 ghost use Rattle.live_searches.specs.Asks.{ask_of};
 ghost use Rattle.live_talks.specs.Ends.{end_line as line_of_end};
 ghost use Rattle.live_session.specs.Ends.{end_shown as end_of_command, end_moved as end_of_moves};
-ghost use Rattle.live_session.specs.Serving.{Answers, IsReplyTo, IsReplyBy, IsMoves, Moves, PutsBy};
+ghost use Rattle.live_session.specs.Replies.{or_none as or_none_of, RepliesStack, RepliesCall};
+ghost use Rattle.live_session.specs.Serving.{Answers, request_for, IsReplyTo, IsReplyBy, IsStack, IsCall, IsMoves, Moves, PutsBy};
 
 use crate::ends::{end_moved, end_shown};
 use live_requests::Request;
@@ -17,8 +18,8 @@ use live_talks::{End, end_line, say_bye, say_end, say_text};
 use pisa_scripts::{Command, pieces};
 use rpp_ports::Sink;
 use rpp_words::NoMemory;
-use source_debugger::SourceDebugger;
-use std::alloc::Global;
+use source_debugger::{Detail, SourceDebugger};
+use std::alloc::{AllocError, Global};
 
 const NO_MEMORY: u8 = 7;
 
@@ -82,13 +83,11 @@ fn say_carried<K: Sink>(
     }
 }
 
-// What fails if one more move is made, and the last line.
-fn tell_failure(alloc: Global, debugger: &mut SourceDebugger<'_>) -> Result<String, NoMemory>
-    ensures told { IfOk result
-        (λ text. Answers debugger.old Fault debugger.new (string_bytes text)) }
-    ensures stays { debugger.new ≡ debugger.old }
+// Lines with their last line; there may be nothing to say.
+fn or_none(alloc: Global, text: Option<String>) -> Result<String, AllocError>
+    ensures { IfOk result (λ reply. string_bytes reply ≡ or_none_of (option_map string_bytes text)) }
 {
-    match debugger.failure(alloc)? {
+    match text {
         None => {
             let mut text = String::new(alloc);
             text.push_str(end_line(End::None))?;
@@ -101,14 +100,93 @@ fn tell_failure(alloc: Global, debugger: &mut SourceDebugger<'_>) -> Result<Stri
     }
 }
 
+// What is asked of the step that fails, and the last line.
+fn tell_failure(
+    alloc: Global,
+    debugger: &mut SourceDebugger<'_>,
+    detail: Detail,
+) -> Result<String, NoMemory>
+    ensures told { IfOk result
+        (λ text. Answers debugger.old (request_for detail) debugger.new (string_bytes text)) }
+    ensures stays { debugger.new ≡ debugger.old }
+{
+    let text = debugger.failure(alloc, detail)?;
+    let reply = or_none(alloc, text)?;
+    Ok(reply)
+}
+
 // Puts the reply on what fails.
-fn say_failure<K: Sink>(alloc: Global, debugger: &mut SourceDebugger<'_>, out: &mut K) -> Option<u8>
-    ensures { PutsBy (IsReplyTo (source_of debugger.old.program) (account_of debugger.old) Fault
+fn say_failure<K: Sink>(
+    alloc: Global,
+    debugger: &mut SourceDebugger<'_>,
+    detail: Detail,
+    out: &mut K,
+) -> Option<u8>
+    ensures { PutsBy (IsReplyTo (source_of debugger.old.program) (account_of debugger.old)
+        (request_for detail) debugger.old.position) false ⊤ debugger.old debugger.new
+        (record { bytes = K.written out.old; puts = K.puts out.old })
+        (record { bytes = K.written out.new; puts = K.puts out.new }) result }
+{
+    match tell_failure(alloc, debugger, detail) {
+        Ok(text) => say_text(out, text.as_str()),
+        Err(NoMemory) => say_end(out, End::Memory),
+    }
+}
+
+// The active calls, and the last line.
+fn tell_stack(alloc: Global, debugger: &mut SourceDebugger<'_>) -> Result<String, NoMemory>
+    ensures told { IfOk result (λ text. RepliesStack (source_of debugger.old.program)
+        (account_of debugger.old) debugger.old.position (string_bytes text)
+        debugger.new.position) }
+    ensures stays { debugger.new ≡ debugger.old }
+{
+    let mut text = debugger.stack(alloc)?;
+    text.push_str(end_line(End::Done))?;
+    Ok(text)
+}
+
+// Puts the reply on the active calls.
+fn say_stack<K: Sink>(alloc: Global, debugger: &mut SourceDebugger<'_>, out: &mut K) -> Option<u8>
+    ensures { PutsBy (IsStack (source_of debugger.old.program) (account_of debugger.old)
         debugger.old.position) false ⊤ debugger.old debugger.new
         (record { bytes = K.written out.old; puts = K.puts out.old })
         (record { bytes = K.written out.new; puts = K.puts out.new }) result }
 {
-    match tell_failure(alloc, debugger) {
+    match tell_stack(alloc, debugger) {
+        Ok(text) => say_text(out, text.as_str()),
+        Err(NoMemory) => say_end(out, End::Memory),
+    }
+}
+
+// The lines of a call, if there is one, and the last line.
+fn tell_call(
+    alloc: Global,
+    debugger: &mut SourceDebugger<'_>,
+    depth: u64,
+) -> Result<String, NoMemory>
+    ensures told { IfOk result (λ text. RepliesCall (source_of debugger.old.program)
+        (account_of debugger.old) depth debugger.old.position (string_bytes text)
+        debugger.new.position) }
+    ensures stays { debugger.new ≡ debugger.old }
+{
+    let text = debugger.call(alloc, depth)?;
+    let reply = or_none(alloc, text)?;
+    Ok(reply)
+}
+
+// Puts the reply on a call.
+fn say_call<K: Sink>(
+    alloc: Global,
+    debugger: &mut SourceDebugger<'_>,
+    depth: u64,
+    out: &mut K,
+) -> Option<u8>
+    ensures { PutsBy (IsCall (source_of debugger.old.program) (account_of debugger.old) depth
+        debugger.old.position) false ⊤ debugger.old debugger.new
+        (record { bytes = K.written out.old; puts = K.puts out.old })
+        (record { bytes = K.written out.new; puts = K.puts out.new }) result }
+{
+    match tell_call(alloc, debugger, depth) {
         Ok(text) => say_text(out, text.as_str()),
         Err(NoMemory) => say_end(out, End::Memory),
     }
@@ -220,7 +298,12 @@ pub(crate) fn answer<K: Sink>(
     match request {
         Request::Nothing => say_end(out, End::Done),
         Request::Carry(command) => say_carried(alloc, debugger, command, out),
-        Request::Fault => say_failure(alloc, debugger, out),
+        Request::Stack => say_stack(alloc, debugger, out),
+        Request::RegsOf(depth) => say_call(alloc, debugger, depth, out),
+        Request::Fault => say_failure(alloc, debugger, Detail::Test, out),
+        Request::FaultCells(from, count) => {
+            say_failure(alloc, debugger, Detail::Cells { from, count }, out)
+        }
         Request::Quit => Some(say_bye(out)),
         Request::Bad => say_asked(alloc, debugger, line, out),
     }

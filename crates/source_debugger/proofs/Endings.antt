@@ -26,7 +26,7 @@ use Rattle.meaning_reversed.proofs.meaning_machine_laws.Trails.{walked}
 use Rattle.source_meaning.specs.meaning_sound.Sound.{name_of}
 use Rattle.source_meaning.proofs.meaning_sound_laws.Stated.{end_is_sound}
 use Rattle.source_meaning.specs.source_store.HeapView.{Kept}
-use Rattle.source_meaning.specs.source_steps.Metered.{Went, Stopped, metered, Failed}
+use Rattle.source_meaning.specs.source_steps.Metered.{Went, Stopped, metered, Failed, IsFault}
 use Rattle.source_meaning.specs.source_steps.declared.stop.Stop.{Stop}
 use Rattle.source_meaning.specs.source_steps.declared.stop.Stop.TheVariants as stop
 use Rattle.source_meaning.proofs.source_steps_laws.Fuelled.{left_at_most}
@@ -40,10 +40,11 @@ use Rattle.source_debugger.specs.declared.running.Ended.{Ended}
 use Rattle.source_debugger.specs.declared.shown.Place.{Place}
 use Rattle.source_debugger.specs.declared.shown.Place.TheVariants as place
 use Rattle.source_debugger.specs.Placed.{stand_of}
+use Rattle.source_debugger.specs.declared.running.TheConstants.{MOST_COST}
 use Rattle.source_debugger.specs.declared.running.Course.{Course}
 use Rattle.source_debugger.specs.Watched.{Passed, Met, is_given, wants, passed, wanted, behind, counted, surely}
 use Rattle.source_debugger.specs.Watched.{ahead, watched, point_of}
-use Rattle.source_debugger.specs.Courses.{IsUnderWay, Holds, heap_of}
+use Rattle.source_debugger.specs.Courses.{IsUnderWay, IsThere, Holds, heap_of}
 use Rattle.source_debugger.specs.Ended.{IsOver, IsEnded, HasStopped, IsStopped, last_state}
 use Rattle.source_debugger.specs.Ended.{left_of as left_in}
 use Rattle.source_debugger.specs.Walks.{AtPoint, AtEnd, Unknown, end_stand, point_stand, stand_at}
@@ -365,10 +366,24 @@ stand_as place.End h k s l =
     ap (λ (x : Store). AtEnd (last_state (record h { store = x }))) s
     ∙ ap (λ y. AtEnd (last_state (record k { log = y }))) l
 
--- a run that is aborted holds
-pub broken_holds : (program : Source) (limits : Limits) (input : List FieldWord) (c : Course) → c.broken ≡ true
-    → Holds program limits input c
-broken_holds program limits input c broken whole = cc
+-- a run that stopped holds: a fault leaves it under way, and anything else aborts it
+pub stopped_holds : (program : Source) (limits : Limits) (input : List FieldWord) (c later : Course) (why : Stop)
+    → IsUnderWay program limits input MOST_COST c → (later.broken ≡ false → IsFault why)
+    → (IsFault why → IsThere c later) → setting_at later.execution ≡ setting_at c.execution
+    → Holds program limits input later
+stopped_holds program limits input c later why way breaks there setting whole =
+    let at = there (breaks whole) in
+    let spent = way.spent in
+    let less = at.less in
+    record {
+      steps = way.steps;
+      cost = way.cost;
+      came = way.came ∙ ap (λ (x : Config). Done x way.cost) (sym at.place);
+      spent = omega arith;
+      count = way.count ∙ sym at.passed;
+      same = setting ∙ way.same;
+      whole = at.whole;
+    }
 
 -- ---- the position of a run
 

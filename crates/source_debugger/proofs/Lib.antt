@@ -7,3 +7,4 @@ pub mod Longer
 pub mod Following
 pub mod Finished
 pub mod Stopping
+pub mod Stacked

@@ -36,7 +36,14 @@ abbrev pub IsTurned : (program : Source) (limits : Limits) (input : List FieldWo
 IsTurned program limits input most c =
     HasLed program limits input most (turn (config_at c.execution)) c
 
--- a run is under way, if no step failed
+-- a course is where it was, with no more fuel
+pub record IsThere (old new : Course) : Type 0 where
+  pub place : config_at new.execution ≡ config_at old.execution
+  pub passed : new.passed ≡ old.passed
+  pub less : new.fuel ≤ old.fuel
+  pub whole : new.execution.broken ≡ false
+
+-- a run is under way, if it is not aborted
 abbrev pub Holds : (program : Source) (limits : Limits) (input : List FieldWord) → Course → Type 0
 Holds program limits input c = c.broken ≡ false → IsUnderWay program limits input MOST_COST c
 

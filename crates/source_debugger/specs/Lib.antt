@@ -8,5 +8,6 @@ pub mod Placed
 pub mod Looks
 pub mod Shown
 pub mod Standing
+pub mod Stacks
 pub mod Failures
 pub mod DebuggerLaws

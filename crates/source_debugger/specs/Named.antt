@@ -6,7 +6,8 @@ use Rattle.source_meaning.specs.rpp_words.Texts.{line_end}
 use Rattle.rpp_tree.specs.declared.tree.Var.{Var}
 use Rattle.rpp_tree.specs.Tree.{Source}
 use Rattle.source_meaning.specs.class_rules.Classes.{class_fields}
-use Rattle.source_meaning.specs.roopl_semantics.Store.{Value, Word, Nil, Name, Head, OfClass, OfInts, OfObjects}
+use Rattle.source_meaning.specs.roopl_semantics.Store.{Value, Word, Nil, Name, Head, OfClass}
+use Rattle.source_meaning.specs.roopl_semantics.Store.{OfInts, OfObjects}
 use Rattle.source_meaning.specs.roopl_semantics.Store.{Object, Store, Binding, object_named}
 use Rattle.source_meaning.specs.roopl_semantics.Report.{Text, signed_decimal, head_shown}
 

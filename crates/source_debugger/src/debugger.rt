@@ -8,14 +8,16 @@ ghost use Rattle.source_debugger.specs.Shown.{told_by, walked};
 ghost use Rattle.source_debugger.specs.Standing.{IsValidRun, run_of, Leads, IsAlong};
 ghost use Rattle.source_debugger.specs.Courses.{Holds};
 ghost use Rattle.source_debugger.specs.Looks.{seen_of};
-ghost use Rattle.source_debugger.specs.Failures.{account_of, fails_at};
+ghost use Rattle.source_debugger.specs.Failures.{account_of, fails_at, shown_of};
+ghost use Rattle.source_debugger.specs.Stacks.{TellsStack, TellsCall};
 ghost use Rattle.source_debugger.specs.Walks.{stand_at};
 
-use crate::failing::tell_failure;
+use crate::failing::{Detail, tell_failure};
 use crate::looking::{Seen, look_at};
 use crate::moves::{Walk, backward, forward};
 use crate::running::{Course, Run, begin};
 use crate::shown::{cells_text, regs_text, walk_text};
+use crate::stacks::{tell_call, tell_stack};
 use class_table::Checked;
 use pisa_scripts::Command;
 use rpp_words::{Input, Limits, NoMemory};
@@ -259,12 +261,10 @@ impl<'a> SourceDebugger<'a> {
         look_at(&run, &mut self.course, self.position)
     }
 
-    /// The lines on what fails if one more move is made; none if the move can be made. They name the
-    /// fault, the test that fails, its offset and that of its statement. Then come the values that it
-    /// compares, how many calls are active, and the fields and variables at that moment.
-    pub fn failure(&mut self, alloc: Global) -> Result<Option<String>, NoMemory>
-        ensures told { IfOk result (λ text. option_map string_bytes text
-            ≡ fails_at (account_of self.old) self.old.position) }
+    /// The lines of the active calls, the outermost first.
+    pub fn stack(&mut self, alloc: Global) -> Result<String, NoMemory>
+        ensures told { IfOk result (λ text. TellsStack (source_of self.old.program)
+            self.old.limits self.old.input self.old.position (string_bytes text)) }
         ensures stays { self.new ≡ self.old }
     {
         let run = Run {
@@ -273,7 +273,42 @@ impl<'a> SourceDebugger<'a> {
             limits: self.limits,
             input: self.input,
         };
-        tell_failure(&run, &mut self.course, self.position)
+        tell_stack(&run, &mut self.course, self.position)
+    }
+
+    /// The lines of the fields and variables of the call with so many active calls; none if there is
+    /// no such call.
+    pub fn call(&mut self, alloc: Global, depth: u64) -> Result<Option<String>, NoMemory>
+        ensures told { IfOk result (λ text. TellsCall (source_of self.old.program) self.old.limits
+            self.old.input self.old.position depth (option_map string_bytes text)) }
+        ensures stays { self.new ≡ self.old }
+    {
+        let run = Run {
+            alloc,
+            checked: self.checked,
+            limits: self.limits,
+            input: self.input,
+        };
+        tell_call(&run, &mut self.course, self.position, depth)
+    }
+
+    /// What is printed of what fails if one more move is made; none if the move can be made. The lines
+    /// of the test name the fault, the test that fails, its offset and that of its statement. Then
+    /// come the values that it compares, how many calls are active, and the fields and variables at
+    /// that moment.
+    pub fn failure(&mut self, alloc: Global, detail: Detail) -> Result<Option<String>, NoMemory>
+        ensures told { IfOk result (λ text. option_map string_bytes text
+            ≡ fails_at (account_of self.old) (shown_of (source_of self.old.program) detail)
+            self.old.position) }
+        ensures stays { self.new ≡ self.old }
+    {
+        let run = Run {
+            alloc,
+            checked: self.checked,
+            limits: self.limits,
+            input: self.input,
+        };
+        tell_failure(&run, &mut self.course, self.position, detail)
     }
 
     /// The position.

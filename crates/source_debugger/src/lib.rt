@@ -13,8 +13,10 @@ mod looking;
 mod moves;
 mod running;
 mod shown;
+mod stacks;
 mod watching;
 
 pub use debugger::SourceDebugger;
+pub use failing::Detail;
 pub use looking::Seen;
 pub use moves::LAST_POSITION;

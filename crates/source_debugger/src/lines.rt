@@ -1,5 +1,5 @@
 // The lines of variables, objects and arrays.
-ghost use Rattle.std.specs.Prelude.{◌≡◌, ◌++◌, ◌∷◌, [], OnOk, string_bytes, codes, map};
+ghost use Rattle.std.specs.Prelude.{◌≡◌, ◌++◌, ◌∷◌, [], IfOk, OnOk, string_bytes, codes, map};
 ghost use Rattle.std.specs.Fmt.{decimal};
 ghost use Rattle.source_meaning.specs.rpp_words.Texts.{line_end};
 ghost use Rattle.rpp_tree.specs.Views.{source_of};
@@ -15,7 +15,7 @@ use class_table::Checked;
 use rpp_tree::tree::{Program, Var};
 use source_execution::Variable;
 use source_store::{Head, Heap, Lack, Object, Value};
-use std::alloc::AllocError;
+use std::alloc::{AllocError, Global};
 
 // A word in signed decimal.
 fn add_word(out: &mut String, word: u32) -> Result<(), AllocError>
@@ -141,7 +141,8 @@ fn class_name(program: &Program, class: u32) -> &[u8]
     }
 }
 
-fn add_head(out: &mut String, program: &Program, head: Head) -> Result<(), Lack>
+/// What an object is.
+pub(crate) fn add_head(out: &mut String, program: &Program, head: Head) -> Result<(), Lack>
     ensures { OnOk result (string_bytes out.new
         ≡ string_bytes out.old ++ head_shown (source_of program.now) (head_of head)) }
 {
@@ -214,6 +215,22 @@ pub(crate) fn add_objects(
         add_named(out, checked, heap, u64::from(from) + u64::from(at))?;
     }
     Ok(())
+}
+
+/// The same as a text of their own.
+pub(crate) fn objects_text(
+    alloc: Global,
+    checked: &Checked,
+    heap: &Heap,
+    from: u32,
+    count: u32,
+) -> Result<String, Lack>
+    ensures { IfOk result (λ text. string_bytes text
+        ≡ objects_from (source_of checked.now) heap.now.store from count) }
+{
+    let mut text = String::new(alloc);
+    add_objects(&mut text, checked, heap, from, count)?;
+    Ok(text)
 }
 
 // The line of a variable; one with no name has none.

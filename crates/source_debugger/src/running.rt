@@ -6,20 +6,20 @@ ghost use Rattle.source_meaning.specs.meaning_points.Trail.{trail};
 ghost use Rattle.meaning_reversed.specs.meaning_machine.Machine.{next};
 ghost use Rattle.meaning_reversed.specs.meaning_machine.Turned.{turn as turned_round};
 ghost use Rattle.meaning_reversed.specs.meaning_machine.Reversed.{back as next_back};
-ghost use Rattle.source_meaning.specs.source_steps.Metered.{Gives, metered};
+ghost use Rattle.source_meaning.specs.source_steps.Metered.{Gives, metered, IsFault, OnFault};
 ghost use Rattle.source_meaning.specs.source_statements.Steps.{StepFalls};
 ghost use Rattle.source_meaning.specs.source_execution.Standing.{config_at, setting_at, next_place};
 ghost use Rattle.source_debugger.specs.declared.running.TheConstants.{MOST_COST};
 ghost use Rattle.source_debugger.specs.Standing.{IsValidRun};
 ghost use Rattle.source_debugger.specs.Watched.{surely as surely_in, counted as counted_at, wanted as wanted_at};
-ghost use Rattle.source_debugger.specs.Courses.{IsUnderWay, IsTurned, Holds, heap_of};
+ghost use Rattle.source_debugger.specs.Courses.{IsUnderWay, IsTurned, IsThere, Holds, heap_of};
 ghost use Rattle.source_debugger.specs.Ended.{IsEnded, IsStopped, HasStopped};
 
 use crate::watching::{Watching, ahead, behind, surely, wanted};
 use class_table::Checked;
 use meaning_reversed::laws::steps_are_undone;
 use rpp_words::{Input, Limits, NoMemory};
-use source_execution::{Execution, Variable};
+use source_execution::{Execution, Variable, breaks};
 use source_steps::Stop;
 use source_store::Lack;
 use std::alloc::Global;
@@ -38,7 +38,7 @@ pub(crate) struct Run<'a> {
 }
 
 /// An active run: its position, the fuel that it has left, how many trace points it has passed, and
-/// whether a step failed. One that failed goes nowhere.
+/// whether it is aborted. A fault does not abort it.
 #[derive(Drop)]
 pub(crate) struct Course<'a> {
     pub execution: Execution<'a>,
@@ -109,7 +109,7 @@ fn counted(passed: u64, place: Option<u32>) -> Result<u64, Stop>
     }
 }
 
-// A step. An error breaks the run off.
+// A step. An error aborts the run, unless it is a fault: that leaves it where it was.
 fn step(course: &mut Course) -> Result<(), Stop>
     requires whole { course.old.execution.broken ≡ false }
     ensures gives { Gives (λ u. config_at course.new.execution) result course.new.fuel
@@ -118,7 +118,8 @@ fn step(course: &mut Course) -> Result<(), Stop>
     ensures passed { OnOk result (course.new.passed ≡ counted_at course.old.passed
         (next_place (config_at course.old.execution).rest)) }
     ensures whole { OnOk result (course.new.execution.broken ≡ false) }
-    ensures breaks { OnErr result (course.new.broken ≡ true) }
+    ensures breaks { IfErr result (λ why. course.new.broken ≡ false → IsFault why) }
+    ensures stays { OnFault result (IsThere course.old course.new) }
     ensures setting { setting_at course.new.execution ≡ setting_at course.old.execution }
     ensures falls { OnOk result (StepFalls (config_at course.old.execution)
         (2 * course.new.fuel + length (config_at course.new.execution).around)
@@ -129,16 +130,16 @@ fn step(course: &mut Course) -> Result<(), Stop>
             course.broken = true;
             Err(why)
         }
-        Ok(passed) => {
-            course.passed = passed;
-            match course.execution.step(&mut course.fuel) {
-                Ok(()) => Ok(()),
-                Err(why) => {
-                    course.broken = true;
-                    Err(why)
-                }
+        Ok(passed) => match course.execution.step(&mut course.fuel) {
+            Ok(()) => {
+                course.passed = passed;
+                Ok(())
             }
-        }
+            Err(why) => {
+                course.broken = breaks(why);
+                Err(why)
+            }
+        },
     }
 }
 

@@ -15,7 +15,7 @@ ghost use Rattle.source_meaning.specs.source_store.HeapView.{Kept};
 ghost use Rattle.source_debugger.specs.Courses.{Holds, heap_of};
 ghost use Rattle.source_debugger.specs.Placed.{stand_of};
 
-use crate::lines::{add_class_fields, add_frame, add_objects};
+use crate::lines::{add_class_fields, add_frame, objects_text};
 use crate::moves::{Ending, Walk, left_in};
 use crate::running::{Arrival, Course, Ended, Run, run_to};
 use crate::watching::Watching;
@@ -210,12 +210,10 @@ fn place_cells(
         (stand_of place.now heap.now)
         ≡ Some (string_bytes text)) }
 {
-    let mut text = String::new(alloc);
     match place {
-        Place::Point { .. } => add_objects(&mut text, checked, heap, from, count)?,
-        Place::End => add_objects(&mut text, checked, heap, from, count)?,
+        Place::Point { .. } => objects_text(alloc, checked, heap, from, count),
+        Place::End => objects_text(alloc, checked, heap, from, count),
     }
-    Ok(text)
 }
 
 /// The lines of the objects and arrays of so many names from one on, at a position.

@@ -1,15 +1,15 @@
 -- The step that stops with a fault, and the meaning of the program.
 use Rattle.std.proofs.Common.{◌≡◌, ◌∙◌, refl, sym, ap, ℕ, zero, suc, ◌+◌, ◌-◌, ◌≤◌, arith, List, Some}
 use Rattle.std.specs.Prelude.{Option}
-use Rattle.source_statements.specs.rpp_words.declared.input.FieldWord.{FieldWord}
-use Rattle.source_statements.specs.rpp_words.declared.input.Limits.{Limits}
+use Rattle.source_checks.specs.rpp_words.declared.input.FieldWord.{FieldWord}
+use Rattle.source_checks.specs.rpp_words.declared.input.Limits.{Limits}
 use Rattle.rpp_tree.specs.Tree.{Source}
-use Rattle.source_statements.specs.roopl_semantics.Run.{Run, Done, Fault, More, ◌>>=◌, after_cost}
-use Rattle.source_statements.specs.roopl_semantics.Execution.{Setting}
-use Rattle.source_statements.specs.meaning_machine.Machine.{Config, next, walk}
-use Rattle.source_statements.specs.meaning_machine.SourceLaws.{set_for, start_of}
-use Rattle.source_statements.proofs.meaning_machine_laws.Sources.{joined}
-use Rattle.source_execution.specs.Failures.{failing, here_or_on}
+use Rattle.source_checks.specs.roopl_semantics.Run.{Run, Done, Fault, More, ◌>>=◌, after_cost}
+use Rattle.source_checks.specs.roopl_semantics.Execution.{Setting}
+use Rattle.source_checks.specs.meaning_machine.Machine.{Config, next, walk}
+use Rattle.source_checks.specs.meaning_machine.SourceLaws.{set_for, start_of}
+use Rattle.source_checks.proofs.meaning_machine_laws.Sources.{joined}
+use Rattle.source_checks.specs.Failures.{failing, here_or_on}
 use Rattle.source_execution.specs.FailureLaws.{Means, Fails, FailsAsMeant}
 
 module _ (setting : Setting) where

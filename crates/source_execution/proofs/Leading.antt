@@ -1,21 +1,20 @@
 -- The first step of a run that stops with a fault.
 use Rattle.std.proofs.Common.{◌≡◌, ℕ, zero, suc, ◌+◌, ◌-◌, ◌<◌, ◌≤◌, refl, sym, ap, ◌∙◌, arith, List, false, Some, None}
 use Rattle.std.specs.Prelude.{Option}
-use Rattle.source_statements.specs.rpp_words.declared.input.FieldWord.{FieldWord}
-use Rattle.source_statements.specs.rpp_words.declared.input.Limits.{Limits}
+use Rattle.source_checks.specs.rpp_words.declared.input.FieldWord.{FieldWord}
+use Rattle.source_checks.specs.rpp_words.declared.input.Limits.{Limits}
 use Rattle.rpp_tree.specs.Tree.{Source}
-use Rattle.source_statements.specs.roopl_semantics.Run.{Run, Done, Fault, More, ◌>>=◌, after_cost}
-use Rattle.source_statements.specs.roopl_semantics.Execution.{Setting}
-use Rattle.source_statements.specs.meaning_machine.Machine.{Config, next, walk, stepped, closing}
-use Rattle.source_statements.specs.meaning_machine.SourceLaws.{set_for, start_of}
-use Rattle.source_statements.proofs.meaning_machine_laws.Steps.{plus}
-use Rattle.source_statements.specs.source_steps.Metered.{Went, Stopped, metered, went, stopped, left_of}
-use Rattle.source_statements.proofs.source_steps_laws.Fuelled.{goes, gives}
+use Rattle.source_checks.specs.roopl_semantics.Run.{Run, Done, Fault, More, ◌>>=◌, after_cost}
+use Rattle.source_checks.specs.roopl_semantics.Execution.{Setting}
+use Rattle.source_checks.specs.meaning_machine.Machine.{Config, next, walk, stepped, closing}
+use Rattle.source_checks.specs.meaning_machine.SourceLaws.{set_for, start_of}
+use Rattle.source_checks.proofs.meaning_machine_laws.Steps.{plus}
+use Rattle.source_checks.specs.source_steps.Metered.{Went, Stopped, metered, went, stopped, left_of}
+use Rattle.source_checks.proofs.source_steps_laws.Fuelled.{goes, gives}
 use Rattle.source_execution.specs.Standing.{Standing, IsOver, config_at, setting_at}
-use Rattle.source_execution.specs.Failures.{MOST_STEPS, failing, here_or_on}
-use Rattle.source_execution.specs.declared.falling.Fall.{Fall}
+use Rattle.source_checks.specs.Failures.{MOST_STEPS, failing, here_or_on}
 use Rattle.source_execution.specs.declared.falling.TheConstants.{MOST_FUEL}
-use Rattle.source_execution.specs.Falls.{HasGone, IsFall, IsFailing, failing_of}
+use Rattle.source_execution.specs.Falls.{IsFailing, failing_of}
 use Rattle.source_execution.proofs.Walked.{one_step}
 
 -- ---- a run with so much fuel
@@ -154,18 +153,21 @@ module _ (program : Source) (limits : Limits) (input : List FieldWord) where
         whole = w;
       }
 
-  pub falls : (it : Fall) (e : Standing) (fuel left : ℕ) → HasStepped it.steps e fuel → it.steps < MOST_STEPS
-      → metered fuel (next (setting_at e) (config_at e)) ≡ Stopped it.code left → IsFall program limits input it
-  falls it e fuel left h few g =
-      let done = is_done MOST_FUEL (walk here it.steps start) (config_at e) fuel h.came in
-      let fault = is_fault fuel (next here (config_at e)) it.code left (sym (next_here e fuel h.same) ∙ g) in
+  -- the next step stops with a fault, and leaves the run where it was
+  pub fails_there : (steps : ℕ) (e there : Standing) (code fuel left : ℕ) → HasStepped steps e fuel → steps < MOST_STEPS
+      → metered fuel (next (setting_at e) (config_at e)) ≡ Stopped code left → config_at there ≡ config_at e
+      → setting_at there ≡ setting_at e → there.broken ≡ false
+      → IsFailing program limits input (record { execution = there; code = code })
+  fails_there steps e there code fuel left h few g place same whole =
+      let done = is_done MOST_FUEL (walk here steps start) (config_at e) fuel h.came in
+      let fault = is_fault fuel (next here (config_at e)) code left (sym (next_here e fuel h.same) ∙ g) in
       record {
-        here = config_at e;
-        cost = done.cost;
+        first = first_is here MOST_STEPS steps start (config_at e) done.cost code fault.cost few done.is fault.is
+            ∙ ap (λ (x : Config). Some x) (sym place);
         spent = fault.cost;
-        came = done.is;
-        stops = fault.is;
-        first = first_is here MOST_STEPS it.steps start (config_at e) done.cost it.code fault.cost few done.is fault.is;
+        stops = ap (next here) place ∙ fault.is;
+        same = same ∙ h.same;
+        whole = whole;
       }
 
   pub never_falls : (steps : ℕ) (e : Standing) (fuel : ℕ) → HasStepped steps e fuel → steps < MOST_STEPS
@@ -173,28 +175,3 @@ module _ (program : Source) (limits : Limits) (input : List FieldWord) where
   never_falls steps e fuel h few over =
       let done = is_done MOST_FUEL (walk here steps start) (config_at e) fuel h.came in
       none_is here MOST_STEPS steps start (config_at e) done.cost few done.is over
-
-  pub has_gone : (steps : ℕ) (e : Standing) (fuel : ℕ) → HasStepped steps e fuel → HasGone program limits input steps e
-  has_gone steps e fuel h =
-      let done = is_done MOST_FUEL (walk here steps start) (config_at e) fuel h.came in
-      record { cost = done.cost; came = done.is; same = h.same; whole = h.whole }
-
-  same_end : (x y : Config) (c d : ℕ) (r : Run Config) → r ≡ Done x c → r ≡ Done y d → x ≡ y
-  same_end x y c d r e f = ends x y c d (sym e ∙ f)
-    where
-      ends : (x y : Config) (c d : ℕ) → Done x c ≡ Done y d → x ≡ y
-      ends x y c d g = cc
-
-  pub fails_there : (it : Fall) (e : Standing) → IsFall program limits input it
-      → HasGone program limits input it.steps e
-      → IsFailing program limits input (record { execution = e; code = it.code })
-  fails_there it e f g =
-      let there : f.here ≡ config_at e =
-      same_end f.here (config_at e) f.cost g.cost (walk here it.steps start) f.came g.came in
-      record {
-        first = f.first ∙ ap (λ (x : Config). Some x) there;
-        spent = f.spent;
-        stops = ap (next here) (sym there) ∙ f.stops;
-        same = g.same;
-        whole = g.whole;
-      }

@@ -3,24 +3,24 @@ use Rattle.std.proofs.Common.{◌≡◌, ◌<◌, ◌≤◌, ℕ, refl, sym, ap,
 use Rattle.std.proofs.Common.{reverse}
 use Rattle.std.proofs.Common.{length}
 use Rattle.std.specs.Prelude.{Result, Ok, Err, IfOk, IsTrue, true, false}
-use Rattle.source_statements.specs.rpp_words.declared.input.FieldWord.{FieldWord}
+use Rattle.source_checks.specs.rpp_words.declared.input.FieldWord.{FieldWord}
 use Rattle.rpp_tree.specs.declared.tree.Var.{Var}
 use Rattle.rpp_tree.specs.Tree.{Source, Statements, Statement, End, Then}
-use Rattle.source_statements.specs.class_rules.declared.method.MethodId.{MethodId}
-use Rattle.source_statements.specs.class_rules.Table.{Table, table_of, fields_in}
-use Rattle.source_statements.specs.class_rules.Classes.{class_fields, main_of}
-use Rattle.source_statements.specs.roopl_semantics.Store.{Value, OfClass, Object, main_name, zero_values}
-use Rattle.source_statements.specs.roopl_semantics.Source.{with_input, main_object}
-use Rattle.source_statements.specs.source_store.HeapView.{Kept}
-use Rattle.source_statements.proofs.source_steps_laws.Tables.{fields_read}
-use Rattle.source_statements.specs.source_blocks.declared.frames.Frame.{Frame}
-use Rattle.source_statements.specs.source_blocks.declared.run.Run.{Run}
-use Rattle.source_statements.specs.source_blocks.Blocks.{count_of}
-use Rattle.source_statements.specs.source_blocks.Tasks.{task_of}
-use Rattle.source_statements.specs.source_blocks.Opens.{open_of}
-use Rattle.source_statements.specs.source_blocks.Runs.{config_of}
+use Rattle.source_checks.specs.class_rules.declared.method.MethodId.{MethodId}
+use Rattle.source_checks.specs.class_rules.Table.{Table, table_of, fields_in}
+use Rattle.source_checks.specs.class_rules.Classes.{class_fields, main_of}
+use Rattle.source_checks.specs.roopl_semantics.Store.{Value, OfClass, Object, main_name, zero_values}
+use Rattle.source_checks.specs.roopl_semantics.Source.{with_input, main_object}
+use Rattle.source_checks.specs.source_store.HeapView.{Kept}
+use Rattle.source_checks.proofs.source_steps_laws.Tables.{fields_read}
+use Rattle.source_checks.specs.source_blocks.declared.frames.Frame.{Frame}
+use Rattle.source_checks.specs.source_blocks.declared.run.Run.{Run}
+use Rattle.source_checks.specs.source_blocks.Blocks.{count_of}
+use Rattle.source_checks.specs.source_blocks.Tasks.{task_of}
+use Rattle.source_checks.specs.source_blocks.Opens.{open_of}
+use Rattle.source_checks.specs.source_blocks.Runs.{config_of}
 use Rattle.source_execution.specs.Standing.{IsOver, starting_heap}
-use Rattle.source_statements.proofs.source_blocks_laws.Blocks.{rest_here, rest_end}
+use Rattle.source_checks.proofs.source_blocks_laws.Blocks.{rest_here, rest_end}
 
 -- ---- the heap
 

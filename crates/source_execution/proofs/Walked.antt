@@ -3,13 +3,13 @@ use Rattle.std.proofs.Common.{◌≡◌, ◌≤◌, ℕ, refl, sym, ap, subst, �
 use Rattle.std.proofs.Common.{false}
 use Rattle.std.specs.Prelude.{Result, Ok, Err}
 use Rattle.std.specs.Result.{IsErrAnd}
-use Rattle.source_statements.specs.roopl_semantics.Run.{◌>>=◌}
-use Rattle.source_statements.specs.roopl_semantics.Execution.{Setting}
-use Rattle.source_statements.specs.meaning_machine.Machine.{Config, next, walk}
-use Rattle.source_statements.proofs.meaning_machine_laws.Steps.{plus, walk_plus}
-use Rattle.source_statements.specs.source_steps.declared.stop.Stop.{Stop}
-use Rattle.source_statements.specs.source_steps.Metered.{Went, metered, Failed}
-use Rattle.source_statements.proofs.source_steps_laws.Fuelled.{goes, fails, gives}
+use Rattle.source_checks.specs.roopl_semantics.Run.{◌>>=◌}
+use Rattle.source_checks.specs.roopl_semantics.Execution.{Setting}
+use Rattle.source_checks.specs.meaning_machine.Machine.{Config, next, walk}
+use Rattle.source_checks.proofs.meaning_machine_laws.Steps.{plus, walk_plus}
+use Rattle.source_checks.specs.source_steps.declared.stop.Stop.{Stop}
+use Rattle.source_checks.specs.source_steps.Metered.{Went, metered, Failed}
+use Rattle.source_checks.proofs.source_steps_laws.Fuelled.{goes, fails, gives}
 use Rattle.source_execution.specs.Standing.{Standing, Walks, config_at, setting_at}
 
 -- so many steps have come here

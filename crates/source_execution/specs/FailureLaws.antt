@@ -1,13 +1,17 @@
--- The step that stops with a fault is there exactly if the meaning of the program is that fault.
-use Rattle.std.specs.Prelude.{◌≡◌, ℕ, List, Some}
-use Rattle.source_statements.specs.rpp_words.declared.input.FieldWord.{FieldWord}
-use Rattle.source_statements.specs.rpp_words.declared.input.Limits.{Limits}
+-- The step that stops with a fault is there exactly if the meaning of the program is that fault. An
+-- evaluation that meets a fault compares an element that is not there.
+use Rattle.std.specs.Prelude.{◌≡◌, ℕ, Bool, true, false, nat_lt, List, Some, Result, Ok, Err}
+use Rattle.source_checks.specs.rpp_words.declared.input.FieldWord.{FieldWord}
+use Rattle.source_checks.specs.rpp_words.declared.input.Limits.{Limits}
 use Rattle.rpp_tree.specs.Tree.{Source as Program}
-use Rattle.source_statements.specs.roopl_semantics.Run.{Fault}
-use Rattle.source_statements.specs.roopl_semantics.Source.{source}
-use Rattle.source_statements.specs.meaning_machine.Machine.{Config, next}
-use Rattle.source_statements.specs.meaning_machine.SourceLaws.{set_for, start_of}
-use Rattle.source_execution.specs.Failures.{failing}
+use Rattle.source_checks.specs.roopl_semantics.Run.{Fault}
+use Rattle.source_checks.specs.roopl_semantics.Store.{Value, number_of}
+use Rattle.source_checks.specs.roopl_semantics.Value.{nil_fault, index_fault}
+use Rattle.source_checks.specs.roopl_semantics.Source.{source}
+use Rattle.source_checks.specs.meaning_machine.Machine.{Config, next}
+use Rattle.source_checks.specs.meaning_machine.SourceLaws.{set_for, start_of}
+use Rattle.source_checks.specs.Checks.{Compared, Below, Missing, Nothing}
+use Rattle.source_checks.specs.Failures.{failing}
 
 -- with some fuel, the program means this fault
 pub record Means (program : Program) (limits : Limits) (input : List FieldWord) (code : ℕ)
@@ -29,3 +33,16 @@ pub record FailsAsMeant (program : Program) (limits : Limits) (input : List Fiel
     : Type 0 where
   pub only : Fails program limits input code → Means program limits input code
   pub always : Means program limits input code → Fails program limits input code
+
+-- what an evaluation that stops with this fault compares: an index that is not below the length of
+-- the array, or an array that is nil
+abbrev pub IsNotThere : (code : ℕ) → Compared → Type 0
+IsNotThere code (Below found limit) = (code ≡ index_fault)
+    × (nat_lt (number_of found) limit ≡ false)
+IsNotThere code (Missing array) = (code ≡ nil_fault) × (array ≡ true)
+IsNotThere code _ = ⊥
+
+-- one that gives a value compares nothing
+abbrev pub Accesses : Compared → Result Value ℕ → Type 0
+Accesses it (Ok v) = it ≡ Nothing
+Accesses it (Err code) = IsNotThere code it

@@ -1,18 +1,18 @@
 -- A run as contracts see it.
 use Rattle.std.specs.Prelude.{◌≡◌, ℕ, Bool, List, [], ◌∷◌, Option, Some, None, Result}
-use Rattle.source_statements.specs.rpp_words.declared.input.FieldWord.{FieldWord}
+use Rattle.source_checks.specs.rpp_words.declared.input.FieldWord.{FieldWord}
 use Rattle.rpp_tree.specs.Tree.{Source, Statements, End, Then}
 use Rattle.rpp_tree.specs.Places.{statement_place}
-use Rattle.source_statements.specs.roopl_semantics.Store.{main_name}
-use Rattle.source_statements.specs.roopl_semantics.Source.{main_object}
-use Rattle.source_statements.specs.roopl_semantics.Execution.{Setting}
-use Rattle.source_statements.specs.meaning_machine.Machine.{Config, walk}
-use Rattle.source_statements.specs.source_store.HeapView.{Kept}
-use Rattle.source_statements.specs.source_steps.declared.stop.Stop.{Stop}
-use Rattle.source_statements.specs.source_steps.Metered.{metered, Gives}
-use Rattle.source_statements.specs.source_steps.StateView.{setting_of}
-use Rattle.source_statements.specs.source_blocks.declared.run.Run.{Run}
-use Rattle.source_statements.specs.source_blocks.Runs.{config_of}
+use Rattle.source_checks.specs.roopl_semantics.Store.{main_name}
+use Rattle.source_checks.specs.roopl_semantics.Source.{main_object}
+use Rattle.source_checks.specs.roopl_semantics.Execution.{Setting}
+use Rattle.source_checks.specs.meaning_machine.Machine.{Config, walk}
+use Rattle.source_checks.specs.source_store.HeapView.{Kept}
+use Rattle.source_checks.specs.source_steps.declared.stop.Stop.{Stop}
+use Rattle.source_checks.specs.source_steps.Metered.{metered, Gives}
+use Rattle.source_checks.specs.source_steps.StateView.{setting_of}
+use Rattle.source_checks.specs.source_blocks.declared.run.Run.{Run}
+use Rattle.source_checks.specs.source_blocks.Runs.{config_of}
 
 -- the position of a run, and whether it is aborted
 pub record Standing : Type 0 where

@@ -1,29 +1,30 @@
 // A run of the source, as a layer above sees it.
-ghost use Rattle.std.specs.Prelude.{◌≡◌, ◌+◌, ◌*◌, ◌≤◌, ◌↔◌, IsTrue, false, IfOk, OnOk, length, map, slice_set, IfErr};
-ghost use Rattle.source_statements.specs.rpp_words.Limits.{IsLimits};
+ghost use Rattle.std.specs.Prelude.{◌≡◌, ◌+◌, ◌*◌, ◌≤◌, ◌↔◌, IsTrue, false, IfOk, OnOk, length, map, slice_set, option_map, IfErr};
+ghost use Rattle.source_checks.specs.rpp_words.Limits.{IsLimits};
 ghost use Rattle.rpp_tree.specs.Views.{source_of};
-ghost use Rattle.source_statements.specs.roopl_semantics.Store.{Word};
-ghost use Rattle.source_statements.specs.roopl_semantics.Source.{with_input, main_body};
-ghost use Rattle.source_statements.specs.meaning_machine.Machine.{next};
-ghost use Rattle.source_statements.specs.meaning_machine.Turned.{turn as turned_round};
-ghost use Rattle.source_statements.specs.meaning_machine.SourceLaws.{set_for, start_of};
-ghost use Rattle.source_statements.specs.meaning_machine.Reversed.{back as next_back};
-ghost use Rattle.source_statements.specs.source_store.ValueView.{values_of};
-ghost use Rattle.source_statements.specs.source_steps.Metered.{Gives, metered};
-ghost use Rattle.source_statements.specs.source_blocks.Tasks.{task_of};
-ghost use Rattle.source_statements.specs.Steps.{StepFalls, step_in, MayStopAt};
+ghost use Rattle.source_checks.specs.roopl_semantics.Store.{Word};
+ghost use Rattle.source_checks.specs.roopl_semantics.Source.{with_input, main_body};
+ghost use Rattle.source_checks.specs.meaning_machine.Machine.{next};
+ghost use Rattle.source_checks.specs.meaning_machine.Turned.{turn as turned_round};
+ghost use Rattle.source_checks.specs.meaning_machine.SourceLaws.{set_for, start_of};
+ghost use Rattle.source_checks.specs.meaning_machine.Reversed.{back as next_back};
+ghost use Rattle.source_checks.specs.source_store.ValueView.{values_of};
+ghost use Rattle.source_checks.specs.source_steps.Metered.{Gives, metered, IsFault, OnFault};
+ghost use Rattle.source_checks.specs.source_blocks.Tasks.{task_of};
+ghost use Rattle.source_checks.specs.source_statements.Steps.{StepFalls, step_in, MayStopAt};
 ghost use Rattle.source_execution.specs.Variables.{binding_of};
-ghost use Rattle.source_execution.specs.Failures.{tested as tested_at};
-ghost use Rattle.source_execution.specs.TestedView.{tested_of};
+ghost use Rattle.source_checks.specs.Failures.{tested as tested_at};
+ghost use Rattle.source_checks.specs.TestedView.{tested_of};
+ghost use Rattle.source_execution.specs.Calls.{active_calls, inside_call};
+ghost use Rattle.source_execution.specs.CallsView.{active_of, inside_of};
 ghost use Rattle.source_execution.specs.Standing.{IsOver, Walks, config_at, setting_at, next_place, starting_heap};
 
-use crate::places::line_place;
-use crate::testing::{Tested, test_next};
+use crate::calls::{Active, CallState, calls_in, inside_in};
+use crate::places::run_place;
 use crate::variables::{Variable, variables_in};
 use class_table::Checked;
 use rpp_words::{FieldWord, Input, Limits, NoMemory};
-use source_blocks::{Run, Task, line_at, turn};
-use source_statements::{method_at, step};
+use source_checks::{Run, Task, Tested, line_at, line_place, method_at, step, test_next, turn};
 use source_steps::{Setting, Stop, put_value, zeros};
 use source_store::{Head, Heap, Lack, Value};
 use std::alloc::Global;
@@ -75,11 +76,23 @@ fn main_task<'a>(checked: &'a Checked) -> Task<'a>
     }
 }
 
+/// Whether a run that stops so is aborted. A fault leaves it where it was.
+pub fn breaks(why: Stop) -> bool
+    ensures fault { IsFault why → result ≡ false }
+    ensures only { result ≡ false → IsFault why }
+{
+    match why {
+        Stop::Fault(_code) => false,
+        Stop::More => true,
+        Stop::Lacks(_lack) => true,
+    }
+}
+
 /// A run of the source: its position, and what encloses it.
 #[derive(Drop)]
 pub struct Execution<'a> {
     run: Run<'a>,
-    /// Whether a step failed.
+    /// Whether a step aborted the run.
     broken: bool,
 }
 
@@ -89,7 +102,7 @@ impl<'a> Model for Execution<'a> {
     ghost use Rattle.std.specs.Coded.{codes};
     ghost use Rattle.std.specs.Prelude.{◌≡◌, false};
     ghost use Rattle.source_execution.specs.Standing.{Standing};
-    ghost use Rattle.source_statements.specs.source_blocks.Runs.{IsSound};
+    ghost use Rattle.source_checks.specs.source_blocks.Runs.{IsSound};
 
     ghost Value = { Standing };
 
@@ -150,14 +163,16 @@ impl<'a> Execution<'a> {
         }
     }
 
-    /// A step of the run: one of the machine of the semantics, if it is not aborted. A fault, or
-    /// running out of fuel or memory, aborts it.
+    /// A step of the run: one of the machine of the semantics, if it is not aborted. Running out of
+    /// fuel or memory aborts the run. A fault leaves it where it was.
     pub fn step(&mut self, fuel: &mut u64) -> Result<(), Stop>
         requires whole { self.old.broken ≡ false }
         ensures gives { Gives (λ u. config_at self.new) result fuel.new
             (metered fuel.old (next (setting_at self.old) (config_at self.old))) }
         ensures whole { OnOk result (self.new.broken ≡ false) }
         ensures setting { setting_at self.new ≡ setting_at self.old }
+        ensures stays { OnFault result ((config_at self.new ≡ config_at self.old)
+            × (self.new.broken ≡ false)) }
         ensures falls { OnOk result (StepFalls (config_at self.old)
             (2 * fuel.new + length (config_at self.new).around)
             (2 * fuel.old + length (config_at self.old).around)) }
@@ -168,13 +183,15 @@ impl<'a> Execution<'a> {
     }
 
     /// A step of the reversed run: one of the reversed machine, in which `new` and `delete` undo
-    /// requests to the heap. What breaks off a step breaks it off.
+    /// requests to the heap. What aborts a step aborts it, and a fault leaves it where it was.
     pub fn step_back(&mut self, fuel: &mut u64) -> Result<(), Stop>
         requires whole { self.old.broken ≡ false }
         ensures gives { Gives (λ u. config_at self.new) result fuel.new
             (metered fuel.old (next_back (setting_at self.old) (config_at self.old))) }
         ensures whole { OnOk result (self.new.broken ≡ false) }
         ensures setting { setting_at self.new ≡ setting_at self.old }
+        ensures stays { OnFault result ((config_at self.new ≡ config_at self.old)
+            × (self.new.broken ≡ false)) }
         ensures falls { OnOk result (StepFalls (config_at self.old)
             (2 * fuel.new + length (config_at self.new).around)
             (2 * fuel.old + length (config_at self.old).around)) }
@@ -184,13 +201,15 @@ impl<'a> Execution<'a> {
         self.go(fuel, true)
     }
 
-    // A step, reversed or not. An error breaks the run off.
+    // A step, reversed or not. An error aborts the run, unless it is a fault.
     fn go(&mut self, fuel: &mut u64, back: bool) -> Result<(), Stop>
         requires whole { self.old.broken ≡ false }
         ensures gives { Gives (λ u. config_at self.new) result fuel.new
             (metered fuel.old (step_in back (setting_at self.old) (config_at self.old))) }
         ensures whole { OnOk result (self.new.broken ≡ false) }
         ensures setting { setting_at self.new ≡ setting_at self.old }
+        ensures stays { OnFault result ((config_at self.new ≡ config_at self.old)
+            × (self.new.broken ≡ false)) }
         ensures falls { OnOk result (StepFalls (config_at self.old)
             (2 * fuel.new + length (config_at self.new).around)
             (2 * fuel.old + length (config_at self.old).around)) }
@@ -200,7 +219,7 @@ impl<'a> Execution<'a> {
         match step(&mut self.run, fuel, back) {
             Ok(()) => Ok(()),
             Err(why) => {
-                self.broken = true;
+                self.broken = breaks(why);
                 Err(why)
             }
         }
@@ -235,10 +254,7 @@ impl<'a> Execution<'a> {
     pub fn place(&self) -> Option<u32>
         ensures { result ≡ next_place (config_at self.now).rest }
     {
-        match line_at(&self.run.task, self.run.at) {
-            None => None,
-            Some(line) => Some(line_place(&line)),
-        }
+        run_place(&self.run)
     }
 
     /// The place of the statement that is past last, if one is.
@@ -255,13 +271,32 @@ impl<'a> Execution<'a> {
         }
     }
 
-    /// What the next step tests. An expression that costs more than 2 ^ 64 is refused as `Full`.
-    pub fn tested(&self) -> Result<Tested, Lack>
+    /// What the next step tests, which stops with this fault. An expression that costs more than
+    /// 2 ^ 64 is refused as `Full`.
+    pub fn tested(&self, code: u32) -> Result<Tested, Lack>
         requires { self.now.broken ≡ false }
         ensures { IfOk result (λ it. tested_of it
-            ≡ tested_at (setting_at self.now).program (config_at self.now)) }
+            ≡ tested_at (setting_at self.now) code (config_at self.now)) }
     {
-        test_next(&self.run)
+        test_next(&self.run, code)
+    }
+
+    /// The active calls, the outermost first. The only error is that memory ran out.
+    pub fn calls(&self, alloc: Global) -> Result<Vec<Active>, NoMemory>
+        requires { self.now.broken ≡ false }
+        ensures { IfOk result (λ calls. map active_of calls.items
+            ≡ active_calls (config_at self.now)) }
+    {
+        calls_in(alloc, &self.run)
+    }
+
+    /// What the call with so many active calls has, if there is one. The only error is that memory
+    /// ran out.
+    pub fn inside(&self, alloc: Global, depth: u64) -> Result<Option<CallState>, NoMemory>
+        ensures { IfOk result (λ found. option_map inside_of found
+            ≡ inside_call depth (config_at self.now)) }
+    {
+        inside_in(alloc, &self.run, depth)
     }
 
     /// How many calls are open, the main method among them.

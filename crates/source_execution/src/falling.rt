@@ -1,8 +1,8 @@
 // The step of a run that stops with a fault.
 ghost use Rattle.std.specs.Prelude.{◌≡◌, ◌+◌, ◌<◌, ◌^◌, IfOk};
-ghost use Rattle.source_statements.specs.rpp_words.Limits.{IsLimits};
+ghost use Rattle.source_checks.specs.rpp_words.Limits.{IsLimits};
 ghost use Rattle.rpp_tree.specs.Views.{source_of};
-ghost use Rattle.source_execution.specs.Falls.{HasGone, IsFallOf, IsFailingOf};
+ghost use Rattle.source_execution.specs.Falls.{IsFailingOf};
 
 use crate::execution::Execution;
 use class_table::Checked;
@@ -13,13 +13,6 @@ use std::alloc::Global;
 
 /// The highest cost of a run that is looked at.
 const MOST_FUEL: u64 = u64::MAX;
-
-/// How many steps a run makes before the one that stops with a fault, and the fault's number.
-#[derive(Clone, Copy)]
-struct Fall {
-    steps: u64,
-    code: u32,
-}
 
 /// A run where its next step stops with a fault, and the fault's number.
 #[derive(Drop)]
@@ -39,59 +32,8 @@ fn one_more(steps: u64) -> Result<u64, Lack>
     }
 }
 
-// How many steps a run makes before its fault, if it has one. A run that costs more than 2 ^ 64 is
-// refused as `Full`.
-fn find_fall(
-    alloc: Global,
-    checked: &Checked,
-    limits: Limits,
-    input: &Input,
-) -> Result<Option<Fall>, Lack>
-    requires { IsLimits limits }
-    ensures found { IfOk result (λ found. IsFallOf (source_of checked.now) limits
-        input.now.words.items found) }
-{
-    let mut execution = Execution::start(alloc, checked, limits, input)?;
-    let mut fuel = MOST_FUEL;
-    let mut steps: u64 = 0;
-    while !execution.is_over() {
-        match execution.step(&mut fuel) {
-            Ok(()) => steps = one_more(steps)?,
-            Err(Stop::Fault(code)) => return Ok(Some(Fall { steps, code })),
-            Err(Stop::More) => return Err(Lack::Full),
-            Err(Stop::Lacks(lack)) => return Err(lack),
-        }
-    }
-    Ok(None)
-}
-
-// A run that has made so many steps. One that stops before is refused as `Full`.
-fn go_so_far<'a>(
-    alloc: Global,
-    checked: &'a Checked,
-    limits: Limits,
-    input: &Input,
-    steps: u64,
-) -> Result<Execution<'a>, Lack>
-    requires { IsLimits limits }
-    ensures gone { IfOk result (λ execution. HasGone (source_of checked.now) limits
-        input.now.words.items steps execution) }
-{
-    let mut execution = Execution::start(alloc, checked, limits, input)?;
-    let mut fuel = MOST_FUEL;
-    for _ in 0..steps {
-        match execution.step(&mut fuel) {
-            Ok(()) => {}
-            Err(Stop::Fault(_code)) => return Err(Lack::Full),
-            Err(Stop::More) => return Err(Lack::Full),
-            Err(Stop::Lacks(lack)) => return Err(lack),
-        }
-    }
-    Ok(execution)
-}
-
-/// The run where its next step stops with a fault, if one does: it runs twice, since a step that
-/// stops leaves no position. A run that costs more than 2 ^ 64 is refused as `Full`.
+/// The run where its next step stops with a fault, if one does. One that costs more than 2 ^ 64 is
+/// refused as `Full`.
 pub fn find_failing<'a>(
     alloc: Global,
     checked: &'a Checked,
@@ -102,14 +44,16 @@ pub fn find_failing<'a>(
     ensures found { IfOk result (λ found. IsFailingOf (source_of checked.now) limits
         input.now.words.items found) }
 {
-    match find_fall(alloc, checked, limits, input)? {
-        None => Ok(None),
-        Some(fall) => {
-            let execution = go_so_far(alloc, checked, limits, input, fall.steps)?;
-            Ok(Some(Failing {
-                execution,
-                code: fall.code,
-            }))
+    let mut execution = Execution::start(alloc, checked, limits, input)?;
+    let mut fuel = MOST_FUEL;
+    let mut steps: u64 = 0;
+    while !execution.is_over() {
+        match execution.step(&mut fuel) {
+            Ok(()) => steps = one_more(steps)?,
+            Err(Stop::Fault(code)) => return Ok(Some(Failing { execution, code })),
+            Err(Stop::More) => return Err(Lack::Full),
+            Err(Stop::Lacks(lack)) => return Err(lack),
         }
     }
+    Ok(None)
 }

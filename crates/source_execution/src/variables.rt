@@ -1,7 +1,7 @@
 // The variables of a method, copied with their names.
 ghost use Rattle.std.specs.Prelude.{◌≡◌, ◌++◌, map, IfOk, OnOk};
-ghost use Rattle.source_statements.specs.source_store.ValueView.{values_of};
-ghost use Rattle.source_statements.specs.source_steps.StateView.{bindings};
+ghost use Rattle.source_checks.specs.source_store.ValueView.{values_of};
+ghost use Rattle.source_checks.specs.source_steps.StateView.{bindings};
 ghost use Rattle.source_execution.specs.Variables.{binding_of};
 
 use rpp_tree::Text;

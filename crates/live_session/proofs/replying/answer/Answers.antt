@@ -1,4 +1,6 @@
-use Rattle.live_session.proofs.Answering.{nothing_said, asked_said, carry_said, fault_said, quit_said}
+use Rattle.source_debugger.specs.declared.failing.Detail.TheVariants as details
+use Rattle.live_session.proofs.Answering.{nothing_said, asked_said, carry_said, fault_said, stack_is_said, call_is_said}
+use Rattle.live_session.proofs.Answering.{quit_said}
 use Rattle.live_session.proofs.replying.answer.Goals as goal
 
 pub returns-in-Nothing : goal.returns-in-Nothing
@@ -34,7 +36,32 @@ returns-in-Bad g c =
 
 pub returns-in-Fault : goal.returns-in-Fault
 returns-in-Fault g c =
-    fault_said c.args.debugger.now c.say_failure.new.debugger c.args.request c.args.line.now
+    fault_said c.args.debugger.now c.say_failure.new.debugger c.args.request details.Test c.args.line.now
     (record { bytes = g.K.Sink.written c.args.out.now; puts = g.K.Sink.puts c.args.out.now })
     (record { bytes = g.K.Sink.written c.say_failure.new.out; puts = g.K.Sink.puts c.say_failure.new.out })
     c.say_failure.result c.in-Fault.is c.say_failure.ensures
+
+pub returns-in-FaultCells : goal.returns-in-FaultCells
+returns-in-FaultCells g c =
+    fault_said c.args.debugger.now c.say_failure-in-FaultCells.new.debugger c.args.request
+    (details.Cells c.in-FaultCells.from c.in-FaultCells.count) c.args.line.now
+    (record { bytes = g.K.Sink.written c.args.out.now; puts = g.K.Sink.puts c.args.out.now })
+    (record {
+      bytes = g.K.Sink.written c.say_failure-in-FaultCells.new.out;
+      puts = g.K.Sink.puts c.say_failure-in-FaultCells.new.out;
+    })
+    c.say_failure-in-FaultCells.result c.in-FaultCells.is c.say_failure-in-FaultCells.ensures
+
+pub returns-in-Stack : goal.returns-in-Stack
+returns-in-Stack g c =
+    stack_is_said c.args.debugger.now c.say_stack.new.debugger c.args.request c.args.line.now
+    (record { bytes = g.K.Sink.written c.args.out.now; puts = g.K.Sink.puts c.args.out.now })
+    (record { bytes = g.K.Sink.written c.say_stack.new.out; puts = g.K.Sink.puts c.say_stack.new.out })
+    c.say_stack.result c.in-Stack.is c.say_stack.ensures
+
+pub returns-in-RegsOf : goal.returns-in-RegsOf
+returns-in-RegsOf g c =
+    call_is_said c.args.debugger.now c.say_call.new.debugger c.args.request c.in-RegsOf.depth c.args.line.now
+    (record { bytes = g.K.Sink.written c.args.out.now; puts = g.K.Sink.puts c.args.out.now })
+    (record { bytes = g.K.Sink.written c.say_call.new.out; puts = g.K.Sink.puts c.say_call.new.out })
+    c.say_call.result c.in-RegsOf.is c.say_call.ensures

@@ -6,7 +6,7 @@ use Rattle.source_debugger.specs.declared.watching.Watching.{Watching}
 use Rattle.source_debugger.specs.Watched.{wanted, behind}
 use Rattle.source_debugger.specs.Courses.{heap_of}
 use Rattle.source_debugger.specs.Ended.{IsStopped}
-use Rattle.source_debugger.proofs.Endings.{HasCome, come_here, come_further, is_over, is_at, is_stopped, broken_holds}
+use Rattle.source_debugger.proofs.Endings.{HasCome, come_here, come_further, is_over, is_at, is_stopped, stopped_holds}
 use Rattle.source_debugger.proofs.running.go_on.Goals as goal
 
 pub loop-course-init : goal.loop-course-init
@@ -53,8 +53,9 @@ returns-in-Err-clause-ended c =
 
 pub returns-in-Err-clause-holds : goal.returns-in-Err-clause-holds
 returns-in-Err-clause-holds c =
-    broken_holds (source_of c.args.run.now.checked.now) c.args.run.now.limits c.args.run.now.input.now.words.items
-    c.step.new.course c.in-Err.ensures.breaks
+    stopped_holds (source_of c.args.run.now.checked.now) c.args.run.now.limits c.args.run.now.input.now.words.items
+    c.loop-course.course c.step.new.course c.in-Err.stop c.loop-course.invariant.way c.in-Err.ensures.breaks
+    c.in-Err.ensures.stays c.step.ensures.setting
 
 pub returns-clause-ended : goal.returns-clause-ended
 returns-clause-ended c =

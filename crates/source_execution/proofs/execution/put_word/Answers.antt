@@ -1,7 +1,7 @@
 use Rattle.std.proofs.Common.{ap, ◌∙◌, map}
 use Rattle.std.proofs.lemmas.List.{map-set}
-use Rattle.source_statements.specs.source_store.declared.value.Value.TheVariants as held
-use Rattle.source_statements.specs.source_store.ValueView.{value_of}
+use Rattle.source_checks.specs.source_store.declared.value.Value.TheVariants as held
+use Rattle.source_checks.specs.source_store.ValueView.{value_of}
 use Rattle.source_execution.proofs.execution.put_word.Goals as goal
 
 pub returns : goal.returns

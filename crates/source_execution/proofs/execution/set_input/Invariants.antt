@@ -1,6 +1,6 @@
 use Rattle.std.proofs.Common.{◌≡◌, drop, map}
-use Rattle.source_statements.specs.roopl_semantics.Source.{with_input}
-use Rattle.source_statements.specs.source_store.ValueView.{value_of}
+use Rattle.source_checks.specs.roopl_semantics.Source.{with_input}
+use Rattle.source_checks.specs.source_store.ValueView.{value_of}
 use Rattle.source_execution.proofs.execution.set_input.Given as goal
 
 abbrev pub invariant-loop-word : goal.invariant-loop-word

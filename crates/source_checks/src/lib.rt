@@ -1,0 +1,16 @@
+//! What the next step of a run of the source tests, and where it is in the text. If the step fails, a
+//! layer above may use the values that the failing test or check compares.
+#![tactic(auto)]
+
+mod accesses;
+mod checks;
+mod comparing;
+mod places;
+mod testing;
+mod touched;
+
+pub use comparing::Compared;
+pub use places::line_place;
+pub use source_blocks::{Caller, Frame, Line, Part, Run, Task, line_at, turn};
+pub use source_statements::{method_at, step};
+pub use testing::{Tested, test_next};
