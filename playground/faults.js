@@ -2,6 +2,8 @@
 // fails is a position of its own, with the values that it saw.
 'use strict';
 
+// The last fault of a test that has a value. If the expression of a test fails, the values are those of an element.
+const DELOCAL = 3;
 const IMAGE_HEADER = 16, CELL_BYTES = 8, TO_THE_END = 'step 100000000000000000';
 
 // The image with the numbers of a run in its static words.
@@ -23,7 +25,7 @@ async function findFault(run, machine, runImage, sessionOf) {
     return fault;
   }
   fault.place = told.place;
-  if (!TESTS[told.word] || told.is === undefined) return fault;
+  if (!TESTS[told.word] || told.number > DELOCAL) return fault;
   const first = run.source.first(told.place), objects = await objectsAtTest(run, first, told, sessionOf);
   const look = { variables: told.variables, objects };
   fault.failure = new Failure(run.source, first, told, look);

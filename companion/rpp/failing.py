@@ -24,7 +24,7 @@ from .source import Source, Statement, parsed
 from .trace import Failure, Moment, Point, Refused, SourceRun, Thing
 
 PROBE = b' skip '
-TOUCHED = 15
+DELOCAL, INDEX, TOUCHED = 3, 9, 15
 FULL = {'if': 3, 'from': 3, 'local': 1}
 # The words of tests: the form of the statement, and whether the test is at its head.
 WORDS = {'if': ('if', True), 'fi': ('if', False), 'from': ('from', True), 'until': ('from', False), 'local': ('local', True),
@@ -76,21 +76,31 @@ def test_of(run: SourceRun, told: Failure, last: Moment, is_back: bool, frames: 
     is_begin = here is not None and here.form == 'from' and (told.statement, told.depth) == (last.point.place, last.point.depth)
     if here is None or told.word == 'statement' or is_begin:
         return None
-    objects = objects_then(source, told, last, frames)
-    if objects is None and (with_objects or told.found is None):
-        probe = failed_test(run, told.statement, told.fault.number, is_back, frames)
-        if told.word == 'call' and told.found is None:
+    objects, number = objects_then(source, told, last, frames), told.fault.number
+    # (if the expression of a test fails, the values are those of an element)
+    has_value = number <= DELOCAL
+    if objects is None and (with_objects or not has_value):
+        probe = failed_test(run, told.statement, number, is_back, frames)
+        if number == TOUCHED:
             return probe
         objects = probe.moment.objects if probe and probe.moment.variables == told.variables else None
     moment = Moment(Point(last.point.position, told.statement, told.depth), told.variables, objects or {})
     if told.word == 'call':
-        return element_told(source, here, told, is_back, moment) if told.found else touched(source, here, is_back, frames, moment)
+        return touched(source, here, is_back, frames, moment) if number == TOUCHED else element_told(source, here, told, is_back, moment)
     form, at_head = WORDS.get(told.word, ('', False))
     if here.form != form or len(here.closers) != FULL[form]:
         return None
     tokens = test_tokens(source, here, at_head)
-    title = titled(source, here, block_told(source, here, told, frames), is_back, spelled(source, *tokens), (told.found, told.wanted))
+    values = (told.found, told.wanted) if has_value else (None, None)
+    title = titled(source, here, block_told(source, here, told, frames), is_back, spelled(source, *tokens), values)
     return FailedTest(source.tokens[tokens[0]].at, title, moment, source.tokens[tokens[1]].end)
+
+
+def index_told(told: Failure) -> Tuple[str, str]:
+    """The index that fails and the length of its array, which a session says as `below L`; else two empty texts."""
+    if told.fault.number != INDEX or not told.found or not (told.wanted or '').startswith('below '):
+        return '', ''
+    return told.found, told.wanted[len('below '):]
 
 
 def objects_then(source: Source, told: Failure, last: Moment, frames: Sequence[Frame]) -> Optional[Dict[int, Thing]]:

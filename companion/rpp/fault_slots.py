@@ -12,7 +12,8 @@ from .trace import Moment, Thing
 
 class Where(NamedTuple):
     """A fault: the text, and the byte of the statement that fails. `moment` is what was there before the last statement that began, and
-    `failed` the moment of a test that fails at the end of the statement. `is_back` says whether the body runs backward."""
+    `failed` the moment of a test that fails at the end of the statement. `is_back` says whether the body runs backward. `index` and
+    `length` are the index that fails and the length of its array, if a session says them."""
     text: bytes
     at: int
     moment: Optional[Moment]
@@ -20,6 +21,8 @@ class Where(NamedTuple):
     heap: int
     depth: int
     failed: Optional[Moment] = None
+    index: str = ''
+    length: str = ''
 
 
 def fault_slots(where: Where, number: int) -> Dict[str, str]:
@@ -34,7 +37,7 @@ def fault_slots(where: Where, number: int) -> Dict[str, str]:
 class _FaultSlots(Slots):
     def __init__(self, where: Where):
         super().__init__(where.text, where.at)
-        self.is_back = where.is_back
+        self.is_back, self.index, self.length = where.is_back, where.index, where.length
         self.here = next((each for each in self.source.statements() if each.first == self.token), None)
         begins_here = where.moment is not None and where.moment.point.place == where.at
         self.moment = where.failed or (where.moment if begins_here else None)
@@ -145,6 +148,8 @@ class _FaultSlots(Slots):
 
     def of_9(self):
         elements = [each for each in self.variables(self.here) if self.is_element(each)]
+        if self.index:
+            return {'array': self.word_at(elements[0]) if len(elements) == 1 else '', 'length': self.length, 'index': self.index}
         if len(elements) != 1 or self.moment is None:
             return {}
         array = self.thing_of(self.moment.value(self.word_at(elements[0])) or '')

@@ -5,7 +5,7 @@ A session says which statement fails, and which test of it. Where there is none,
 as `run` prints it (`from A`), and the test is looked for."""
 from typing import List, NamedTuple, Optional, Tuple
 
-from .failing import FailedTest, failed_test, test_of
+from .failing import TOUCHED, FailedTest, failed_test, index_told, test_of
 from .messages import read_answer
 from .options import STEPS
 from .places import Text
@@ -18,16 +18,18 @@ PATIENCE = 60.0
 
 
 class Failing(NamedTuple):
-    """The place of the statement that fails, the test that fails at its end, if it is one, and whether its body runs backward."""
+    """The place of the statement that fails, the test that fails at its end, if it is one, and whether its body runs backward. `index`
+    has an index that fails, and the length of its array, if a session says them."""
     place: Optional[int]
     test: Optional[FailedTest]
     is_back: bool
+    index: Tuple[str, str] = ('', '')
 
 
 class FaultPlaces(NamedTuple):
     """`statement` is the place of the statement that fails; `point`, `moment` and `frames` are what `trace` shows of the
     last one that began; `is_back` says whether the body of the statement that fails runs backward; `test` is the test that fails
-    at its end, if it is one. What could not be found is None, and `why` says why."""
+    at its end, if it is one, and `index` as in Failing. What could not be found is None, and `why` says why."""
     statement: Optional[int]
     point: Optional[Point]
     moment: Optional[Moment]
@@ -35,6 +37,7 @@ class FaultPlaces(NamedTuple):
     why: str
     is_back: bool = False
     test: Optional[FailedTest] = None
+    index: Tuple[str, str] = ('', '')
 
 
 def find_fault(program: Program, wanted, text: Text) -> FaultPlaces:
@@ -44,8 +47,8 @@ def find_fault(program: Program, wanted, text: Text) -> FaultPlaces:
             session.run.patience = PATIENCE
             stop = session.run_on()
             if stop.reason == 'fault':
-                place, test, is_back = failing(session, wanted.steps)
-                return FaultPlaces(place, stop.point, session.moment, session.stack(), '', is_back, test)
+                found = failing(session, wanted.steps)
+                return FaultPlaces(found.place, stop.point, session.moment, session.stack(), '', found.is_back, found.test, found.index)
             why = why_not(stop.reason)
     except OutOfTime:
         why = f'`trace` did not reach it within {PATIENCE:.0f} seconds.'
@@ -71,10 +74,10 @@ def as_told(session: Session, told: Failure, with_objects: bool) -> Failing:
     """The statement and the test that the session says."""
     frames = session.stack()
     # (as a call ends, the body of the method is still open)
-    depth = told.depth - (told.word == 'call' and told.found is None)
+    depth = told.depth - (told.fault.number == TOUCHED)
     around = [each.uncalled for each in frames if each.depth == depth]
     is_back = around[0] if around else runs_back(session, frames, told.statement)
-    return Failing(told.statement, test_of(session.run, told, session.moment, is_back, frames, with_objects), is_back)
+    return Failing(told.statement, test_of(session.run, told, session.moment, is_back, frames, with_objects), is_back, index_told(told))
 
 
 def of_place(session: Session, stopped: Optional[int]) -> Failing:

@@ -254,7 +254,8 @@ _FAULTS = (
         'The heap of {heap} words must have a free block of {words} words for this `{form}` to be undone.',)),
     Rule(9, 'Index', 'An index must be at least 0 and less than the length of the array.', (
         'The index of `{array}` must be at least 0 and less than {length}, and it is {index}.',
-        'The index of `{array}` must be at least 0 and less than {length}.'),
+        'The index of `{array}` must be at least 0 and less than {length}.',
+        'The index must be at least 0 and less than {length}, and it is {index}.'),
         'Count from 0, and end the loop at the length. An index is read without sign, so a negative one is too large.'),
     Rule(10, 'NotSame', 'The two variables of `uncopy` must differ, and have one reference.', (
         '`{first}` and `{second}` must have one reference, and they have {first_reference} and {second_reference}.',),

@@ -147,7 +147,8 @@ def faulted(program: Program, wanted: Wanted, told: Told) -> List[str]:
 def where_of(wanted: Wanted, text: Text, found: FaultPlaces) -> Optional[Where]:
     if found.statement is None:
         return None
-    return Where(text.content, found.statement, found.moment, found.is_back, wanted.heap, wanted.depth, found.test and found.test.moment)
+    return Where(text.content, found.statement, found.moment, found.is_back, wanted.heap, wanted.depth, found.test and found.test.moment,
+                 *found.index)
 
 
 def place_lines(wanted: Wanted, text: Text, told: Told, found: FaultPlaces) -> List[str]:

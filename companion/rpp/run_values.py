@@ -63,7 +63,8 @@ def fault_value(program: Program, wanted, told: Told) -> Dict[str, Any]:
     where = None
     value: Dict[str, Any] = {'number': told.number, 'name': told.name, 'steps': told.number_behind('steps')}
     if found.statement is not None:
-        where = Where(text.content, found.statement, found.moment, found.is_back, wanted.heap, wanted.depth, found.test and found.test.moment)
+        where = Where(text.content, found.statement, found.moment, found.is_back, wanted.heap, wanted.depth, found.test and found.test.moment,
+                      *found.index)
         value.update(place_value(text, found.statement))
     value.update(message_value(of_fault(told.number, where)))
     if found.test is not None:

@@ -67,7 +67,7 @@ def fault_lines(session: Session, stop: Stop, failing: Failing) -> List[str]:
     """The fault after this statement, and where it came if that is at the end of another one."""
     number, name = stop.point.fault
     lines = [f'{paint("wrong", f"fault {number} {name}")}: the run goes no further']
-    place, test, _ = failing
+    place, test = failing.place, failing.test
     file, text = title(session.run.source), session.run.text
     if place != stop.point.place:
         lines[0] += ', and stops within this statement:'
@@ -79,8 +79,8 @@ def fault_lines(session: Session, stop: Stop, failing: Failing) -> List[str]:
 
 def fault_where(session: Session, failing: Failing) -> Where:
     """The statement that fails, with what was there before it, and the direction in which its body runs."""
-    run, (place, test, is_back) = session.run, failing
-    return Where(run.text.content, place, session.moment, is_back, *run.bounds, test and test.moment)
+    run, test = session.run, failing.test
+    return Where(run.text.content, failing.place, session.moment, failing.is_back, *run.bounds, test and test.moment, *failing.index)
 
 
 def reason_lines(session: Session, stop: Stop) -> List[str]:

@@ -2,10 +2,14 @@
 session it is looked for; with one that knows `fault`, that says it."""
 import unittest
 
+from rpp.explain import of_fault
+from rpp.failing import index_told
+from rpp.fault_slots import Where
 from rpp.faults import failing
 from rpp.live import Live
 from rpp.program import Program
 from rpp.session import Session
+from rpp.trace import Failure, Fault
 
 from .base import SUMS, Case
 
@@ -189,6 +193,26 @@ class FailingTests(Case):
         self.assertEqual((found['line'], found['column']), (7, 37))
         self.assertEqual(found['found'], '`y = 0` is false after the `then` block')
         self.assertIn({'name': 'y', 'value': '6'}, found['variables'])
+
+
+class Indexes(unittest.TestCase):
+    """An index that a session says, with the length of its array."""
+
+    def told(self, number: int, name: str, found, wanted):
+        return index_told(Failure(Fault(number, name), 'statement', 7, 7, found, wanted, 1, ()))
+
+    def test_it_is_read(self):
+        self.assertEqual(self.told(9, 'Index', '-1', 'below 4'), ('-1', '4'))
+        for number, name, found, wanted in ((9, 'Index', None, None), (14, 'TooDeep', '4', 'below 4'), (5, 'Nil', 'nil', 'an array')):
+            self.assertEqual(self.told(number, name, found, wanted), ('', ''))
+
+    def test_the_sentence_has_it(self):
+        head = 'class P\n  int x\n  int[] a\n  int[] b\nmethod main()\n  '
+        for statement, said in (('a[x + 7] += 1', 'The index of `a` must be at least 0 and less than 4, and it is 7.'),
+                                ('x += a[b[7]]', 'The index must be at least 0 and less than 4, and it is 7.')):
+            where = Where((head + statement + '\n').encode(), len(head), None, False, 12, 64, None, '7', '4')
+            self.assertEqual(of_fault(9, where).sentence, said)
+            self.assertNotEqual(of_fault(9, where._replace(index='', length='')).sentence, said)
 
 
 @unittest.skipUnless(HAS_FAULT, 'there is no rooplpp-live that knows `fault`')

@@ -132,6 +132,9 @@ class ReplyToFault(unittest.TestCase):
         self.assertEqual(read_failure(lines), Failure(Fault(3, 'Delocal'), 'delocal', 218, 144, '7', '#5', 2, variables))
         lines = ['fault 5 Nil', 'test statement at 7 of 7', 'depth 1']
         self.assertEqual(read_failure(lines), Failure(Fault(5, 'Nil'), 'statement', 7, 7, None, None, 1, ()))
+        for found, wanted in (('-1', 'below 2'), ('nil', 'an array'), ('nil', 'an object'), ('0', 'at least 1'), ('D', 'C')):
+            said = read_failure([*lines[:2], f'found {found}', f'wanted {wanted}', 'depth 1'])
+            self.assertEqual((said.found, said.wanted, said.depth, said.variables), (found, wanted, 1, ()))
         for wrong in ([], ['depth 2'], ['fault 3', 'depth 2'], ['fault 3 Delocal', 'test fi', 'depth 2'], lines[:2]):
             self.assertIsNone(read_failure(wrong), wrong)
 
