@@ -137,7 +137,9 @@ class MachinePrompt(Prompt):
         """next: only for sources: an image does not record its active calls."""
         raise Unfit('next and finish need the active calls, which an image does not show: debug the source for them')
 
-    do_finish = do_next
+    def do_finish(self, arg: str) -> None:
+        """finish: only for sources, as next."""
+        self.do_next(arg)
 
     def do_regs(self, _arg: str) -> None:
         """regs: the registers that are not 0."""

@@ -69,7 +69,7 @@ def parser() -> Parser:
                            'the program, only `run` takes a state: `debug` and `profile` begin with the loaded memory.')
     made.add_argument('image', metavar='IMG', type=readable, help='an image; - is standard input')
     made.add_argument('input', metavar='INPUT', type=readable, help='a file of lines NAME = NUMBER; - is standard input')
-    made.add_argument('-o', '--out', metavar='STATE', required=True)
+    made.add_argument('-o', '--out', metavar='STATE', required=True, help='the file of the state to write')
     made.add_argument('--heap', type=int, default=HEAP, metavar='H', help=f'1 to {MOST_HEAP} (default {HEAP})')
     made.add_argument('--depth', type=int, default=DEPTH, metavar='D', help=f'1 to {MOST_DEPTH} (default {DEPTH})')
     return made

@@ -234,10 +234,18 @@ class Images(Case):
         given = ['step 10', 'back 10', 'regs', 'back 1', 'until 4', 'break 3', 'rc', 'step 5']
         done = self.rpp('debug', image, *[word for line in given for word in ('-c', line)])
         heads = re.findall(r'^\[(\d+)\] pc (\d+) br (-?\d+) dir (-?1)  (?:.*?)(?:  (start|end .*))?$', done.stdout, re.M)
-        # README.md has these positions, from the program's own scripts.
+        # docs/reference/commands.md has these positions, from the program's own scripts.
         self.assertEqual(heads, [('0', '0', '0', '1', ''), ('10', '6', '-4', '-1', ''), ('0', '0', '0', '1', ''),
                                  ('0', '0', '0', '1', 'start'), ('25', '4', '0', '1', ''), ('24', '3', '-3', '1', ''),
                                  ('25', '4', '0', '1', 'end finished')])
+
+    def test_help_names_each_command_once(self):
+        image = os.path.join(self.folder, 's.img')
+        self.program.call('asm', os.path.join(EXAMPLES, 'subroutine.pisa'), image)
+        done = self.rpp('debug', image, '-c', 'help')
+        self.assertEqual(re.findall(r'^([a-z-]+)(?=[ :])', done.stdout, re.M),
+                         ['back', 'break', 'cells', 'clear', 'continue', 'finish', 'go', 'help', 'list', 'next', 'print', 'quit', 'regs',
+                          'reverse-continue', 'step', 'until', 'watch', 'where'])
 
     def test_no_image(self):
         done = self.rpp('debug', self.write('no.img', 'RPPI nothing'))
