@@ -131,7 +131,7 @@ class CaseRun(Closing):
         value = self.result.value(path)
         thing = self.result.objects.get(int(value[1:])) if value and value.startswith('#') else None
         found = thing.head if thing else value or 'not there'
-        return [] if thing and head in (thing.head, thing.head.split('[')[0] + '[]') else [f'{path} is {found}, and must be a {head}']
+        return [] if thing and head in (thing.head, thing.head.split('[')[0] + '[]') else [f'{path} is {found}, and must be {head}']
 
     def why_back(self, _parts, _name: str) -> List[str]:
         start = {name: self.case.inputs.get(name, '0') for name, value in self.result.fields.items()}

@@ -81,7 +81,7 @@ class TestingTest(Case):
         self.fails('-> z = 8', 'skip', 'there is no z at the end')
         self.fails('z=3 -> x = 0', 'skip', 'the main class has no int field z, which is an input')
         self.holds('-> a[2] = 7, a[0] = p.x, live 2, a is int[3], a is int[], p is P', 'new int[3] a a[2] += 7 new P p')
-        self.fails('-> p is Q, live 0', 'new P p', 'p is P, and must be a Q', '`live` is 1 at the end, and must be 0')
+        self.fails('-> p is Q, live 0', 'new P p', 'p is P, and must be Q', '`live` is 1 at the end, and must be 0')
 
     def test_ends(self):
         self.holds('-> fault', 'delete P p')
