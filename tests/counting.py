@@ -19,7 +19,7 @@ def holds(what, is_so):
 
 
 def has(tool, what):
-    """Whether the machine has a tool; else what it is wanted for is skipped."""
+    """Whether the machine has a tool; else what needs it is skipped."""
     found = shutil.which(tool)
     if not found:
         tells('skipped', f'{what}: there is no {tool}')

@@ -246,7 +246,7 @@ def judge_form(words, line):
 
 
 def judge_lines(text):
-    """The lines in turn, up to the first that is refused by itself; the answer is what stands in them."""
+    """The lines in turn, up to the first that is refused by itself; the answer is what they contain."""
     labels, wanted, notes, code, statics = set(), [], [], [], 0
     for number, line in enumerate(text.split(b'\n'), 1):
         words = words_of(without_return(line).split(b';')[0])

@@ -54,8 +54,8 @@ REFUSED = 0.06
 
 
 class Scope:
-    """The variables that a statement may name: ints and those of them that it keeps; those that hold a Cell, and receivers of its
-    methods; arrays of 6 ints, and of 4 Cells; and the own method that takes an int, with the fields that it may change."""
+    """What a statement may name: ints, and those of them that it keeps; variables that hold a Cell, and receivers of its methods;
+    arrays of 6 ints, and of 4 Cells. Then the own method that takes an int, with the fields that it may change."""
 
     def __init__(self, ints, cells=(), receivers=(), rows=(), shelves=(), own='', fields=()):
         self.ints, self.kept, self.cells, self.receivers = ints, (), cells, receivers

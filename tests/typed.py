@@ -12,7 +12,7 @@ CONTROLS = re.compile(r'\x1b\[[0-9;?>=]*[a-zA-Z]|\x1b[()][0-9A-B]|\x1b\][^\x07]*
 
 
 def completed(words, line, prompt):
-    """The line to which a shell, which these words start, completes what is typed: a tab is the key for that. The shell's prompt tells
+    """The line to which a shell, which these words start, completes what is typed: a tab is the key for that. The shell's prompt shows
     when it is ready. In front of the line comes `echo` before it is entered, so the shell prints it; what is printed has no quotes."""
     process, terminal = pty.fork()
     if process == 0:

@@ -12,6 +12,6 @@ from .messages import placed
 
 
 def of_refusal(text: bytes, number: int, at: Optional[int]) -> Message:
-    """The message, and the way out; a page of the latter that the reader does not have is left out."""
+    """The message, and how to fix it; a page that the reader does not have is left out."""
     found = refusal_in_general(text, number, at)
     return found._replace(fix=placed(found.fix))

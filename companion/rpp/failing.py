@@ -144,8 +144,8 @@ def at_end_of_body(run: SourceRun, source: Source, here: Statement, is_back: boo
 
 
 def touched(source: Source, here: Statement, is_back: bool, frames: Sequence[Frame], moment: Moment) -> Optional[FailedTest]:
-    """The first argument or receiver of a call that is a field and no longer 0 or nil at this moment, as the body of the method has ended;
-    the variables are the fields of the caller."""
+    """The first argument or receiver of a call that is a field and no longer 0 or nil, at the moment when the body of the method has
+    ended. The variables are the fields of the caller."""
     slots = Slots.over(source, Names(source))
     place, name = source.tokens[here.first].at, slots.method_named(here)
     caller = next((each for each in frames if each.depth == moment.point.depth - 1), None)

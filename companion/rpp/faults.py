@@ -27,9 +27,9 @@ class Failing(NamedTuple):
 
 
 class FaultPlaces(NamedTuple):
-    """`statement` is the place of the statement that fails; `point`, `moment` and `frames` are what `trace` shows of the
-    last one that began; `is_back` says whether the body of the statement that fails runs backward; `test` is the test that fails
-    at its end, if it is one, and `index` as in Failing. What could not be found is None, and `why` says why."""
+    """`statement` is the place of the statement that fails. `point`, `moment` and `frames` are what `trace` shows of the last one
+    that began. `is_back` says whether the body of the statement that fails runs backward. `test` is the test that fails at its end,
+    if it is one, and `index` is as in Failing. What could not be found is None, and `why` says why."""
     statement: Optional[int]
     point: Optional[Point]
     moment: Optional[Moment]

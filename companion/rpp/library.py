@@ -62,8 +62,8 @@ class Object:
 
 
 class Outcome:
-    """How a run ended. `kind` is 'done', 'fault' or 'bound'; a run that is done has `fields`, `live` and `objects`; `steps` or
-    `cost` say what it took; `fault` is a Fault; `back` is the outcome of running back, where that was asked for."""
+    """How a run ended. `kind` is 'done', 'fault' or 'bound'. A run that is done has `fields`, `live` and `objects`. `steps` or
+    `cost` say what it took. `fault` is a Fault. `back` is the outcome of running back, if that was asked for."""
 
     def __init__(self, told: Told, result: Result, back: Optional['Outcome'] = None):
         self.kind, self.output, self.back = told.kind, told.output, back

@@ -91,7 +91,7 @@ class Live(Closing):
                 timer.cancel()
 
     def served(self, line: str, seconds: Optional[float] = None) -> Optional[Reply]:
-        """The reply to a request that not every program has; None, and the session as it was, where this one lacks it."""
+        """The reply to a request that not every program has. If this one does not, None, and the session is as it was."""
         word = next(each for each in line.split() if each != 'back')
         if word in self._lacks or len(line) >= LONGEST:
             return None

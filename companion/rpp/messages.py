@@ -22,8 +22,8 @@ FIRST_LINES = [
 
 
 class Told(NamedTuple):
-    """An answer, taken apart. `kind` is done, refused, fault, bound, words, read, write, memory or left; `at` is the place
-    of a refusal (a byte of a source, an image or a state; a line of an assembly text, an input or a script)."""
+    """An answer, taken apart. `kind` is done, refused, fault, bound, words, read, write, memory or left. `at` is the place of a
+    refusal: a byte of a source, an image or a state, or a line of an assembly text, an input or a script."""
     kind: str
     status: int
     output: str

@@ -49,7 +49,7 @@ class Group(NamedTuple):
 
 
 class Scene:
-    """What stands where a session does; `failed` is the statement that fails there, where a fault stopped the run."""
+    """What is there at the position of a session. `failed` is the statement that fails there, if a fault stopped the run."""
 
     def __init__(self, session: Session, statements: Statements, counting: Counting, failed: Optional[Failing] = None):
         self.session = session

@@ -503,8 +503,8 @@ class Session(Closing):
         return self._stand(self.run.end(), 'end', FAR) if is_last and not back else None
 
     def _watched(self, path: str, back: bool) -> Tuple[str, Callable[[Moment], str]]:
-        """What is watched, with the number of its object if it is a field of the current one; and what says of a moment, in a sentence,
-        how the value differs from what it is here, or ''."""
+        """What is watched, with the number of its object if it is a field of the current one. The second result says of a moment, in a
+        sentence, how the value differs from what it is here, or ''."""
         here, depth = self.value(path), self.point.depth
         number, named = self._owner(path), path
         if number is not None:

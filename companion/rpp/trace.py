@@ -238,8 +238,8 @@ class SourceRun(Closing):
         return [walked[at + 2:at + 2 + count] for at in range(0, len(walked), 2 + count)]
 
     def affordable(self, seconds: float, position: int) -> int:
-        """About how many lines of a script the program carries out at this position in this time, as it did the last ones;
-        farther on they are taken to cost more in proportion, until some were measured there. To a session all positions are near."""
+        """About how many lines of a script the program carries out at this position in this time, as it did the last ones. Farther
+        on they are taken to cost more in proportion, until some were measured there. To a session all positions are near."""
         farther = max(1.0, (position + 1000) / (self._paced_at + 1000)) if self._live is None else 1.0
         return int(max(4.0, min(MOST_LINES, seconds / max(self._pace * farther, 1e-6))))
 

@@ -111,7 +111,7 @@ class Page:
     # ---- opening, and waiting
 
     def open(self, fragment='', query='', file=None, clears=True):
-        """Opens the page anew; what it kept of the last visit is cleared first, if not told otherwise."""
+        """Opens the page again. What it kept of the last visit is cleared first, unless `clears` is false."""
         address = f'file://{file or self.file}{query}{fragment}'
         if clears:
             self.clear()

@@ -54,7 +54,7 @@ def up_from(page):
 
 
 class Site:
-    """The site while it is built. A page is wanted before it is made; what a made page links to is wanted then."""
+    """The site while it is built. A page is asked for before it is made, and what it links to is asked for then."""
 
     def __init__(self, top, folder):
         self.top, self.folder = top, folder

@@ -1,5 +1,5 @@
-"""The exercises of the course, docs/learn/exercises: each is a text that the program accepts and that is not yet solved; the
-solution of examples/solutions solves it; and the answer to a wrong solution says why."""
+"""The exercises of the course, docs/learn/exercises. The program accepts each, and it is not yet solved. The solution of
+examples/solutions solves it, and the answer to a wrong solution says why."""
 import os
 import re
 import unittest
@@ -17,8 +17,8 @@ Edits = Tuple[Tuple[str, str], ...]
 
 
 class Solved(NamedTuple):
-    """How an exercise is solved, and how it is not: the file of the solutions page and the edits that make it the solution (of a
-    question, which has no file, the edits of the exercise); and an edit of the solution that is wrong, with words that say why."""
+    """How an exercise is solved, and how it is not: the file of the solutions page, and the edits that make it the solution. A
+    question has no file, and these are edits of the exercise. Then an edit of the solution that is wrong, with words that say why."""
     file: str
     edits: Edits
     wrong: Edits

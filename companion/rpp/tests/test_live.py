@@ -1,4 +1,4 @@
-"""Sessions that are held open: the client over a stand-in, which needs no program; and the program, where there is one: a session of
+"""Sessions that are held open: the client over a mock, which needs no program, and the program, if there is one. A session of
 random moves gives what `trace` gives, and stays one session."""
 import os
 import random

@@ -67,7 +67,7 @@ class Rules(Case):
         self.assertEqual(fault(1).link, 'docs/reference/messages.md#fault-1-fi')
 
     def test_pages_are_named_where_the_reader_has_them(self):
-        """Of a package without documents the pages are those of the companion's own folder; a page that is not there is not named."""
+        """In a package without documents the pages are those of the companion's own folder. A page that is not there is not named."""
         copy, page = os.path.join(self.folder, 'rpp'), os.path.join('docs', 'learn', 'from-janus.md')
         shutil.copytree(PACKAGE, copy, ignore=shutil.ignore_patterns('__pycache__', 'tests'))
         sources = [self.write(f'{at}.rpp', f'class P int x int y method main() {each}')
