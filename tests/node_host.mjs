@@ -85,7 +85,7 @@ const TESTS = {
     fs.writeFileSync(path.join(folder, 'file'), '');
     assert.equal(open(path.join(folder, 'file', 'below'), 0), -5);
   },
-  'words are given where there is room': () => {
+  'words are given where there is space': () => {
     assert.equal(outside.word(2n, BigInt(AT), 10n), 2n);
     assert.equal(bytesAt(AT, 2).toString(), '\u00e9');
     assert.equal(outside.word(1n, BigInt(AT), 1n), -2n);

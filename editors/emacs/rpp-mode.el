@@ -13,9 +13,9 @@
 
 (defgroup rpp nil "Programs in ROOPL++." :group 'languages)
 
-(defcustom rpp-command "rpp" "The command that judges, serves and debugs." :type 'string)
+(defcustom rpp-command "rpp" "The command that checks, serves and debugs." :type 'string)
 
-(defcustom rpp-indent-offset 2 "How far a block stands in." :type 'integer :safe #'integerp)
+(defcustom rpp-indent-offset 2 "The columns by which a block is indented." :type 'integer :safe #'integerp)
 
 (defvar rpp-mode-font-lock-keywords
   `((,(regexp-opt '("class" "inherits" "method" "skip" "if" "then" "else" "fi" "from" "do" "loop" "until" "local"

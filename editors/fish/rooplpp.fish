@@ -1,5 +1,5 @@
-# Completion of `rooplpp` for fish: commands and files. In a form, F stands for a file and - for another word; the last one is for all
-# words that follow. tools/map writes the forms.
+# Completion of `rooplpp` for fish: commands and files. In a form, F is a file and - another word; the last one is
+# for all words that follow. tools/map writes the forms.
 set -g __rooplpp_forms
 # <!-- forms -->
 set -a __rooplpp_forms 'check F -'

@@ -1,5 +1,5 @@
 " Vim for ROOPL++ (*.rpp): comments, `:make`, jumps between the words of a statement, and in Neovim the language server.
-" g:rpp_command names the command where it is not `rpp`; g:rpp_language_server = 0 leaves the server out.
+" g:rpp_command names the command if it is not `rpp`; g:rpp_language_server = 0 leaves the server out.
 if exists("b:did_ftplugin") | finish | endif
 let b:did_ftplugin = 1
 let s:keep = &cpo

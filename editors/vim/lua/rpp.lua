@@ -26,7 +26,7 @@ function rpp.attach()
   return rpp.client
 end
 
--- Tells nvim-dap how to debug a program: `require('rpp').debugging()` in the configuration.
+-- Makes nvim-dap able to debug a program: `require('rpp').debugging()` in the configuration.
 function rpp.debugging()
   local dap = require('dap')
   dap.adapters.rpp = { type = 'executable', command = command(), args = { 'dap' } }
