@@ -3,7 +3,7 @@
     program = Program.found()                       # raises NoProgram, whose text says what to do
     answer = program.call('check', 'list.rpp')
     answer.status, answer.output                    # 0, 'accepted\\n'
-    with program.folder() as folder:                # a folder for scripts and images, which is taken away again
+    with program.folder() as folder:                # a folder for scripts and images, which is removed at the end
         script = folder.write('script', 'step 1\\n')
         program.call('trace', 'list.rpp', 12, 64, script)
 

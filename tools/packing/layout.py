@@ -73,7 +73,7 @@ def tree(programs, proved):
 
 
 def put(files, prefix):
-    """Puts the files below a prefix, with a list of them. An earlier installation there is taken away first."""
+    """Puts the files below a prefix, with a list of them. An earlier installation there is removed first."""
     if os.path.isfile(os.path.join(prefix, LIST)):
         take_away(prefix)
     made = [f'{folder}/' for folder in SHARED if not os.path.isdir(os.path.join(prefix, folder))]
