@@ -82,7 +82,7 @@ class SourcePrompt(Prompt):
         self.moved(lambda: self.session.go(wanted))
 
     def do_break(self, arg: str) -> None:
-        """break [LINE | METHOD] [if EXPR]: stop at this line, or where METHOD begins, if EXPR is not 0; lists all without arguments."""
+        """break [LINE | METHOD] [if EXPR]: stops at this line, or where METHOD begins, if EXPR is not 0; without arguments, lists all."""
         if not arg:
             self.say([show.breakpoint_title(each) for each in self.session.breakpoints] or ['there are no breakpoints'])
             return
@@ -122,7 +122,7 @@ class SourcePrompt(Prompt):
         self.moved(lambda: (self.session.watch_back if back else self.session.watch)(words[-1]))
 
     def do_print(self, arg: str) -> None:
-        """print [EXPR]: all variables; or a value: NAME, #K, a path as list.head.data and row[2], or an expression as row[i] - 2 * n."""
+        """print [EXPR]: all variables; or a value: NAME, #K, a path such as list.head.data or row[2], or row[i] - 2 * n."""
         moment = self.moment_chosen()
         self.say(show.value_lines(moment, arg) if arg else show.variable_lines(moment))
 

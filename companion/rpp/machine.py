@@ -97,17 +97,17 @@ class MachinePrompt(Prompt):
         self.here()
 
     def do_until(self, arg: str) -> None:
-        """until PC: on until the machine is at this cell."""
+        """until PC: on until the machine is at this code address."""
         self.sought([number_of(arg)], back=False)
 
     def do_break(self, arg: str) -> None:
-        """break [PC]: stop at this cell; without PC, lists the breakpoints."""
+        """break [PC]: stops at this code address; without PC, lists the breakpoints."""
         if arg:
             self.breaks = sorted(set(self.breaks) | {number_of(arg)})
         self.say([f'breakpoints at {", ".join(str(pc) for pc in self.breaks)}' if self.breaks else 'there are no breakpoints'])
 
     def do_clear(self, arg: str) -> None:
-        """clear [PC]: removes the breakpoint at this cell, or all."""
+        """clear [PC]: removes the breakpoint at this code address, or all."""
         self.breaks = [pc for pc in self.breaks if arg and pc != number_of(arg)]
 
     def do_continue(self, _arg: str) -> None:
@@ -147,13 +147,13 @@ class MachinePrompt(Prompt):
         self.say(output.rstrip('\n').split('\n')[1:])
 
     def do_cells(self, arg: str) -> None:
-        """cells A [N]: N cells of the memory from A on."""
+        """cells A [N]: N memory cells from address A on."""
         words = arg.split() + ['1']
         found = self.run.cells(self.standing.position, number_of(words[0]), number_of(words[1]))
         self.say([f'cell {number} = {value}' for number, value in found.items()] or ['there are no such cells'])
 
     def do_print(self, arg: str) -> None:
-        """print [NAME]: the int fields of the main object, or $K, a field, or the cell with this number."""
+        """print [NAME]: the int fields of the main object; or register $K, a field, or the memory cell with this number."""
         names = [arg] if arg else list(self.listing.names)
         if not names:
             self.say(['the image has no names of fields'])
@@ -163,7 +163,7 @@ class MachinePrompt(Prompt):
             self.say([f'{name} = {read[1](output)}'])
 
     def do_watch(self, arg: str) -> None:
-        """watch [back] $K, NAME or A: on to where the register, the field or the cell has changed, or back to where it had not."""
+        """watch [back] $K, NAME or A: on to where the register, field or memory cell has changed; with `back`, to before that."""
         words = arg.split()
         back = words[:1] == ['back']
         if len(words) != 1 + back:
@@ -209,7 +209,7 @@ class MachinePrompt(Prompt):
             self.say([f'{mark}{cell:6d} | {self.listing.code[cell]}'])
 
     def do_where(self, _arg: str) -> None:
-        """where: where the machine is."""
+        """where: the position, the code address and the instruction there."""
         self.here()
 
 
