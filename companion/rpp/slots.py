@@ -408,20 +408,56 @@ class Slots:
         statement = self.statement()
         if statement is None:
             return {}
-        uses = [self.word_at(each) for each in self.variables(statement)]
-        twice = next((name for name in uses if uses.count(name) > 1), '')
-        place = self.place_of(statement, 0)
         if statement.form in ('call', 'uncall'):
-            return {'receiver': self.word}
-        if statement.form == 'swap':
-            return {'exchanged': twice}
-        if place is not None and self.word_at(place) == twice and self.word_at(place + 1) == '[':
-            value = [each for each in self.variables(statement) if self.word_at(each) == twice]
-            is_in_index = value[1] <= end_of_place(self.source, place)
-            return {'indexed': twice} if is_in_index else {'array': twice}
-        if statement.form == 'update' and statement.last == statement.first + 2 and self.word_at(statement.first + 1) in ('-=', '^='):
-            return {'cleared': twice}
-        return {'name': twice} if statement.form == 'update' else {'indexed': twice}
+            index = self.index_of(self.token)
+            return {'receiver': self.word, 'index': index, 'fresh': self.fresh('i')} if index else {}
+        return self.of_own_value(statement) if statement.form == 'update' else self.of_own_index(statement)
+
+    def of_own_value(self, statement: Statement):
+        """An update that reads what it changes."""
+        name, end = self.word_at(statement.first), end_of_place(self.source, statement.first)
+        place, by = self.spelled_place(statement.first), self.word_at(end + 1)
+        inside = expression(self.source, statement.first + 2, end - 1) if end > statement.first else None
+        if inside and any(each.word == name for each in inside.walk()):
+            return {'indexed': name, 'index': self.index_of(statement.first), 'fresh': self.fresh('i')}
+        value = expression(self.source, end + 2, statement.last)
+        if value is None:
+            return {}
+        written = self.spelled(value.first, value.last)
+        if not any(self.is_same(each, statement.first) for each in value.walk()):
+            return {'array': name, 'value': written, 'changed': place, 'by': by, 'fresh': self.fresh('v')}
+        if by != '+=' and self.is_same(value, statement.first):
+            return {'cleared': place}
+        part = f'({written})' if value.word in LEVEL and not value.is_closed else written
+        return {'name': place, 'new': f'{place} {by[0]} {part}', 'fresh': self.fresh('y')}
+
+    def of_own_index(self, statement: Statement):
+        """An exchange, a `copy`, a `new` or one of their inverses, with what it changes in an index or in the length."""
+        places = [self.place_of(statement, -1)] + ([self.place_of(statement, 0)] if statement.form == 'swap' else [])
+        changed = [self.word_at(each) for each in places if each is not None]
+        for whole in self.expressions(statement):
+            name = next((each.word for each in whole.walk() if each.word in changed), '')
+            if name and self.word_at(whole.first - 1) == '[':
+                form = '<=>' if statement.form == 'swap' else statement.form
+                if self.slot_of(statement, whole) == 'length':
+                    return {'measured': name, 'form': form}
+                return {'moved': name, 'form': form, 'index': self.spelled(whole.first, whole.last), 'fresh': self.fresh('i')}
+        return {}
+
+    def is_same(self, tree: Tree, place: int) -> bool:
+        """Whether an operand is the place that begins at a token, word by word."""
+        ends = [end_of_place(self.source, each) for each in (tree.at, place)]
+        words = [[self.word_at(each) for each in range(first, last + 1)] for first, last in ((tree.at, ends[0]), (place, ends[1]))]
+        return tree.word not in LEVEL and words[0] == words[1]
+
+    def index_of(self, token: int) -> str:
+        end = end_of_place(self.source, token)
+        return self.spelled(token + 2, end - 1) if end > token + 2 else ''
+
+    def fresh(self, name: str) -> str:
+        """A name that the source does not have."""
+        words = {each.text for each in self.source.tokens}
+        return next((each for each in (name, name + '1', name + '2') if each not in words), '')
 
     def of_17(self):
         statement = self.statement()

@@ -198,3 +198,46 @@ class Directions(Case):
         self.assertEqual((value['outcome'], value['name'], value['line'], value['last']['position']), ('fault', 'Index', 1, 1))
         self.assertEqual(value['message'], 'The index of `a` must be at least 0 and less than 2, and it is 2.')
 
+
+
+# A declaration of fields and a statement; the advice; what its reader writes in their place; and the values at the end by hand.
+OWN_VALUES = (
+    ('int x', 'x += 5', 'x += x', '`y += x + x`', 'int x int y', 'y += x + x', 'x = 5 y = 10'),
+    ('int x', 'x += 13', 'x -= x & 7', '`y += x - (x & 7)`', 'int x int y', 'y += x - (x & 7)', 'x = 13 y = 8'),
+    ('int x int y', 'x += 6 y += 3', 'x ^= x & y', '`y1 += x ^ (x & y)`', 'int x int y int y1', 'y1 += x ^ (x & y)', 'x = 6 y = 3 y1 = 4'),
+    ('int x', 'x += 5', 'x -= x', 'exchange it with a variable that is 0', 'int x int y', 'x <=> y', 'x = 0 y = 5'),
+    ('int x', 'x += 5', 'x ^= (x)', 'exchange it with a variable that is 0', 'int x int y', 'x <=> y', 'x = 0 y = 5'),
+    ('int[] a', 'new int[2] a a[0] += 7 a[1] += 2', 'a[1] -= a[0] + 1', '`local int v = a[0] + 1`, `a[1] -= v`, `delocal int v = a[0] + 1`',
+     'int[] a', 'local int v = a[0] + 1 a[1] -= v delocal int v = a[0] + 1', '[0] = 7 [1] = -6'),
+    ('int[] a', 'new int[2] a a[1] += 7', 'a[1] += a[1] + a[0]', '`y += a[1] + (a[1] + a[0])`', 'int[] a int y', 'y += a[1] + (a[1] + a[0])',
+     'y = 14'),
+    ('int[] a', 'new int[2] a a[1] += 7', 'a[1] ^= a[1]', 'exchange it with a variable that is 0', 'int[] a int y', 'a[1] <=> y', 'y = 7'),
+    ('int[] a', 'new int[4] a a[0] += 3', 'a[a[0]] += 5', '`local int i = a[0]` .. `delocal int i = a[0]`', 'int[] a',
+     'local int i = a[0] a[i] += 5 delocal int i = a[0]', '[0] = 3 [1] = 0 [2] = 0 [3] = 5'),
+    ('int[] a int x', 'new int[3] a a[2] += 9 x += 2', 'a[x] <=> x', '`i += x`', 'int[] a int x int i', 'i += x a[i] <=> x', 'x = 9 i = 2'),
+    ('int[] a int x', 'new int[3] a a[0] += 2 x += 8', 'a[a[0]] <=> x', '`i += a[0]`', 'int[] a int x int i', 'i += a[0] a[i] <=> x',
+     'x = 0 i = 2 #1 int[3] count 1 [0] = 2 [1] = 0 [2] = 8'),
+    ('int[] a', 'skip', 'new int[a[0] + 2] a', 'Keep the length in another variable.', 'int[] a int n', 'n += 2 new int[n] a', '[0] = 0 [1] = 0'),
+    ('E[] b E p', 'new E[2] b', 'copy E b[p = nil] p', '`i += p = nil`', 'E[] b E p int i', 'i += p = nil new E b[i] copy E b[i] p', 'i = 1'),
+    ('E[] b', 'new E[2] b', 'new E b[b[0] = nil]', '`i += b[0] = nil`', 'E[] b int i', 'i += b[0] = nil new E b[i]', 'i = 1'),
+    ('E[] b', 'new E[2] b new E b[1]', 'call b[b[0] = nil]::f()', '`local int i = b[0] = nil` .. `delocal int i = b[0] = nil`',
+     'E[] b', 'local int i = b[0] = nil call b[i]::f() delocal int i = b[0] = nil', 'k = 4'))
+
+
+class Followed(Case):
+    """What a message says to write works in both directions, and gives what was meant."""
+
+    def test_what_a_statement_changes_in_its_own_value(self):
+        for fields, before, wrong, advice, more, right, ends in OWN_VALUES:
+            with self.subTest(wrong=wrong):
+                told = json.loads(self.rpp('check', '--json', '-', stdin=self.text(fields, f'{before} {wrong}')).stdout)['sources'][0]
+                self.assertEqual((told['number'], told['message'] == REFUSAL_OF[16].sentence), (16, False))
+                self.assertIn(advice, told['fix'])
+                answer = self.program.call('turn', self.write('right.rpp', self.text(more, f'{before} {right}')), '6', '4', '100000')
+                self.assertEqual(answer.status, 0, answer.output)
+                there, back = answer.output.split('\nback ')
+                self.assertIn(f' {ends} ', f' {" ".join(there.split())} ')
+                self.assertNotRegex(back, r'= [^0n]')
+
+    def text(self, fields, body):
+        return f'class P {fields} method main() {body} class E int k method f() k += 4\n'
