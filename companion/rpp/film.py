@@ -6,7 +6,7 @@ from typing import Any, Dict, List, Optional, Tuple
 
 from .failing import FailedTest
 from .faults import failing
-from .options import Parser, Unfit, add_run_options, add_source, input_file
+from .options import Parser, Unfit, add_run_options, add_source, input_file, input_lines
 from .outline import Outline
 from .page import as_script, page, tell_refused, write_page
 from .places import Text
@@ -167,7 +167,7 @@ def main(words: List[str]) -> int:
     try:
         data, lacking = read_film(given)
     except Refused as refused:
-        return tell_refused(refused, given.source)
+        return tell_refused(refused, given.source, input_lines(given))
     write_page(out, film_page(data, lacking), *filter(None, (given.source, given.input)))
     tests = sum('end' in each for each in data['positions'])
     count = len(data['positions']) - tests

@@ -278,7 +278,7 @@ def main(words: List[str]) -> int:
         code = code_of(program, given.source)
         rows = [measured(measuring, each, code) for each in inputs]
     except Refused as refused:
-        return tell_refused(refused, given.source)
+        return tell_refused(refused, given.source, list(inputs[0]))
     if '-' not in (given.csv, given.json, given.svg):
         say(table(rows, columns()))
     if given.csv:

@@ -77,9 +77,14 @@ def input_file(given, folder: Folder) -> Optional[str]:
         words[found[1]] = found[2]
     if not words:
         return given.input
+    return folder.write('given-input', '\n'.join(input_lines(given)) + '\n')
+
+
+def input_lines(given) -> List[str]:
+    """The lines of all that is given as input."""
+    words = dict(each.split('=', 1) for each in given.assignments)
     lines: List[str] = []
     if given.input:
         with open(given.input, encoding='utf-8', errors='replace') as file:
             lines = ['' if line.split('=')[0].strip() in words else line for line in file.read().split('\n')]
-    lines += [f'{name} = {number}' for name, number in words.items()]
-    return folder.write('given-input', '\n'.join(lines) + '\n')
+    return lines + [f'{name} = {number}' for name, number in words.items()]

@@ -3,13 +3,13 @@ import html
 import json
 import os
 import sys
-from typing import Any, List
+from typing import Any, List, Sequence
 
 from .messages import refusal
 from .places import Text
 from .program import PACKAGE, keep_apart
 from .reading import shown
-from .report import failure_lines, rule_lines, source_refused
+from .report import failure_lines, input_refused, rule_lines, source_refused
 from .screen import say
 from .trace import Refused
 
@@ -60,11 +60,13 @@ def write_page(out: str, text: str, *read: str) -> None:
         file.write(text)
 
 
-def tell_refused(refused: Refused, source: str) -> int:
-    """Says why the program refused a source, or what goes with it; the status of the program."""
+def tell_refused(refused: Refused, source: str, rows: Sequence[str] = ()) -> int:
+    """Says why the program refused a source, or what goes with it, as the lines of its input; the status of the program."""
     told = refused.told
     if told.status == 3:
         lines = source_refused(shown(source), Text.read(source), told)
+    elif told.kind == 'refused' and told.name in ('UnknownField', 'BadInputLine'):
+        lines = [f'rpp: {line}' if at == 0 else line for at, line in enumerate(input_refused(source, told, list(rows)))]
     elif told.kind == 'refused':
         lines = [f'rpp: {told.first_line}'] + rule_lines(refusal(told.number))
     else:

@@ -5,7 +5,7 @@ import subprocess
 from typing import List, Optional, Set, Tuple
 
 from .frames import Statements
-from .options import Parser, Unfit, add_run_options, add_source, input_file
+from .options import Parser, Unfit, add_run_options, add_source, input_file, input_lines
 from .page import tell_refused
 from .places import decoded
 from .program import Folder, Program, keep_apart
@@ -114,7 +114,7 @@ def main(words: List[str]) -> int:
                     raise Unfit(f'the run has no position {given.at}; its last one is {session.position}')
                 svg, position = store_at(session, given.bare), session.position
         except Refused as refused:
-            return tell_refused(refused, given.source)
+            return tell_refused(refused, given.source, input_lines(given))
         if ending == '.pdf':
             write_pdf(svg, given.out, folder)
         else:

@@ -5,7 +5,8 @@ from typing import List, Tuple
 from .advice import of_refusal
 from .explain import Message
 from .failing import FailedTest
-from .messages import Told, placed, see
+from .messages import Told, placed, refusal, see
+from .names import input_fields
 from .places import Text
 from .rules import Rule
 from .screen import columns, paint, wrapped
@@ -60,6 +61,27 @@ def test_lines(file: str, text: Text, test: FailedTest) -> List[str]:
     """The test that failed, what was found, and the variables at that moment."""
     return ['The test that failed, and the variables at that moment:', *pointed_lines(file, text, test.at, test.title),
             *[f'  {name} = {value}' for name, value in test.moment.variables]]
+
+
+def input_refused(source: str, told: Told, rows: List[str]) -> List[str]:
+    """What is said of a refused input: its line, and what a line must be."""
+    lines = [f'the input is refused: {told.number} {told.name}']
+    if told.at and told.at <= len(rows):
+        lines[0] += f' at line {told.at}: {rows[told.at - 1].strip()}'
+    if told.name == 'UnknownField':
+        return lines + wrapped(fields_said(source))
+    if told.name == 'BadInputLine':
+        return lines + ['A line is NAME = NUMBER, the number from -2147483648 to 2147483647.']
+    return lines + rule_lines(refusal(told.number))
+
+
+def fields_said(source: str) -> str:
+    """The int fields that an input of a source can name."""
+    with open(source, 'rb') as file:
+        fields = input_fields(file.read())
+    if not fields:
+        return 'The main object has no int field.'
+    return f'The main object has the int fields {", ".join(fields)}, and a line names each at most once.'
 
 
 def refused_title(told: Told) -> str:

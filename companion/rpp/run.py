@@ -7,13 +7,12 @@ from typing import List, NamedTuple, Optional
 from .explain import of_fault
 from .fault_slots import Where, fault_slots
 from .faults import FaultPlaces, find_fault
-from .messages import Told, read_answer, refusal
-from .names import input_fields
+from .messages import Told, read_answer
 from .options import MOST_DEPTH, MOST_HEAP, STEPS, Parser, Unfit, add_run_options, add_source, input_file
 from .places import Text
 from .program import Interrupted, Program
 from .reading import shown, title
-from .report import failure_lines, fault_title, message_lines, pointed_lines, rule_lines, source_refused, test_lines
+from .report import failure_lines, fault_title, input_refused, message_lines, pointed_lines, source_refused, test_lines
 from .run_values import run_value
 from .screen import say, wrapped
 from .session import Frame
@@ -108,24 +107,11 @@ def bounds_refused(wanted: Wanted, told: Told) -> List[str]:
         return [f'--heap {wanted.heap}: it must be a number from 1 to {MOST_HEAP}; the heap has 2^H words']
     if told.name == 'DeepRange':
         return [f'--depth {wanted.depth}: it must be a number from 1 to {MOST_DEPTH}, the most active calls']
-    lines = [f'the input is refused: {told.number} {told.name}']
-    if told.at and wanted.inputs:
+    rows: List[str] = []
+    if wanted.inputs:
         with open(wanted.inputs, encoding='utf-8', errors='replace') as file:
             rows = file.read().split('\n')
-        lines[0] += f' at line {told.at}: {rows[told.at - 1].strip()}' if told.at <= len(rows) else ''
-    if told.name == 'UnknownField':
-        return lines + field_lines(wanted)
-    if told.name == 'BadInputLine':
-        return lines + ['A line is NAME = NUMBER, the number from -2147483648 to 2147483647.']
-    return lines + rule_lines(refusal(told.number))
-
-
-def field_lines(wanted: Wanted) -> List[str]:
-    """The int fields that an input can name."""
-    with open(wanted.source, 'rb') as file:
-        fields = input_fields(file.read())
-    return wrapped(f'The main object has the int fields {", ".join(fields)}, and a line names each at most once.' if fields else
-                   'The main object has no int field.')
+    return input_refused(wanted.source, told, rows)
 
 
 def faulted(program: Program, wanted: Wanted, told: Told) -> List[str]:

@@ -143,6 +143,15 @@ class Standing(Case):
         done = self.rpp('test', '-', stdin='//? x=1 -> x = 6, back\nclass P int x method main() x += 5\n')
         self.assertEqual((done.returncode, done.stdout.split('\n')[0]), (0, '<stdin>: all expectations hold, 1 of 1'))
 
+    def test_names_that_are_no_fields(self):
+        """Every command that takes an input names the fields that it can have."""
+        source = self.write('two.rpp', 'class P int left C c int right method main() left += 1 class C int other method f() skip')
+        for command, *more in (('run',), ('debug', '-c', 'where'), ('film',), ('heap',), ('picture', '-o', 'p.svg'), ('stat',)):
+            with self.subTest(command=command):
+                done = self.rpp(command, source, 'left=1', 'other=2', *more)
+                self.assertIn('The main object has the int fields left, right, and a line names each at most once.', done.stdout + done.stderr)
+                self.assertIn('other', done.stdout + done.stderr)
+
     def test_start_states(self):
         image, source = os.path.join(self.folder, 'counter.img'), os.path.join(EXAMPLES, 'counter.rpp')
         self.assertEqual(self.program.call('compile', source, image).status, 0)
