@@ -1,10 +1,11 @@
-"""`rpp state IMG INPUT -o STATE`: Writes a start state in which the int fields have the numbers of an input."""
+"""`rpp state IMG INPUT .. -o STATE`: Writes a start state in which the int fields have the numbers of an input."""
+import os
 import re
 import struct
-from typing import Dict, List
+from typing import Dict, List, Optional
 
 from .messages import read_answer
-from .options import DEPTH, HEAP, MOST_DEPTH, MOST_HEAP, Parser, Unfit
+from .options import ASSIGNMENT, DEPTH, HEAP, MOST_DEPTH, MOST_HEAP, Parser, Unfit
 from .program import Program, keep_apart
 from .reading import is_kept, readable, shown
 from .report import failure_lines
@@ -68,21 +69,36 @@ def parser() -> Parser:
                     epilog='The state fits only runs of this image with the same --heap and --depth. Among the commands of '
                            'the program, only `run` takes a state: `debug` and `profile` begin with the loaded memory.')
     made.add_argument('image', metavar='IMG', type=readable, help='an image; - is standard input')
-    made.add_argument('input', metavar='INPUT', type=readable, help='a file of lines NAME = NUMBER; - is standard input')
+    made.add_argument('inputs', metavar='INPUT', nargs='+', help='numbers NAME=NUMBER, or a file of such lines; - is standard input')
     made.add_argument('-o', '--out', metavar='STATE', required=True, help='the file of the state to write')
     made.add_argument('--heap', type=int, default=HEAP, metavar='H', help=f'1 to {MOST_HEAP} (default {HEAP})')
     made.add_argument('--depth', type=int, default=DEPTH, metavar='D', help=f'1 to {MOST_DEPTH} (default {DEPTH})')
     return made
 
 
+def input_file(words: List[str]) -> Optional[str]:
+    """The file that the words name; none where they are numbers."""
+    if all(ASSIGNMENT.match(each) for each in words):
+        return None
+    if len(words) > 1 or '=' in words[0] and not os.path.exists(words[0]):
+        wrong = next(each for each in words if not ASSIGNMENT.match(each))
+        raise Unfit(f'{wrong}: an input must be NAME=NUMBER, such as n=5, or one file of such lines')
+    return readable(words[0])
+
+
 def main(words: List[str]) -> int:
-    given = parser().parse_args(words)
-    if given.image == given.input and is_kept(given.image):
+    given = parser().parse_intermixed_args(words)
+    file_name, text = input_file(given.inputs), '\n'.join(given.inputs)
+    if given.image == file_name and is_kept(given.image):
         raise Unfit(f'{shown(given.image)} must not be the image and the input: it is read once')
-    keep_apart(given.out, given.image, given.input)
+    keep_apart(given.out, *filter(None, (given.image, file_name)))
+    if given.image.endswith('.rpp') and not is_kept(given.image):
+        raise Unfit(f'{given.image} is a source: name the image that `rooplpp compile {given.image} IMG` writes')
     program = Program.found()
-    with open(given.input, encoding='utf-8', errors='replace') as file:
-        numbers = read_input(file.read())
+    if file_name:
+        with open(file_name, encoding='utf-8', errors='replace') as file:
+            text = file.read()
+    numbers = read_input(text)
     state = loaded_state(program, given.image, given.heap, given.depth)
     changed = with_numbers(state, field_cells(program, given.image), numbers)
     with open(given.out, 'wb') as out:

@@ -156,6 +156,26 @@ class States(Case):
         self.assertTrue(answer.output.startswith('finished\n'))
         self.assertTrue(answer.output.endswith('count = -1\nbefore = -4\n'))
 
+    def test_the_input_is_words(self):
+        self.program.call('compile', os.path.join(EXAMPLES, 'counter.rpp'), os.path.join(self.folder, 'c.img'))
+        done = self.rpp('state', 'c.img', 'count=-4', '-o', 'c.state', 'before=7')
+        self.assertEqual((done.returncode, done.stdout.split('\n')[0]), (0, 'c.state: a start state with 2 numbers'))
+        names = [os.path.join(self.folder, name) for name in ('c.img', 'c.state', 'e.state')]
+        # (`before += count`, `count += 3`)
+        self.assertTrue(self.program.call('run', names[0], 12, 64, 1000, *names[1:]).output.endswith('count = -1\nbefore = 3\n'))
+
+    def test_words_that_are_no_input(self):
+        self.program.call('compile', os.path.join(EXAMPLES, 'counter.rpp'), os.path.join(self.folder, 'c.img'))
+        source = self.write('c.rpp', 'class P int n method main() n += 1')
+        for words, said in ((['c.img', 'count=x'], 'count=x: an input must be NAME=NUMBER, such as n=5, or one file of such lines'),
+                            (['c.img', 'count=1', 'c.rpp'], 'c.rpp: an input must be NAME=NUMBER'),
+                            (['c.img', 'count=1', 'count=2'], 'names count a second time'),
+                            ([source, 'n=3'], f'{source} is a source: name the image that `rooplpp compile {source} IMG` writes')):
+            with self.subTest(words=words):
+                done = self.rpp('state', *words, '-o', 'c.state')
+                self.assertEqual((done.returncode, os.path.exists(os.path.join(self.folder, 'c.state'))), (1, False))
+                self.assertIn(said, done.stderr)
+
     def test_names_that_are_none(self):
         self.program.call('compile', os.path.join(EXAMPLES, 'counter.rpp'), os.path.join(self.folder, 'c.img'))
         self.write('in', 'other = 1\n')
