@@ -98,7 +98,12 @@ def moments_of(run: SourceRun, most: int) -> Tuple[List[Moment], str]:
         progress(len(found))
         if not part or run.last and run.last.position < len(found):
             return found, ''
-    return found, f'--most {10 * most} shows more' if run.last is None else ''
+    # (only a move beyond shows whether there is one more, or a fault after the last one)
+    try:
+        goes_on = run.point(len(found)).position == len(found)
+    except (Interrupted, Refused):
+        goes_on = True
+    return found, f'--most {10 * most} shows more' if goes_on else ''
 
 
 def progress(count: int) -> None:
@@ -119,8 +124,17 @@ def film_data(run: SourceRun, most: int) -> Tuple[Dict[str, Any], str]:
         test = test_at_end(run)
         if test is not None:
             film.add_test(test, run.last.fault.title)
-    return {'source': as_text(run.text.content), 'name': title(run.source),
-            'positions': film.positions, 'objects': film.objects}, lacking
+    data = {'source': as_text(run.text.content), 'name': title(run.source), 'positions': film.positions, 'objects': film.objects}
+    return {**data, 'rest': goes_on_because(lacking)} if lacking else data, lacking
+
+
+def goes_on_because(lacking: str) -> str:
+    """What is said of a run whose end is not shown."""
+    return f'the run goes on: {lacking}'
+
+
+def positions_said(count: int) -> str:
+    return f'the first {count} positions' if count != 1 else 'the first position'
 
 
 def test_at_end(run: SourceRun) -> Optional[FailedTest]:
@@ -136,8 +150,12 @@ def as_text(source: bytes) -> str:
 
 
 def film_page(data: Dict[str, Any], lacking: str = '') -> str:
-    rest = f' These are the first {len(data["positions"])} positions, and the run goes on: {lacking}.' if lacking else ''
-    return page(f'{data["name"]}: the film of its run', WORDS + rest, FILES, script=SCRIPT.format(data=as_script(data)))
+    return page(f'{data["name"]}: the film of its run', film_words(data, lacking), FILES, script=SCRIPT.format(data=as_script(data)))
+
+
+def film_words(data: Dict[str, Any], lacking: str) -> str:
+    """What a page says of its film: the keys, and that the run goes on if it does."""
+    return WORDS + (f' The film has {positions_said(len(data["positions"]))}, and {goes_on_because(lacking)}.' if lacking else '')
 
 
 def parser() -> Parser:
@@ -172,5 +190,5 @@ def main(words: List[str]) -> int:
     tests = sum('end' in each for each in data['positions'])
     count = len(data['positions']) - tests
     whole = f'all {count} positions, and the test that fails' if tests else f'all {count} positions'
-    say([f'{out}: ' + (f'the first {count} positions; {lacking}' if lacking else whole)])
+    say([f'{out}: ' + (f'{positions_said(count)}, and {goes_on_because(lacking)}' if lacking else whole)])
     return 0

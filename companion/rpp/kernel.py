@@ -6,7 +6,7 @@ with it. A cell with only such a line is about the source before, or about the
 one that it names.
 
     %run n=5 --back          what `rpp run` prints
-    %film n=5                the film of the run
+    %film n=5 --most 500     the film of the run
     %inverse, %side          the inverse program; the program next to it
     %picture --at 12         the store at a position, or at the end
     %stat n=1..20            a table, and a plot
@@ -27,7 +27,7 @@ import zlib
 from typing import Dict, List, NamedTuple, Optional
 
 from .__main__ import main as rpp
-from .film import FILES, MOST_POINTS, WORDS, film_data
+from .film import FILES, MOST_POINTS, film_data, film_words, goes_on_because
 from .library import inverse
 from .options import Parser, Unfit, add_run_options, input_file
 from .page import as_script, page, tell_refused
@@ -126,13 +126,16 @@ class Notebook(Closing):
     def film(self, name: str, words: List[str]) -> List[Shown]:
         parser = Parser(prog='%film')
         add_run_options(parser)
+        parser.add_argument('--most', type=int, default=MOST_POINTS, metavar='N')
         given = parser.parse_intermixed_args(words)
+        if given.most < 1:
+            raise Unfit('--most is 1 or more')
         program = Program.found()
         with program.folder() as folder:
             with SourceRun(program, self.path(name), given.heap, given.depth, input_file(given, folder)) as run:
-                data, lacking = film_data(run, MOST_POINTS)
-        text = page(f'{name}: the film of its run', WORDS, FILES, script=FILM_SCRIPT.format(data=as_script(data)))
-        told = f'a film of {len(data["positions"])} positions' + (f'; {lacking}' if lacking else '')
+                data, lacking = film_data(run, given.most)
+        text = page(f'{name}: the film of its run', film_words(data, lacking), FILES, script=FILM_SCRIPT.format(data=as_script(data)))
+        told = f'a film of {len(data["positions"])} positions' + (f', and {goes_on_because(lacking)}' if lacking else '')
         return [Shown({'text/html': FRAME.format(page=html.escape(text, quote=True)), 'text/plain': told})]
 
     def inverse(self, name: str, _words: List[str]) -> List[Shown]:

@@ -19,6 +19,7 @@
  *     note        what the program says there besides the place, as 'fault 3 Delocal' (may be missing)
  *     end         the byte after what is marked, if that is no statement but a test that fails (may be missing)
  *   objects     the objects that positions name by their index (may be missing)
+ *   rest        what is said at the last position if the run goes on after it (may be missing)
  * options (may be missing):
  *   start       the index that is shown first
  *   keys        the target on which keys are heard: `document` for a page of its own, else the element itself is taken
@@ -540,6 +541,7 @@ globalThis.RooplFilm = (() => {
       root.innerHTML = PARTS;
       this.find = name => root.querySelector(name);
       this.last = data.positions.length - 1;
+      this.rest = data.rest;
       this.time = timePicture(data.positions);
       this.find('.film-line').prepend(this.time.picture);
       this.find('input').max = this.last;
@@ -635,7 +637,8 @@ globalThis.RooplFilm = (() => {
         element('span', {class: 'film-count'}, `${this.at} of ${this.last}`), `${place}${count}`,
         ...isEnd ? [] : [element('span', {class: position.uncalled ? 'film-tag film-undone' : 'film-tag film-forward'},
           position.uncalled ? '\u21B6 undone' : '\u2192 forward')],
-        ...position.note ? [element('strong', {class: 'film-fault'}, position.note)] : []);
+        ...position.note ? [element('strong', {class: 'film-fault'}, position.note)] : [],
+        ...this.rest && this.at === this.last ? [element('span', {class: 'film-rest'}, this.rest)] : []);
     }
 
     drawSource() {

@@ -186,6 +186,12 @@ class FilmPage(PageTest):
         self.browser.click('.film-calls li:nth-child(2) button')
         self.assertEqual(self.text('.film-count'), '8 of 13')
 
+    def test_the_last_words_of_a_film_that_was_cut(self):
+        self.opened(film, [self.written('turns.rpp', TURNS.encode()), '--most', '3'])
+        self.assertNotIn('goes on', self.text('.film-status'))
+        self.browser.press('End')
+        self.assertTrue(self.text('.film-status').endswith('the run goes on: --most 30 shows more'))
+
     def test_each_form_and_bytes_that_are_no_text(self):
         source = self.written('elements.rpp', ELEMENTS)
         path = self.opened(film, [source])

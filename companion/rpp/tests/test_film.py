@@ -60,7 +60,7 @@ class FilmTest(Folder):
     def test_run_without_end(self):
         loop = self.written('loop.rpp', b'class P int x method main() from x = 0 do x += 1 loop skip until x = 0')
         done = self.rpp('film', loop, '--most', '600')
-        self.assertEqual(done.stdout, f'{self.folder}/loop.html: the first 600 positions; --most 6000 shows more\n')
+        self.assertEqual(done.stdout, f'{self.folder}/loop.html: the first 600 positions, and the run goes on: --most 6000 shows more\n')
 
     def test_more_calls_than_trace_follows(self):
         deep = self.written('deep.rpp', b'class P int x method main() call q() method q() x += 1 call q()')
@@ -116,16 +116,29 @@ class FilmTest(Folder):
         done = self.rpp('film', source, '--heap', '4')
         self.assertEqual((done.returncode, done.stdout), (0, f'{self.folder}/turns.html: all 14 positions\n'))
         done = self.rpp('film', source, 'x=3', '--most', '2', '-o', f'{self.folder}/two.html')
-        self.assertEqual(done.stdout, f'{self.folder}/two.html: the first 2 positions; --most 20 shows more\n')
+        self.assertEqual(done.stdout, f'{self.folder}/two.html: the first 2 positions, and the run goes on: --most 20 shows more\n')
         with open(f'{self.folder}/two.html', encoding='utf-8') as file:
             page = file.read()
         self.assertIn('["x","3"]', page)
-        self.assertIn('These are the first 2 positions, and the run goes on: --most 20 shows more.</p>', page)
+        self.assertIn('The film has the first 2 positions, and the run goes on: --most 20 shows more.</p>', page)
+        self.assertIn('"rest":"the run goes on: --most 20 shows more"', page)
         with open(f'{self.folder}/turns.html', encoding='utf-8') as file:
-            self.assertNotIn('and the run goes on', file.read())
+            self.assertNotIn('the run goes on:', file.read())
         self.assertNotEqual(self.rpp('film', source, '-o', source).returncode, 0)
         with open(source, encoding='utf-8') as file:
             self.assertEqual(file.read(), TURNS)
+
+    def test_the_last_words_where_a_film_ends_with_its_run(self):
+        """A film that has exactly the positions of its run says so, with and without a fault after the last one."""
+        source = self.written('turns.rpp', TURNS.encode())
+        bad = self.written('bad.rpp', b'class P int x method main() skip from x = 1 do skip loop skip until x = 1')
+        for words, said in (([source, '--heap', '4', '--most', '14'], 'all 14 positions'), ([bad, '--most', '2'], 'all 2 positions'),
+                            ([source, '--heap', '4', '--most', '13'], 'the first 13 positions, and the run goes on: --most 130 shows more'),
+                            ([bad, '--most', '1'], 'the first position, and the run goes on: --most 10 shows more')):
+            with self.subTest(words=words):
+                self.assertEqual(self.rpp('film', *words, '-o', f'{self.folder}/f.html').stdout, f'{self.folder}/f.html: {said}\n')
+                with open(f'{self.folder}/f.html', encoding='utf-8') as file:
+                    self.assertEqual('"rest":' in file.read(), 'goes on' in said)
 
     def test_refused_source_makes_no_page(self):
         done = self.rpp('film', self.written('bad.rpp', b'class P int x method main() x += x'))

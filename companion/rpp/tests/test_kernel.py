@@ -82,6 +82,10 @@ class CellsTest(Case):
         self.assertEqual(film.data['text/plain'], 'a film of 3 positions')
         self.assertIn('sandbox="allow-scripts"', film.data['text/html'])
         self.assertNotIn('history.replaceState', film.data['text/html'])
+        film, = self.notebook.cell('%film count=4 --most 2')
+        self.assertEqual(film.data['text/plain'], 'a film of 2 positions, and the run goes on: --most 20 shows more')
+        self.assertIn('the first 2 positions, and the run goes on: --most 20 shows more.', film.data['text/html'])
+        self.assertEqual(self.text('%film --most 0', True), '--most is 1 or more')
 
     def test_completions(self):
         self.assertEqual(completions('de', 'delta'), ['delete', 'delocal', 'delta', 'destruct'])
