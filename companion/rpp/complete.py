@@ -5,14 +5,18 @@ import os
 from typing import Iterable, List, Optional, Tuple
 
 from .forms import FORMS, WORDS
+from .names import Names
 from .names import input_fields as fields_of
 from .options import Parser
 from .rules import FAULTS, REFUSALS
 from .screen import WHEN
+from .source import parsed
 
 # Arguments that are sources, and those that give numbers to fields.
 SOURCES, INPUTS = ('source', 'sources'), ('assignments', 'ranges')
 # What the names of files end with; some commands also take an image for their source.
+# Options that take names joined by commas.
+LISTS = ('results', 'measures')
 TEXTS, OF_IMAGES, WITH_IMAGES = ('.rpp',), ('.rpp', '.img'), ('debug', 'list')
 
 
@@ -45,6 +49,8 @@ def candidates(before: List[str], last: str) -> List[str]:
     words = parser_of(command.module)
     asked = option_named(words, before[-1])
     if asked is not None and asked.nargs != 0:
+        if asked.dest in LISTS:
+            return joined(last, list_of(asked.dest, before))
         return matching(last, asked.choices) if asked.choices else files(last, ('',))
     if last.startswith('-'):
         return matching(last, [name for each in words._actions for name in each.option_strings if name.startswith('--')] + [COLOUR])
@@ -71,11 +77,30 @@ def matching(last: str, words: Iterable[str]) -> List[str]:
     return [str(each) for each in words if str(each).startswith(last)]
 
 
+def joined(last: str, names: List[str]) -> List[str]:
+    """What the last of names that are joined by commas can be, with those in front; no name comes twice."""
+    front, comma, begin = last.rpartition(',')
+    return [front + comma + each for each in matching(begin, [name for name in names if name not in front.split(',')])]
+
+
+def list_of(option: str, before: List[str]) -> List[str]:
+    """The names of which an option takes some: measures, or the fields of the main object."""
+    if option == 'measures':
+        return list(importlib.import_module('rpp.measuring').MEASURES)
+    source = source_among(before)
+    if source is None:
+        return []
+    with open(source, 'rb') as file:
+        names = Names(parsed(file.read()))
+    main = next((each for each in names.source.methods() if each.name == 'main' and not each.parameters), None)
+    return [each.name for each in names.all_fields(main.owner)] if main else []
+
+
 def files(last: str, endings: Tuple[str, ...]) -> List[str]:
     """The files with one of these endings, and the folders, whose names begin so."""
     folder, begin = os.path.split(last)
     try:
-        names = sorted(os.listdir(folder or '.'))
+        names = sorted(os.listdir(os.path.expanduser(folder) or '.'))
     except OSError:
         return []
     found = []
@@ -83,7 +108,7 @@ def files(last: str, endings: Tuple[str, ...]) -> List[str]:
         path = os.path.join(folder, name)
         if not name.startswith(begin) or name.startswith('.') and not begin:
             continue
-        if os.path.isdir(path):
+        if os.path.isdir(os.path.expanduser(path)):
             found.append(f'{path}/')
         elif name.endswith(endings):
             found.append(path)
@@ -91,7 +116,8 @@ def files(last: str, endings: Tuple[str, ...]) -> List[str]:
 
 
 def source_among(before: List[str]) -> Optional[str]:
-    return next((word for word in before[1:] if os.path.isfile(word)), None)
+    paths = [os.path.expanduser(word) for word in before[1:]]
+    return next((path for path in paths if os.path.isfile(path)), None)
 
 
 def input_fields(before: List[str]) -> List[str]:

@@ -38,6 +38,14 @@ def shells_of_program(name):
     }
 
 
+def terminal_of_tests(case):
+    """The module of the repository's tests that types at a terminal."""
+    sys.path.insert(0, os.path.join(TOP, 'tests'))
+    case.addCleanup(sys.path.remove, os.path.join(TOP, 'tests'))
+    import typed
+    return typed
+
+
 class Layout(Case):
     def test_in_place(self):
         source = self.write('a.rpp', LOOSE)
@@ -245,7 +253,9 @@ class Completion(Case):
     ROWS = [(['ver'], ['version']), (['run', 'count'], ['counter.rpp']), (['run', 'counter.rpp', 'c'], ['count=']),
             (['run', 'counter.rpp', 'count=1', 'b'], ['before=']), (['check', '--br'], ['--brief']), (['help', 'TooD'], ['TooDeep']),
             (['run', '--co'], ['--color']), (['--color', 'a'], ['auto', 'always']), (['--color', 'never', 'ver'], ['version']),
-            (['stat', 'counter.rpp', ''], ['count=', 'before=']), (['stat', 'counter.rpp', '--results', 'c'], ['counter.img', 'counter.rpp']),
+            (['stat', 'counter.rpp', ''], ['count=', 'before=']), (['stat', 'counter.rpp', '--results', 'c'], ['count']),
+            (['stat', 'counter.rpp', '--results', 'before,'], ['before,count']), (['stat', 'counter.rpp', '--measures', 'steps,h'], ['steps,heap']),
+            (['stat', 'counter.rpp', '--csv', 'c'], ['counter.img', 'counter.rpp']),
             (['run', 'counter.rpp', 'before=1', 'count=2', ''], []), (['list', 'co'], ['counter.img', 'counter.rpp']), (['run', 'co'], ['counter.rpp']),
             (['check', 'counter.rpp', 'co'], ['counter.rpp']), (['test', 'co'], ['counter.img', 'counter.rpp']), (['debug', 'counter.img', ''], [])]
 
@@ -274,6 +284,29 @@ class Completion(Case):
             (['s'], ['source']), (['source', 'count'], ['counter.rpp']), (['source', 'counter.rpp', 'count'], []),
             (['source', 'counter.rpp', '1', '1', 'count'], ['counter.rpp']), (['source', 'counter.rpp', '1', '1', 'in', 'count'], []),
             (['nothing', 'count'], [])])
+
+    def test_typed_at_a_terminal(self):
+        """What is there after tabs, of files too: with spaces, below a home, and with a sign that some shells read as the end of a word."""
+        rows = (('rpp inv\tcou\t', 'rpp inverse counter.rpp'), ('rpp run counter.rpp bef\t', 'rpp run counter.rpp before='),
+                ('rpp check ./cou\t', 'rpp check ./counter.rpp'), ('rpp check two\tin\t', 'rpp check two words/in it.rpp'),
+                ('rpp check "two words/i\t', 'rpp check two words/in it.rpp'), ('rpp check ~/at\t', f'rpp check {self.folder}/at home.rpp'),
+                ('rpp check a=\tb\t', 'rpp check a=b/b=c.rpp'))
+        for name in ('two words/in it.rpp', 'at home.rpp', 'a=b/b=c.rpp'):
+            os.makedirs(os.path.join(self.folder, os.path.dirname(name)), exist_ok=True)
+            self.write(name, 'class P method main() skip')
+        settings = ['env', f'--chdir={self.folder}', f'HOME={self.folder}', f'ZDOTDIR={self.folder}', f'XDG_CONFIG_HOME={self.folder}', 'TERM=xterm',
+                    f'PATH={TOP}:{os.environ["PATH"]}', f'ROOPLPP_PROGRAM={self.program.path}']
+        self.write('.bashrc', f"source {TOP}/editors/bash/rpp.bash\nPS1='type: '\n")
+        self.write('.zshrc', f"fpath=({TOP}/editors/zsh $fpath)\nautoload -U compinit && compinit -u\nPS1='type: '\n")
+        os.makedirs(os.path.join(self.folder, 'fish'))
+        self.write('fish/config.fish', f"source {TOP}/editors/fish/rpp.fish\nfunction fish_prompt; echo -n 'type: '; end\n")
+        completed = terminal_of_tests(self).completed
+        for shell, words in (('bash', ['--rcfile', f'{self.folder}/.bashrc', '-i']), ('zsh', ['-i']), ('fish', ['-i'])):
+            with self.subTest(shell=shell):
+                if not shutil.which(shell):
+                    self.skipTest(f'there is no {shell}')
+                for keys, wanted in rows:
+                    self.assertEqual((keys, (completed([*settings, shell, *words], keys, 'type: ') or 'nothing').rstrip()), (keys, wanted))
 
     def complete_by(self, shells, rows):
         for shell, words in shells.items():
