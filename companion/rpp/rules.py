@@ -133,6 +133,7 @@ REFUSALS = (
         ('`{place}` must have the type that `{form}` names, `{made}`, not `{given}`.', 'Name another type, or another variable.'),
         ('`{updated}` must be an `int` to be updated, not `{given}`.', 'A reference changes by `new`, `delete`, `copy`, `uncopy` and '
          '`<=>`.'),
+        ('What `{name}` is updated by must be an `int`, and `{row}` is an array of them.', 'Write one of its elements, as `{row}[0]`.'),
         ('What `{name}` is updated by must be an `int`, and `{value}` is not: its type is `{given}`.', 'To get a number from an object, '
          'call a method of it that adds the number to a parameter.'),
         ('`{left_name}` and `{right_name}` must have one type to be swapped, not `{left_type}` and `{right_type}`.', 'Swap variables of '
@@ -172,9 +173,13 @@ REFUSALS = (
         'Declare an array, `int[] x` or `Node[] x`, and make it by `new`. There are no arrays of arrays: keep the rows one after the '
         'other in one array.'),
     Rule(21, 'RefusedOperator', 'Expressions must not multiply, divide or take remainders: `*`, `/` and `%` are reserved.', (
-        '`{operator}` must not be used: expressions do not {verb}.',),
-        'A product with a small number is a sum: `x + x + x`. The remainder of a number from 0 by 8 is `x & 7`. '
-        'docs/learn/from-janus.md has methods for products and quotients.'),
+        ('`{product}` must not be used: expressions do not multiply.',
+         'A product with a small number is a sum: `x + x + x`. docs/learn/from-janus.md has a method for others.'),
+        ('`{quotient}` must not be used: expressions do not divide.',
+         'A loop counts how often the divisor can be subtracted. docs/learn/from-janus.md has a method for it.'),
+        ('`{remainder}` must not be used: expressions do not take remainders.',
+         'The remainder of a number from 0 by 8 is `x & 7`. docs/learn/from-janus.md has a method for others.')),
+        'Write sums, and loops that add or subtract. docs/learn/from-janus.md has methods.'),
     Rule(22, 'LocalInOwnExpression', 'A local must not occur in its own initial or final value.', (
         ('`{final}` must not occur in its own final value, in line {line}.',
          'Compute that value from other variables. If none has it, make the local a field.'),

@@ -18,7 +18,7 @@ TRUTHS = {'true': '1', 'false': '0', 'True': '1', 'False': '0'}
 NULLS = frozenset('NULL null Null nill nul None nullptr Nil NIL undefined nothing'.split())
 FOREIGN = frozenset('string String str char float double long short byte void var let unsigned integer Integer number any i32 u32 i64 u64 '
                     'usize f32 f64 object Object List Vec ArrayList Map'.split())
-VERBS = {'*': 'multiply', '/': 'divide', '%': 'take remainders'}
+OPERATORS = {'*': 'product', '/': 'quotient', '%': 'remainder'}
 
 
 class Filled(NamedTuple):
@@ -385,8 +385,8 @@ class Slots:
         value = next((tree for tree in self.expressions(statement) if self.word_at(tree.first - 1) in ('+=', '-=', '^=')), None)
         if value is None:
             return {}
-        return {'name': self.spelled_place(statement.first), 'value': self.spelled(value.first, value.last),
-                'given': type_of(self.names, value)}
+        written, given = self.spelled(value.first, value.last), type_of(self.names, value)
+        return {'name': self.spelled_place(statement.first), 'value': written, 'given': given, 'row': written if given == 'int[]' else ''}
 
     def spelled_place(self, token: int) -> str:
         """A place with its index."""
@@ -490,7 +490,7 @@ class Slots:
         return {'name': self.word, 'type': variable.type if variable else ''}
 
     def of_21(self):
-        return {'operator': self.word, 'verb': VERBS.get(self.word, '')}
+        return {OPERATORS[self.word]: self.word} if self.word in OPERATORS else {}
 
     def of_22(self):
         statement = self.statement()

@@ -66,6 +66,8 @@ ROWS: Tuple[Tuple[str, str, str], ...] = (
     ('free dispose destroy del', 'an object ends by `delete C x`.', ''),
     ('try throw throws raise except catch finally', 'a condition that does not hold stops the run with a fault.', ''),
     ('global nonlocal extern', 'a method names the fields of its object by themselves.', 'Leave it out.'),
+    ('undo reverse invert inverse rollback rewind revert', '`uncall m(..)` runs a method backward.', 'Put the statements into a method, and uncall that.'),
+    ('begin', 'a method goes on to the next `method` or `class`, and `then`, `do`, `fi` and so on mark blocks.', 'Leave it out.'),
     ('with', 'an object for the time of a block is `construct C x` .. `destruct x`.', ''),
     ('lambda', 'a method is declared by `method`, and is no value.', ''),
     ('typedef', 'a type is `int`, a class of the source, or an array of one.', ''),
@@ -92,7 +94,7 @@ FOREIGN_METHODS = by_word(METHOD_ROWS)
 
 def foreign_word(word: str, name: str = 'x', is_method: bool = False) -> Optional[Hint]:
     """A word of other languages, and what serves in its place; with `is_method` the text has a method of this name."""
-    found = None if is_method and word in ('assert', 'require', 'ensure') else FOREIGN.get(word)
+    found = None if is_method else FOREIGN.get(word)
     if found is None:
         return None
     said, fix = found
@@ -249,6 +251,7 @@ LENGTHS = re.compile(r'\.\s*(length|len|size|count|Length)\b')
 MEMBER = re.compile(rf'\.\s*({NAME})\s*(\(?)')
 ON_ARRAY = re.compile(r'\.\s*(append|push|pop|add|remove|insert|extend|push_back|sort)\s*\(')
 AT_BEGIN = re.compile(rf'^(\s*)({NAME})\s*$')
+CHANGE = re.compile(r'\s*([-+^]?=|<=>)')
 SAME = re.compile(r'\.\s*equals\b')
 RECEIVER = re.compile(rf'({NAME})\s*$')
 DIGITS = re.compile(r'[0-9]\s*$')
@@ -276,6 +279,8 @@ def of_dot(it: Spot) -> Optional[Hint]:
         return Hint('There is no `.equals`: `=` compares references, and holds if both are of one object.', 'Let a method compare the fields.')
     if DIGITS.search(it.before):
         return Hint('There is no `.` in numbers, which are whole.', 'Count in smaller units.')
+    if member and begin and CHANGE.match(it.after[member.end():]):
+        return BYTES['.']._replace(fix='Let a method of the object change the field.')
     if member and member[2] and (begin or CALL.search(it.before)):
         return of_dot_call(it, RECEIVER.search(it.before)[1], member[1], bool(begin))
     return None

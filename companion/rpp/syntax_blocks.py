@@ -35,6 +35,8 @@ def of_missing_word(it: Place) -> Optional[Hint]:
         return foreign_word(it.word(-1), it.word())
     if missing == 'do' and it.word() in COUNTING and it.kind() == 'name':
         return Hint(f'There is no `{it.word()}`: {LOOP[0]}', LOOP[1])
+    if missing in ('then', 'do') and it.word() in UPDATES | {'<=>'}:
+        return Hint(f'A condition must be a value, and `{it.word()}` makes it a change.', 'Write the change as a statement of its own, and a comparison here.')
     if missing in ('then', 'do'):
         edits = it.changes(0, 0, missing) if it.word() in ('then', 'do') else (Edit(it.end(-1), it.end(-1), f' {missing}'),)
         return Hint(f'The `{opened.what}` of line {line} must have `{missing}` after its condition.', '', edits, f'Write `{missing}`')
@@ -42,7 +44,10 @@ def of_missing_word(it: Place) -> Optional[Hint]:
         rest = {'else': '`else` .. `fi`', 'fi': '`fi` with its assertion', 'loop': '`loop` .. `until`', 'until': '`until` with its condition',
                 'delocal': '`delocal`', 'destruct': '`destruct`'}[missing]
         where = f'before the next `{it.word()}`' if it.word() else 'before the source ends'
-        return Hint(f'The `{opened.what}` of line {line} must end {where}: {rest} is missing.')
+        words = [each.text for each in it.tokens[opened.first:it.at]]
+        is_chain = missing == 'fi' and any(words[at:at + 2] == ['else', 'if'] for at in range(0, len(words)))
+        return Hint(f'The `{opened.what}` of line {line} must end {where}: {rest} is missing.',
+                    'Each `if` has its own `else` and `fi`, also one after `else`.' if is_chain else '')
     return None
 
 
@@ -120,6 +125,8 @@ def of_statement_begin(it: Place) -> Optional[Hint]:
     if it.word() == ',':
         return Hint('There must be no `,` between statements, which follow one another.', 'Leave it out.', it.changes(0, 0, ''),
                     'Remove the `,`')
+    if it.word() in OPERATORS and it.kind(-1) == 'name' and it.word(-2) == '<=>':
+        return Hint(f'`<=>` exchanges two variables or elements, and not a value with `{it.word()}`.', 'A variable is changed by `+=`, `-=` or `^=`.')
     if it.word() in OPERATORS or it.word() in UPDATES or it.word() in ('<=>', '::', '(', '['):
         return Hint(f'A statement must not begin with `{it.word()}`: the variable that it changes comes first.')
     return None

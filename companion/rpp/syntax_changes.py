@@ -24,6 +24,10 @@ def of_update(it: Place) -> Optional[Hint]:
     if not it.is_behind_place():
         return None
     name = it.written(-1, -1) if it.word(-1) != ']' else 'the element'
+    if it.word() in OPERATOR_WORDS and it.word(1) == '=' and it.word() == 'xor':
+        return Hint('There is no `xor=`: write `^=`.', '', it.changes(0, 1, '^='), 'Write `^=`')
+    if it.word() in OPERATOR_WORDS and it.word(1) == '=':
+        return Hint(f'There is no `{it.word()}=`.', 'The changes are `+=`, `-=`, `^=` and `<=>`.')
     if it.word() == '=' and it.word(1) == 'nil':
         return Hint(f'`{name}` must not be set to nil, which would lose its reference.',
                     f'End the object by `delete C {name}`, or the reference by `uncopy C y {name}`, or move it by `<=>`.')

@@ -37,8 +37,14 @@ def of_first_word(it: Place) -> Optional[Hint]:
 
 
 def of_keyword_as_name(it: Place) -> Optional[Hint]:
-    if it.word() not in KEYWORDS or not it.expects(NAME) or it.is_value():
+    if it.word() not in KEYWORDS or not it.expects(NAME) or it.is_value() or it.word(-1) == 'destruct':
         return None
+    is_over = it.is_new_line() or it.word() in ('class', 'method')
+    if it.inside == 'local' and it.kind(-1) == 'name' and it.word(-2) in ('local', 'delocal') and is_over:
+        return None
+    if it.inside == 'field' and it.word() == 'method' and not it.is_new_line() and (it.word(-1) == 'int' or it.has_class(it.word(-1))):
+        return Hint(f'A method must have no type, and so no `{it.word(-1)}` before `method`: it has no result.',
+                    'Let it add what it computes to a parameter.', (Edit(it.begin(-1), it.begin(), ''),), f'Remove `{it.word(-1)}`')
     if it.inside == 'parameter' and it.word() == 'int' and it.kind(-1) == 'name':
         return Hint(f'A parameter must begin with its type: there is no `{it.word(-1)}`.', 'Leave it out.', (Edit(it.begin(-1), it.begin(), ''),),
                     f'Remove `{it.word(-1)}`')
@@ -64,6 +70,8 @@ def of_field(it: Place) -> Optional[Hint]:
     name = it.word(-1)
     if is_behind_field and it.word() == '(' and near_keyword(it.word(-2)) == 'method':
         return Hint(f'There is no `{it.word(-2)}`. Did you mean `method`?', '', it.changes(-2, -2, 'method'), 'Write `method`')
+    if it.expects('inherits') and it.word() == '(' and it.word(1) == ')':
+        return Hint('No parentheses must follow the name of a class.', 'Leave them out.', it.changes(0, 1, ''), 'Remove `()`')
     if it.expects('inherits') and it.word() in ('<', '('):
         edits = it.changes(0, 2, f' inherits {it.word(1)}') if it.word(2) == ')' else it.changes(0, 0, 'inherits')
         return Hint('A class names its parent by `inherits`.', f'Write `inherits {it.word(1)}`.', edits, 'Write `inherits`')
@@ -82,6 +90,24 @@ def of_field(it: Place) -> Optional[Hint]:
         way = f'`{name} += ..`' if kind == 'int' else f'`new {kind} {name}`' if kind != ']' else f'`new {it.word(-4)}[5] {name}`'
         return Hint(f'The field `{name}` must not have a value here: fields begin as 0 or nil, or by the input.', f'Write {way} in a method.')
     return None
+
+
+def of_digit_first(it: Place) -> Optional[Hint]:
+    """`int 2nd`, where a name is declared."""
+    if it.kind() != 'number' or not it.expects(NAME) or it.is_value() or it.inside not in DECLARING:
+        return None
+    name = it.written(0, 1) if it.kind(1) == 'name' and it.is_joined(0) else it.word()
+    return Hint(f'A name must begin with a letter: `{name}` begins with a digit.', 'Take another name.')
+
+
+def of_hyphen(it: Place) -> Optional[Hint]:
+    """`int my-count`, where a name is declared, and later where it is changed."""
+    is_name = it.word() == '-' and it.kind(-1) == it.kind(1) == 'name' and it.is_joined(-1) and it.is_joined(0)
+    name = f'{it.word(-1)}_{it.word(1)}'
+    is_declared = it.expects('class', 'int') or it.expects('inherits') or it.expected <= {'=', '(', ',', ')'}
+    if not is_name or not (is_declared or it.is_behind_place() and it.declared(name)):
+        return None
+    return Hint(f'A name must not have a `-`: `{name}`.', 'Use letters, digits and `_`.', it.changes(-1, 1, name), f'Write `{name}`')
 
 
 def of_head_without_method(it: Place) -> Hint:
@@ -146,6 +172,9 @@ def of_type(it: Place) -> Optional[Hint]:
         return Hint(f'A parameter must have a type: `int {it.word(-1)}`.', '', it.changes(-1, -1, f'int {it.word(-1)}'), 'Write the type')
     if it.inside == 'parameters' and it.kind(-1) == 'name' and it.word() == '[':
         return Hint(f'`{it.word(-1)}` must have its brackets after the type: `{it.word(-2)}[] {it.word(-1)}`.')
+    if it.inside == 'parameters' and it.kind(-1) == 'name' and (it.word() == 'int' or it.kind() == 'name'):
+        return Hint(f'There must be a `,` between the parameters `{it.word(-1)}` and `{it.word(1)}`.' if it.kind(1) == 'name' else
+                    'There must be a `,` between two parameters.', '', (Edit(it.end(-1), it.end(-1), ','),), 'Write `,`')
     if it.inside == 'parameters' and it.word() == '=':
         return Hint('A parameter must not have a value of its own: each call passes one.')
     return None
@@ -160,7 +189,8 @@ def of_method_head(it: Place) -> Optional[Hint]:
         return Hint(f'The method `{it.word(-1)}` must have parentheses, also where it has no parameters.', '',
                     (Edit(it.end(-1), it.end(-1), '()'),), 'Write `()`')
     if it.inside == 'method' and it.word(-1) == ')' and it.is_statement() and it.word() in ('', 'method', 'class'):
-        return Hint('A method must have at least one statement.', 'Write `skip`.', (Edit(it.end(-1), it.end(-1), '\n  skip'),),
+        fix = 'Write `skip`.' + (' No method is inside another one.' if it.word() == 'method' else '')
+        return Hint('A method must have at least one statement.', fix, (Edit(it.end(-1), it.end(-1), '\n  skip'),),
                     'Write `skip`')
     return None
 

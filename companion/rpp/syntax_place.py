@@ -64,6 +64,16 @@ class Place:
         words = [each.text for each in self.tokens]
         return any(words[at:at + 3] == ['[', ']', name] for at in range(0, len(words) - 2))
 
+    def declared(self, name: str) -> str:
+        """The type with which the text declares a name, as far as its words say; '' if none does."""
+        words = [each.text for each in self.tokens]
+        for at in range(1, len(words)):
+            if words[at] == name and words[at - 1] == ']' and words[at - 2] == '[':
+                return words[at - 3] + '[]'
+            if words[at] == name and (words[at - 1] == 'int' or self.has_class(words[at - 1])):
+                return words[at - 1]
+        return ''
+
     def has_class(self, name: str) -> bool:
         """Whether the text declares a class of this name."""
         return any(self.tokens[at].text == 'class' and self.tokens[at + 1].text == name for at in range(0, len(self.tokens) - 1))

@@ -223,6 +223,47 @@ OWN_VALUES = (
     ('E[] b', 'new E[2] b new E b[1]', 'call b[b[0] = nil]::f()', '`local int i = b[0] = nil` .. `delocal int i = b[0] = nil`',
      'E[] b', 'local int i = b[0] = nil call b[i]::f() delocal int i = b[0] = nil', 'k = 4'))
 
+# A source that is refused; the advice; what its reader writes; and what a run of that ends with, by hand.
+CELL = 'class Cell int v method add() v += 1'
+BEGINNERS = (
+    ('int[] a method main() new int[3] a delete a', '`delete int[5] a`. The length is that of its `new`.',
+     'int[] a method main() new int[3] a delete int[3] a', 'a = nil'),
+    ('Cell c Cell d method main() new Cell c copy c d', '`copy Cell c d`', 'Cell c Cell d method main() new Cell c copy Cell c d', 'd = #1'),
+    ('Cell c Cell d method main() new Cell c copy Cell c d uncopy Cell d', '`uncopy Cell x d`',
+     'Cell c Cell d method main() new Cell c copy Cell c d uncopy Cell c d', 'd = nil'),
+    ('Cell c method main() new Cell c\n c.v += 5', 'Let a method of the object change the field.',
+     'Cell c method main() new Cell c call c::add()', 'v = 1'),
+    ('Cell c method main() new Cell c uncall c add()', '`call c::add(..)`', 'Cell c method main() new Cell c uncall c::add()', 'v = -1'),
+    ('int x method main() x += 7 call f() undo f() method f() x += 2', '`uncall m(..)` runs a method backward.',
+     'int x method main() x += 7 call f() uncall f() method f() x += 2', 'x = 7'),
+    ('int x method main() reverse x += 1 end', 'Put the statements into a method, and uncall that.',
+     'int x method main() uncall f() method f() x += 1', 'x = -1'),
+    ('int x method main() local int n = 4 x += n delocal n', '`delocal int n = 4`',
+     'int x method main() local int n = 4 x += n delocal int n = 4', 'x = 4'),
+    ('int x method main() construct Cell c x += 1 destruct', '`destruct c`', 'int x method main() construct Cell c x += 1 destruct c', 'x = 1'),
+    ('int x method main() if x += 1 then skip else skip fi x = 1', 'Write the change as a statement of its own, and a comparison here.',
+     'int x method main() x += 1 if x = 1 then skip else skip fi x = 1', 'x = 1'),
+    ('int my-count method main() my-count += 1', '`my_count`', 'int my_count method main() my_count += 1', 'my_count = 1'),
+    ('int[] a int x method main() new int[2] a a[0] += 6 x += a', 'as `a[0]`',
+     'int[] a int x method main() new int[2] a a[0] += 6 x += a[0]', 'x = 6'),
+    ('int x int y method main() x += 9 y += x / 2', 'A loop counts how often the divisor can be subtracted.',
+     'int x int y method main() x += 9 from y = 0 do skip loop x -= 2 y += 1 until x < 2', 'x = 1 y = 4'),
+    ('int x int y method main() x += 13 y += x % 8', 'The remainder of a number from 0 by 8 is `x & 7`.',
+     'int x int y method main() x += 13 y += x & 7', 'x = 13 y = 5'),
+    ('int x int y method main() x += 13 y += x * 3', 'A product with a small number is a sum: `x + x + x`.',
+     'int x int y method main() x += 13 y += x + x + x', 'x = 13 y = 39'),
+    ('Cell[] a method main() new Cell[2] a new a[1]', '`new Cell a[1]`', 'Cell[] a method main() new Cell[2] a new Cell a[1]', '[1] = #2'),
+    ('Cell[] a method main() new Cell[2] a new Cell a[1] delete a[1]', '`delete Cell a[1]`',
+     'Cell[] a method main() new Cell[2] a new Cell a[1] delete Cell a[1]', '[1] = nil'),
+    ('int x method main() local int n = 2 call f(n += 1) delocal int n = 4 method f(int k) k += 1 x += k',
+     'Write the change as a statement before the call.',
+     'int x method main() local int n = 2 n += 1 call f(n) delocal int n = 4 method f(int k) k += 1 x += k', 'x = 4'),
+    ('int x method main() if x = 0 then x += 1 else if x = 1 then x += 2 else skip fi x = 3', 'Each `if` has its own `else` and `fi`',
+     'int x method main() if x = 0 then x += 1 else if x = 1 then x += 2 else skip fi x = 3 fi x = 1', 'x = 1'),
+    ('int c int d method main() d += 3 c xor= d', 'write `^=`', 'int c int d method main() d += 3 c ^= d', 'c = 3'),
+    ('int c int d method main() d += 3 c <=> d + 1', 'A variable is changed by `+=`, `-=` or `^=`.', 'int c int d method main() d += 3 c += d + 1',
+     'c = 4'))
+
 
 class Followed(Case):
     """What a message says to write works in both directions, and gives what was meant."""
@@ -241,3 +282,14 @@ class Followed(Case):
 
     def text(self, fields, body):
         return f'class P {fields} method main() {body} class E int k method f() k += 4\n'
+
+    def test_what_beginners_write(self):
+        for wrong, advice, right, ends in BEGINNERS:
+            with self.subTest(wrong=wrong):
+                told = json.loads(self.rpp('check', '--json', '-', stdin=f'class P {wrong} {CELL}\n').stdout)['sources'][0]
+                self.assertIn(advice, f'{told["message"]} {told.get("fix", "")}')
+                answer = self.program.call('turn', self.write('right.rpp', f'class P {right} {CELL}\n'), '6', '4', '100000')
+                self.assertEqual(answer.status, 0, answer.output)
+                there, back = answer.output.split('\nback ')
+                self.assertIn(f' {ends} ', f' {" ".join(there.split())} ')
+                self.assertNotRegex(back, r'= [^0n]')
