@@ -20,6 +20,19 @@ AFTER_CALLS = (
     ('class P\n  int x\n  C c\nmethod main()\n  new C c\n  if x = 0 then\n    call c::up(x)\n  else\n    skip\n  fi x = 0\nclass C\n  int v\nmethod up(int by)\n'
      '  v += 3\n  by += 1\n', 'x is 1, so x = 0 does not hold', ''),
 )
+PAIR, ROW = 'class P\n  int x\n  C c\nmethod main()\n', 'class P\n  int x\n  int[] a\nmethod main()\n'
+PUT = 'class C\n  int v\nmethod put()\n  v += 3\n'
+# Texts whose condition fails after a statement that changed an object, and what is drawn of that moment, worked out by hand.
+AFTER_CHANGES = (
+    (PAIR + '  new C c\n  if x = 0 then\n    x += 1\n    call c::put()\n  else\n    skip\n  fi x = 0\n' + PUT,
+     {'#1 P': {'x': '1', 'c': '#2'}, '#2 C': {'v': '3'}, 'P::main': {}}),
+    (PAIR + '  local int t = 1\n    new C c\n  delocal int t = x\n' + PUT, {'#1 P': {'x': '0', 'c': '#2'}, '#2 C': {'v': '0'}, 'P::main': {'t': '1'}}),
+    (PAIR + '  new C c\n  local int t = 1\n    delete C c\n  delocal int t = 2\n' + PUT, {'#1 P': {'x': '0', 'c': 'nil'}, 'P::main': {'t': '1'}}),
+    (ROW + '  new int[2] a\n  from a[0] = 0 do\n    x += 1\n  loop\n    x -= 1\n    a[1] += 5\n  until x = 3\n',
+     {'#1 P': {'x': '0', 'a': '#2'}, '#2 int[2]': {'[0]': '0', '[1]': '5'}, 'P::main': {}}),
+    (PAIR + '  uncall q()\nmethod q()\n  if x = 1 then\n    delete C c\n  else\n    skip\n  fi x = 0\n' + PUT,
+     {'#1 P': {'x': '0', 'c': '#2'}, '#2 C': {'v': '0'}, 'P::q': {}}),
+)
 MARK = re.compile(r'(@[A-Z])')
 # From here on the page counts what it sends to its worker: calls by their first word, and what sessions are asked.
 COUNTS = '''
@@ -161,4 +174,17 @@ def a_test_after_a_call_is_in_its_method(page):
         holds(told in page.text('#problems') and 'way back,' not in page.text('#problems'), page.text('#problems'))
 
 
-TESTS = (sessions_reply_as_documented, a_run_has_one_session, a_window_is_asked_for_once, a_session_that_ended_begins_again, a_long_run_opens, a_test_after_a_call_is_in_its_method)
+def objects_at_a_failed_condition_are_drawn(page):
+    """Where a condition fails, the picture has the objects of that moment. The move back shows them as they were before."""
+    for text, store in AFTER_CHANGES:
+        page.write(text)
+        page.go('end')
+        equal(page.store(), store, text)
+        page.go('step-back')
+        holds(page.store() != store, f'the last statement changes nothing that is drawn: {text}')
+        page.go('step-on')
+        equal(page.store(), store, f'after a move back and on: {text}')
+
+
+TESTS = (sessions_reply_as_documented, a_run_has_one_session, a_window_is_asked_for_once, a_session_that_ended_begins_again, a_long_run_opens,
+         a_test_after_a_call_is_in_its_method, objects_at_a_failed_condition_are_drawn)
