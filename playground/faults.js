@@ -17,34 +17,37 @@ function withNumbers(image, listing, numbers) {
 // The fault of a run: its number and name, the place of its statement if the program names it, and what a failed test
 // says. `machine` is what `go` answered, `runImage` runs the image, `sessionOf` gives a session of another text.
 async function findFault(run, machine, runImage, sessionOf) {
-  const fault = faultOf(machine.text), told = run.note ? await run.failing() : undefined;
-  fault.isUndone = run.undone[run.last];
-  if (told?.number !== fault.number) {
-    const from = /^from (\d+)$/m.exec((await runImage()).text);
-    if (from) fault.place = Number(from[1]);
-    return fault;
+  const fault = faultOf(machine.text), told = run.failing?.number === fault.number ? run.failing : undefined;
+  const from = told ? undefined : /^from (\d+)$/m.exec((await runImage()).text)?.[1];
+  fault.place = told?.place ?? (from && Number(from));
+  if (TESTS[told?.word] && told.number <= DELOCAL) {
+    const test = testOf(run.source, told);
+    run.test = run.last + 1;
+    run.add(byteOf(run.text, run.source.tokens[test.keyword].at), told.depth);
+    run.looks.set(run.test, { printed: told.printed + await objectsAtTest(run, told, sessionOf) });
+    fault.failure = failureOf(run, told, test);
   }
-  fault.place = told.place;
-  if (!TESTS[told.word] || told.number > DELOCAL) return fault;
-  const first = run.source.first(told.place), objects = await objectsAtTest(run, first, told, sessionOf);
-  const look = { variables: told.variables, objects };
-  fault.failure = new Failure(run.source, first, told, look);
-  run.addTest(byteOf(run.text, fault.failure.at), told.depth, look);
-  fault.isUndone = run.undone[run.last];
-  return fault;
+  return { ...fault, isUndone: run.undone[run.last] };
 }
 
-// The objects at a test that failed. `fault` does not say them, and the last position is the one before the last
-// statement. So the run is made once more with a `skip` between that statement and the test.
-async function objectsAtTest(run, first, told, sessionOf) {
-  const text = withSkip(run.source, first, told);
-  if (text) {
-    const session = sessionOf(text), { replies } = await session.ask(() => [TO_THE_END, ...run.cellLines]);
-    session.end();
-    if (replies[0]?.last === 'fault') return new Look(0, { variables: '', objects: replies.slice(1).map(it => it.text).join('') }, run.known).objects;
-  }
-  await run.ask([run.last]);
-  return run.looks.get(run.last)?.objects ?? new Map();
+// The objects at a test that failed, as they are printed. `fault` does not say them, and the last position is the one
+// before the last statement. So the run is made once more with a `skip` between that statement and the test.
+async function objectsAtTest(run, told, sessionOf) {
+  const text = withSkip(run.source, told), session = text ? sessionOf(text) : run.session;
+  const { replies } = await session.ask(at => [text ? TO_THE_END : moveTo(at, run.test - 1), ...run.cellLines]);
+  if (text) session.end();
+  return replies.slice(1).map(it => it.text).join('');
+}
+
+// The text with a `skip` between a test that failed and the last statement before it, on the same line. Nothing if
+// there is no such statement: then the statement of the test began at the last position.
+function withSkip(source, { place, word, needed }) {
+  const first = source.first(place), { middle, closer } = source.parts(first), isTrue = needed === 'true';
+  const before = { fi: isTrue ? middle[1] : closer, from: isTrue ? undefined : closer, delocal: closer }[word];
+  const after = { if: middle[isTrue ? 0 : 1], until: isTrue ? undefined : middle[1], local: source.afterHead(first) - 1 }[word];
+  if (before === undefined && after === undefined) return undefined;
+  const at = before === undefined ? source.tokens[after].end : source.tokens[before].at;
+  return `${source.text.slice(0, at)} skip ${source.text.slice(at)}`;
 }
 
 // The faults of `new`. Where a `construct` fails with another one, what fails is its `delete`.

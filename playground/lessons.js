@@ -82,7 +82,7 @@ class Lessons {
 // Why a program does not meet a rule on its text, or nothing.
 function brokenRule({ kind, parts, method }, run) {
   if (kind === 'fields') {
-    const own = run.start.map(([name]) => name), isSame = parts.length === own.length && parts.every(name => own.includes(name));
+    const own = run.object(0, '#1').cells.map(([name]) => name), isSame = parts.length === own.length && parts.every(name => own.includes(name));
     return isSame ? undefined : `The main class must have exactly the fields ${parts.join(', ')}.`;
   }
   const words = parts.at(-1), where = method ? ` in ${method}` : '', count = occurrences(run.source, words.match(TOKEN), method);

@@ -61,7 +61,7 @@ class ListingView {
 
   // Whether the code of a statement is entered at a position, and not gone on with.
   isEntry(index) {
-    const words = this.run.source.statement(this.run.places[index])?.words ?? [];
+    const words = this.run.words(index);
     const many = words[0] === 'construct' ? POINTS.construct : /call$/.test(words[0]) && words[2] === '[' ? POINTS.element : 1;
     if (many === 1) return true;
     const key = `${this.run.callers[index]} ${this.run.places[index]}`, count = this.seen.get(key) ?? 0;
@@ -82,7 +82,7 @@ class ListingView {
     const { run } = this, script = [`step ${this.walked}\n`], wanted = [], behind = Math.min(this.asked + ALIGNED_AT_ONCE, run.last + 1);
     for (let at = this.asked; at < behind; at++) {
       const mark = this.byPlace.get(run.places[at]);
-      if (!mark || run.isTest(at) || !this.isEntry(at)) continue;
+      if (!mark || at === run.test || !this.isEntry(at)) continue;
       script.push(`to ${run.undone[at] ? mark.behind - 1 : mark.first} ${FAR}\n`);
       wanted.push(at);
     }

@@ -63,16 +63,16 @@ class OutputView {
 
   show(index) {
     this.at = index;
-    const { run } = this, isEnd = run.isWhole, objects = run.looks.get(run.last)?.objects ?? new Map();
-    const heads = ['field', 'at the start', `here, ${index}`, run.note ? 'where it stops' : isEnd ? 'at the end' : `at ${run.last}`];
-    const fieldsAt = at => new Map(run.object(at, '#1')?.cells), start = new Map(run.start), now = fieldsAt(index), last = fieldsAt(run.last);
+    const { run } = this, isEnd = run.isWhole, objects = run.look(run.last)?.objects ?? new Map();
+    const heads = ['field', 'at the start', `here, ${index}`, run.failing ? 'where it stops' : isEnd ? 'at the end' : `at ${run.last}`];
+    const fieldsAt = at => new Map(run.object(at, '#1')?.cells), [start, now, last] = [0, index, run.last].map(fieldsAt);
     const kinds = (value, before, kind) => `${kind} ${value === before ? '' : 'differs'}`.trim();
     const cell = (value, before, kind = '') => made('td', { className: kinds(value, before, kind), textContent: value ?? '' });
     const row = ([name, value]) => made('tr', {}, made('th', { scope: 'row', textContent: name }), cell(value, value),
       cell(now.get(name), value, 'now'), cell(last.get(name), value));
     this.table.replaceChildren(made('table', {}, made('thead', {}, made('tr', {}, ...heads.map(it => made('th', { textContent: it, scope: 'col' })))),
       made('tbody', {}, ...[...start].map(row))));
-    const isNamed = isEnd && !run.note && this.answer.status === 0, text = this.answer.text || `status ${this.answer.status}`;
+    const isNamed = isEnd && !run.failing && this.answer.status === 0, text = this.answer.text || `status ${this.answer.status}`;
     this.printed.textContent = isNamed ? withPictureNames(text, objects) : text;
     this.keys.forEach((key, at) => key.setAttribute('aria-pressed', at === this.chosen));
     this.note.textContent = [...(isNamed && /#\d/.test(text) ? ['Objects have the names of the picture.'] : []), ...this.limits()].join(' ');

@@ -228,9 +228,8 @@ class Workbench {
 
   // A session of the run of a text.
   sessionOf(text) {
-    const [heap, depth] = this.limits;
-    return new LiveSession(this.caller, (message, isAhead) => this.send(message, isAhead), ['source', SOURCE, heap, depth, ...this.input],
-      this.files(this.inputs.numbers(), text));
+    const [heap, depth] = this.limits, send = (message, isAhead) => this.send(message, isAhead);
+    return new LiveSession(this.caller, send, ['source', SOURCE, heap, depth, ...this.input], this.files(this.inputs.numbers(), text));
   }
 
   // ---- judging and running
@@ -282,8 +281,6 @@ class Workbench {
     }
     const machine = still(await this.question(QUESTIONS[0][2])), fault = still(await this.faultOf(run, machine));
     const picture = still(await StorePicture.of(run, this.pane()));
-    run.start = await this.fieldsAt(run, 0);
-    still();
     this.run?.session.end();
     Object.assign(this, { run, fault, picture, machine, text, begun: undefined, hasInverse: false, hasListing: false });
     this.output.load(run, machine);
@@ -323,11 +320,6 @@ class Workbench {
 
   // Whether a position is the one at which the run stops with a fault.
   isFault(index) { return Boolean(this.fault) && this.run.isWhole && index === this.run.last; }
-
-  async fieldsAt(run, index) {
-    await run.ask([index]);
-    return run.object(index, '#1')?.cells ?? [];
-  }
 
   runImage() {
     const [heap, depth, steps] = this.limits;
@@ -405,7 +397,7 @@ class Workbench {
       const outer = source.statement(run.places[at]);
       if (outer) editor.markSpan(outer.at, outer.end, 'wait-place');
     }
-    const span = isFault ? spanOf(this.fault, source) : run.isTest(index) ? undefined : source.statement(run.places[index]);
+    const span = isFault ? spanOf(this.fault, source) : index === run.test ? undefined : source.statement(run.places[index]);
     if (!span) return;
     const way = run.undone[index] ? 'here undone' : 'here';
     editor.mark(span, isFault ? 'fault' : way, isFault ? '■' : run.undone[index] ? '◀' : '▶');
@@ -427,7 +419,7 @@ class Workbench {
 
   spoken() {
     const { run, fault } = this, at = this.transport.at, line = run.lineAt(at), isFault = this.isFault(at);
-    const words = run.isTest(at) ? 'a test' : run.source.statement(run.places[at])?.words.join(' ');
+    const words = at === run.test ? 'a test' : run.source.statement(run.places[at])?.words.join(' ');
     const text = line < 0 ? 'the end' : `line ${line + 1}, ${words}${run.undone[at] ? ', undone' : ''}`;
     const told = isFault ? `, fault ${fault.name}${fault.failure ? `: ${fault.failure.told.replaceAll('`', '')}` : ''}` : '';
     return `${at} of ${run.last}, ${text}${told}`;
@@ -531,7 +523,7 @@ class Workbench {
   pane() { return { width: this.canvas.clientWidth || 840, height: this.canvas.clientHeight || 600 }; }
 
   drawStore() {
-    if (!this.picture || $('store').hidden || !$('store').offsetParent || !this.run.looks.has(this.at)) return;
+    if (!this.picture || $('store').hidden || !$('store').offsetParent || !this.run.look(this.at)) return;
     const { canvas } = this, { drawn, width, height, seen } = this.picture.draw(this.at);
     const largest = document.documentElement.dataset.size === 'large' ? LARGEST.large : LARGEST.usual;
     const fit = Math.min((canvas.clientWidth - 12) / width, (canvas.clientHeight - 12) / height, largest);

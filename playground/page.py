@@ -30,7 +30,7 @@ MINIFIER = 'uglifyjs'
 PACKED = {'id': lzma.FILTER_LZMA1, 'preset': 9 | lzma.PRESET_EXTREME, 'dict_size': 1 << 22, 'lc': 4, 'lp': 0, 'pb': 0, 'nice_len': 273}
 # In the order in which they use each other: what the page begins with, and what it unpacks then.
 FIRST_SCRIPTS = ('common.js', 'unpack.js', 'sharing.js', 'lessons.js', 'start.js')
-SCRIPTS = ('source.js', 'texts.js', 'messages.js', 'caller.js', 'session.js', 'run.js', 'failure.js', 'faults.js', 'places.js', 'arrows.js', 'store.js',
+SCRIPTS = ('source.js', 'texts.js', 'messages.js', 'caller.js', 'session.js', 'expressions.js', 'run.js', 'failure.js', 'faults.js', 'places.js', 'arrows.js', 'store.js',
            'editor.js', 'inverse.js', 'listing.js', 'inputs.js', 'problems.js', 'output.js', 'transport.js', 'figure.js', 'page.js')
 # The scripts of the worker that makes calls and holds sessions, and of the one that unpacks the modules.
 WORKER_SCRIPTS, ASIDE_SCRIPTS = ('program.js', 'live.js', 'worker.js'), ('unpack.js', 'aside.js')

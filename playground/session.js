@@ -20,8 +20,8 @@ function moveOf(text) {
   return found && { at: Number(found[1]), place: Number(found[2] ?? -1), depth: Number(found[3] ?? 0), note: found[4] ?? '' };
 }
 
-// The lines that lead from one position to another.
-function movesTo(from, to) { return from === to ? [] : [to > from ? `step ${to - from}` : `back ${from - to}`]; }
+// The line that leads from one position to another.
+const moveTo = (from, to) => (to < from ? `back ${from - to}` : `step ${to - from}`);
 
 class LiveSession {
   // `send` gives a message to the caller's worker. A worker that ends takes its sessions with it: the next request

@@ -2,6 +2,8 @@
 'use strict';
 
 const MOST_CALLS = 7, PICTURE_RIGHT = 36;
+// A layout is of at most so many stores of a long run, or of stores of at most so many characters in all.
+const SAMPLES = 300, MOST_CHARACTERS = 1200000, LEAST_SIZE = 1000, LEAST_STORES = 24;
 let pictures = 0;
 
 function svg(name, attributes, ...inner) {
@@ -18,10 +20,20 @@ function setAttributes(element, attributes) {
 
 const svgText = (x, y, kind, text) => svg('text', { x, y, class: kind }, text);
 
+// Stores of a run by which its objects get their places: all of a short run, and some of a long one.
+async function storesOf(run) {
+  const some = count => [...new Set(range(0, count + 1).map(at => Math.round(run.last * at / count)))];
+  await run.ask(some(4));
+  const size = Math.max(LEAST_SIZE, run.kept / run.looks.size), most = Math.max(LEAST_STORES, Math.floor(MOST_CHARACTERS / size));
+  const indices = some(run.last < most ? Math.max(1, run.last) : Math.min(SAMPLES, most));
+  await run.ask(indices);
+  return indices.filter(it => run.look(it)).map(it => ({ index: it, objects: run.look(it).objects }));
+}
+
 class StorePicture {
   // The layout of a run is made once, for the pane in which it is first seen.
   static async of(run, pane) {
-    const stores = await run.stores();
+    const stores = await storesOf(run);
     const sizeOf = (index, object) => objectBox(run, index, object);
     const wide = Math.max(LEAST, ...stores.flatMap(({ index }) => callBoxes(run, index).map(box => box.width)));
     return new StorePicture(run, new Places(stores, sizeOf, pane, wide));
@@ -150,7 +162,7 @@ class Drawing {
 // ---- boxes
 
 function objectBox(run, index, object, own) {
-  const before = index > 0 ? run.object(index - 1, object.name) : object, isKnown = index === 0 || run.looks.has(index - 1);
+  const before = index > 0 ? run.object(index - 1, object.name) : object, isKnown = index === 0 || run.look(index - 1);
   const rows = object.cells.map(([name, value], at) => ({ name, value, changed: Boolean(before) && before.cells[at]?.[1] !== value }));
   const isGrid = /\[/.test(object.head) && rows.length > 3 && !rows.some(row => isReference(row.value));
   const note = object.name === '#1' ? 'main' : object.count === 1 ? '' : `${object.count} refs`;
@@ -162,7 +174,7 @@ function objectBox(run, index, object, own) {
 function isChanged(run, index, object) {
   const before = index > 0 ? run.object(index - 1, object.name) : object;
   if (before === object) return false;
-  if (!before) return run.looks.has(index - 1);
+  if (!before) return run.look(index - 1) !== undefined;
   return before.cells.length !== object.cells.length || before.cells.some(([, value], at) => value !== object.cells[at][1]);
 }
 
@@ -177,7 +189,7 @@ function callBoxes(run, index) {
 
 // The parameters and locals at a position, and which of them the last move has changed.
 function localRows(run, index) {
-  const isSame = index > 0 && run.callers[index - 1] === run.callers[index] && run.looks.has(index - 1);
+  const isSame = index > 0 && run.callers[index - 1] === run.callers[index] && run.look(index - 1);
   const before = isSame ? run.locals(index - 1) : undefined;
   return run.locals(index).map(([name, value], at) => ({ name, value, changed: before !== undefined && before[at]?.[1] !== value }));
 }

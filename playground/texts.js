@@ -68,14 +68,22 @@ function statesOf(text) {
   return states;
 }
 
-// A report: the fields of the main object, the objects and arrays that it prints, and its other lines.
+// What `fault` says, if something fails: the fault, the word of its test, the place of the statement, what the test
+// found and needed, and how many calls are open.
+function failingOf(text) {
+  const found = /^test (\w+) at \d+ of (\d+)\n(?:found (.*)\nwanted (.*)\n)?depth (\d+)$/m.exec(text);
+  return found && { ...faultOf(text), word: found[1], place: Number(found[2]), is: found[3], needed: found[4], depth: Number(found[5]) };
+}
+
+// A report, or what a session prints of a position: the fields of the main object or the variables, the objects and
+// arrays, and the other lines.
 function reportOf(text) {
   const fields = [], objects = new Map(), rest = [];
   let object;
   for (const line of text.split('\n')) {
-    const head = /^(#\d+) (\S+) count (\d+)$/.exec(line), cell = /^( *)(\S+) = (-?\d+|nil|#\d+)$/.exec(line);
-    if (head) objects.set(head[1], object = { head: head[2], cells: [] });
-    else if (cell) (cell[1] ? object.cells : fields).push([cell[2], cell[3]]);
+    const cell = /^( *)(\S+) = (-?\d+|nil|#\d+)$/.exec(line), head = cell ? undefined : /^(#\d+) (\S+) count (\d+)$/.exec(line);
+    if (cell) (cell[1] ? object.cells : fields).push([cell[2], cell[3]]);
+    else if (head) objects.set(head[1], object = { name: head[1], head: head[2], count: Number(head[3]), cells: [] });
     else rest.push(line);
   }
   return { fields, objects, rest };

@@ -59,7 +59,7 @@ for (const [number, [words, files, lines]] of arguments[0].entries()) {
 return told;
 '''
 # What is shown of a position, as the program printed it.
-SHOWN = 'const { run, at } = playground; return [run.looks.get(at).variables, [...run.looks.get(at).objects.values()].map(it => [it.name, it.cells])]'
+SHOWN = 'const { run, at } = playground; return [run.look(at).fields, run.objects(at).map(it => [it.name, it.cells])]'
 
 
 def documented():
