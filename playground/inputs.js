@@ -3,6 +3,8 @@
 
 const NARROW = 1180, MOST_CHIPS = 4;
 const isNumber = value => /^-?\d{1,10}$/.test(value) && Number(value) === (Number(value) | 0);
+// Of fields with their values, those that hold numbers.
+const intsOf = fields => fields.filter(([, value]) => isNumber(value));
 
 class Inputs {
   // `onChange` hears that a run must begin again: because of a field, or of a limit.

@@ -4,7 +4,7 @@
 const SOURCE = 'program.rpp', INPUT = 'input.txt', INVERSE = 'inverse.rpp', IMAGE = 'image', LISTING = 'listing', END = 'end';
 const VIEWS = ['store', 'output', 'inverse', 'machine'];
 const EDIT_MILLISECONDS = 350, SLOW_MILLISECONDS = 400, IDLE_MILLISECONDS = 150, KEEP_MILLISECONDS = 500, TOAST_MILLISECONDS = 4000, UNDO_MILLISECONDS = 10000;
-const LEAST_SPLIT = 20, MOST_SPLIT = 75, FAULTED = 5, MORE_POSITIONS = 46000;
+const LEAST_SPLIT = 20, MOST_SPLIT = 75, REFUSED_TEXT = 3, FAULTED = 5, MORE_POSITIONS = 46000;
 const LARGEST = { usual: 1.4, large: 1.9 }, SMALLEST = { usual: 0.7, embedded: 0.6 };
 
 class Workbench {
@@ -142,8 +142,7 @@ class Workbench {
   // A field or a limit has another value: the run begins again.
   changed(what) {
     if (what === 'field') this.at = 0;
-    if (this.image) this.guarded(still => this.film(still));
-    else this.judge();
+    this.judge();
   }
 
   showTask() {
@@ -226,15 +225,23 @@ class Workbench {
 
   question(words) { return this.call(words({ input: this.input, names: this.inputs.names }, this.limits), this.files()); }
 
-  // A session of the run of a text.
-  sessionOf(text) {
-    const [heap, depth] = this.limits, send = (message, isAhead) => this.send(message, isAhead);
-    return new LiveSession(this.caller, send, ['source', SOURCE, heap, depth, ...this.input], this.files(this.inputs.numbers(), text));
+  // A session of the run of a text, which begins with numbers in some fields.
+  sessionOf(text, numbers) {
+    const [heap, depth] = this.limits, input = numbers.length ? [INPUT] : [], send = (message, isAhead) => this.send(message, isAhead);
+    return new LiveSession(this.caller, send, ['source', SOURCE, heap, depth, ...input], this.files(numbers, text));
+  }
+
+  // Begins the session of a run. One that was begun before, and that shows no run yet, ends.
+  begin(text, numbers) {
+    this.begun?.end();
+    this.begun = this.sessionOf(text, numbers);
+    return this.begun;
   }
 
   // ---- judging and running
 
-  // Judges the text; where it is accepted, runs it.
+  // Judges the text by the session of its run; where it is accepted, shows the run. The fields are those that the session
+  // prints of the start. If some begin with other numbers than 0, the session begins again.
   judge() {
     clearTimeout(this.later);
     this.later = undefined;
@@ -243,22 +250,19 @@ class Workbench {
       const text = this.editor.text;
       this.lessons.name(this.lessons.title(text, this.exercise));
       $('welcome-first').hidden = text !== this.carried.examples[FIRST.example].text;
-      const compiled = still(await this.call(['compile', SOURCE, IMAGE], this.files()));
+      const answer = still(await this.begin(text, []).ask(() => ['regs']));
       this.editor.clear();
-      if (compiled.status !== 0) {
-        this.refused(compiled, text);
+      if (answer.status === REFUSED_TEXT) {
+        this.refused(answer, text);
         return;
       }
-      this.image = compiled.files.get(IMAGE);
-      const listed = still(await this.call(['list', IMAGE, LISTING], [[IMAGE, this.image]]));
-      this.listed = listingOf(new TextDecoder().decode(listed.files.get(LISTING)));
-      this.inputs.show(this.listed.names);
-      await this.film(still);
+      if (answer.status === undefined) this.inputs.show(intsOf(reportOf(answer.replies[0].text).fields).map(([name]) => name));
+      const numbers = this.inputs.numbers();
+      await this.film(new Run(text, numbers.length ? this.begin(text, numbers) : this.begun), still);
     });
   }
 
   refused(answer, text) {
-    this.image = undefined;
     this.transport.pause();
     document.body.removeAttribute('data-fault');
     this.say(this.problems.refused(answer, text));
@@ -267,13 +271,10 @@ class Workbench {
   }
 
   // Walks along the run, runs it on the machine, and finds the place of a fault.
-  async film(still) {
+  async film(run, still) {
     this.keepSetting();
-    const text = this.editor.text, run = new Run(text, this.sessionOf(text)), bad = this.inputs.bad();
-    this.begun?.session.end();
-    this.begun = run;
+    const bad = this.inputs.bad(), refused = still(await run.walk());
     this.inputs.markBad(bad);
-    const refused = still(await run.walk());
     if (refused) {
       this.say(this.problems.notBegun(refused, bad));
       if (!bad) this.inputs.openLimits(true);
@@ -282,7 +283,7 @@ class Workbench {
     const machine = still(await this.question(QUESTIONS[0][2])), fault = still(await this.faultOf(run, machine));
     const picture = still(await StorePicture.of(run, this.pane()));
     this.run?.session.end();
-    Object.assign(this, { run, fault, picture, machine, text, begun: undefined, hasInverse: false, hasListing: false });
+    Object.assign(this, { run, fault, picture, machine, text: run.text, begun: undefined, hasInverse: false, hasListing: false });
     this.output.load(run, machine);
     $('views').classList.remove('stale');
     this.transport.fill(fault && run.isWhole);
@@ -294,7 +295,7 @@ class Workbench {
 
   async faultOf(run, machine) {
     if (machine.status !== FAULTED) return undefined;
-    const { heap, depth } = this.inputs.limits, fault = await findFault(run, machine, () => this.runImage(), text => this.sessionOf(text));
+    const { heap, depth } = this.inputs.limits, fault = await findFault(run, machine, () => this.runImage(run), text => this.sessionOf(text, this.inputs.numbers()));
     return { ...fault, message: await faultMessage(fault, run, heap, depth) };
   }
 
@@ -321,9 +322,17 @@ class Workbench {
   // Whether a position is the one at which the run stops with a fault.
   isFault(index) { return Boolean(this.fault) && this.run.isWhole && index === this.run.last; }
 
-  runImage() {
-    const [heap, depth, steps] = this.limits;
-    return this.call(['run', IMAGE, heap, depth, steps, '-', END], [[IMAGE, withNumbers(this.image, this.listed, this.inputs.numbers())]]);
+  // The image of a run's program, with what the run begins with in its static words, and its listing.
+  async imageOf(run) {
+    const compiled = await this.call(['compile', SOURCE, IMAGE], [[SOURCE, run.text]]), image = compiled.files.get(IMAGE);
+    const listed = await this.call(['list', IMAGE, LISTING], [[IMAGE, image]]), listing = listingOf(new TextDecoder().decode(listed.files.get(LISTING)));
+    await run.ask([0]);
+    return [withNumbers(image, listing, intsOf(run.object(0, '#1').cells)), listing];
+  }
+
+  async runImage(run) {
+    const [heap, depth, steps] = this.limits, [image] = await this.imageOf(run);
+    return this.call(['run', IMAGE, heap, depth, steps, '-', END], [[IMAGE, image]]);
   }
 
   tellEnd() {
@@ -482,9 +491,10 @@ class Workbench {
   }
 
   async loadListing() {
-    const [heap, depth] = this.limits;
-    await this.listing.load(this.run, withNumbers(this.image, this.listed, this.inputs.numbers()), this.listed, [heap, depth]);
-    this.hasListing = true;
+    const { run } = this, [heap, depth] = this.limits, [image, listing] = await this.imageOf(run);
+    if (run !== this.run) return;
+    await this.listing.load(run, image, listing, [heap, depth]);
+    this.hasListing = run === this.run;
   }
 
   async written(text) {

@@ -55,10 +55,11 @@ class LiveSession {
     return { ...answer, replies };
   }
 
-  // Lets the worker forget the session; nothing more can be asked.
+  // Lets the worker forget the session, which may be beginning; nothing more can be asked.
   end() {
-    if (this.isHeld) this.caller.send({ session: this.number }).catch(() => undefined);
+    const forget = () => { if (this.isHeld) this.caller.send({ session: this.number }).catch(() => undefined); };
     this.isEnded = true;
+    this.last.then(forget, forget);
   }
 }
 LiveSession.count = 0;

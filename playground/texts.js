@@ -29,7 +29,7 @@ function listingOf(text) {
     else if (words[0] === 'STATIC') statics++;
     else if (line !== '') cells.push(line);
   }
-  return { cells, marks, statics, cellNames, names: cellNames.map(([, name]) => name) };
+  return { cells, marks, statics, cellNames };
 }
 
 // A state that a script of the machine's debugger shows. The registers and cells that follow it are read when they are

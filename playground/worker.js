@@ -7,13 +7,11 @@ let modules, last = Promise.resolve();
 // What a message asks for: a call, or the beginning of a session, lines for it, or its end.
 async function answer({ session, words, files, lines }) {
   if (session === undefined) return callProgram(modules.program, words, files);
-  if (words) {
-    sessions.set(session, new Session(modules.live, words, files));
-    return sessions.get(session).begin();
-  }
-  if (lines !== undefined) return sessions.get(session).ask(lines);
-  sessions.delete(session);
-  return { status: 0, printed: new Uint8Array() };
+  if (words) sessions.set(session, new Session(modules.live, words, files));
+  const held = sessions.get(session), ended = { status: 0, printed: new Uint8Array() };
+  const told = words ? await held.begin() : lines !== undefined ? await held.ask(lines) : ended;
+  if (told.status !== undefined) sessions.delete(session);
+  return told;
 }
 
 async function answered(data) {
