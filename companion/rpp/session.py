@@ -223,12 +223,16 @@ class Session(Closing):
         """The frames of points that open each other, the innermost first."""
         frames: List[Frame] = []
         uncalled, number = False, 1 if points[-1].depth == 1 else None
+        told = self.run.calls(points[0].position) or []
+        is_told = [call.place for call in told] == [point.place for point in reversed(points)]
         for index in range(len(points) - 1, -1, -1):
             point = points[index]
+            if is_told:
+                uncalled, number = told[-1 - index].is_back, told[-1 - index].number
             method = self.outline.method_at(point.place)
             label = method.label if method else '?'
             frames.insert(0, Frame(point.depth, label, point.place, point.position, uncalled, number))
-            call = self.outline.call_at(point.place) if index else None
+            call = self.outline.call_at(point.place) if index and not is_told else None
             if call:
                 uncalled ^= call.is_uncall
                 number = self._receiver(point, call, number)

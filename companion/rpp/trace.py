@@ -39,6 +39,7 @@ AT_IMAGE = re.compile(r'^at (\d+) pc (-?\d+) br (-?\d+) dir (-?1)(?: (start|end 
 VARIABLE = re.compile(rf'^({NAME}) = (.+)$')
 OBJECT = re.compile(r'^#(\d+) (\S+) count (\d+)$')
 CELL = re.compile(r'^  (\S+) = (.+)$')
+ACTIVE = re.compile(r'^depth (\d+) (?:place (\d+)|end) object #(\d+) dir (-?1)$')
 
 
 Answered = TypeVar('Answered')
@@ -108,6 +109,15 @@ class Failure(NamedTuple):
     wanted: Optional[str]
     depth: int
     variables: Tuple[Tuple[str, str], ...]
+
+
+class Active(NamedTuple):
+    """An active call: how many calls are active with it, the offset of the statement of it that runs (None at the end of the run), the
+    number of its object, and whether its text runs backward."""
+    depth: int
+    place: Optional[int]
+    number: int
+    is_back: bool
 
 
 class SourceRun(Closing):
@@ -195,6 +205,14 @@ class SourceRun(Closing):
         """Where a session comes to a point with at most so many open calls, or to the end or the start of the run; None if it cannot be
         asked."""
         return self._special(position, f'{"back " if back else ""}depth {depth} {FAR}')
+
+    def calls(self, position: int) -> Optional[List[Active]]:
+        """The active calls at a position, the outermost first, as a session prints them; None if it cannot be asked."""
+        def question(live: Live) -> Optional[List[Active]]:
+            reply = live.served('stack', self.patience)
+            found = [ACTIVE.fullmatch(line) for line in reply.lines] if reply is not None and reply.end == 'done' else []
+            return [Active(int(each[1]), int(each[2]) if each[2] else None, int(each[3]), each[4] == '-1') for each in found if each] or None
+        return self._asked_at(position, question)
 
     def failure(self) -> Optional[Failure]:
         """What a session says of the fault at the end of the run; None if it cannot be asked."""

@@ -5,6 +5,7 @@ import random
 import sys
 import threading
 import unittest
+from itertools import zip_longest
 
 from rpp import live as live_module
 from rpp.formulas import Formula
@@ -33,6 +34,26 @@ for line in sys.stdin:
         print(f'. {word}', flush=True)
     else:
         print('. bad', flush=True)
+'''
+# The array is #2, its elements are #3 and #4, and the object of the element is #5.
+CALLS = '''class P
+  C[] a
+method main()
+  new C[2] a
+  new C a[0]
+  new C a[1]
+  call a[1]::outer()
+class C
+  int n
+  C inner
+method outer()
+  new C inner
+  uncall inner::work()
+method work()
+  n += 1
+  call deep()
+method deep()
+  n += 2
 '''
 COUNT = '''class P
   int x
@@ -172,9 +193,18 @@ class Held(Case):
                 stops = [getattr(each, name)(*words) for each in (held, plain)]
                 self.assertEqual(*stops, (name, words))
                 self.assertEqual(held.moment, plain.moment, (name, words))
-                self.assertEqual(held.stack(), plain.stack(), (name, words))
+                for told, found in zip_longest(held.stack(), plain.stack()):
+                    # what `trace` prints does not always say the number
+                    self.assertEqual(told, found if found.number else found._replace(number=told.number), (name, words))
             self.assertIsNotNone(held.run._live, 'the session is held')
             self.assertLess(held.run.program.calls, 10, 'and nothing else is asked')
+
+    def test_objects_of_calls(self):
+        held, _ = self.pair(self.write('calls.rpp', CALLS))
+        held.break_in('C.deep')
+        held.run_on()
+        self.assertEqual([(frame.method, frame.uncalled, frame.number) for frame in held.stack()],
+                         [('C.deep', True, 5), ('C.work', True, 5), ('C.outer', False, 4), ('P.main', False, 1)])
 
     def test_conditions_and_methods(self):
         held, plain = self.pair(self.write('count.rpp', COUNT))
