@@ -84,6 +84,8 @@ def fault_where(session: Session, failing: Failing) -> Where:
 
 
 def reason_lines(session: Session, stop: Stop) -> List[str]:
+    if stop.reason == 'break' and not stop.by:
+        return []
     if stop.reason == 'break':
         return [f'breakpoint {stop.by}{": " * bool(stop.detail)}{stop.detail}']
     if stop.reason == 'change':

@@ -200,6 +200,11 @@ class Scripts(Case):
         self.assertIn('there is no breakpoint 4\n', done.stdout)
         self.assertNotIn('(rpp) step\n', done.stdout)
 
+    def test_until_a_line_names_no_breakpoint(self):
+        done = self.rpp('debug', SUMS, 'a=4', 'b=8', '-c', 'until 11')
+        self.assertIn('[3] sums.rpp:11:5 in Sums.main\n', done.stdout)
+        self.assertNotIn('breakpoint', done.stdout)
+
     def test_a_command_of_another_debugger_or_misspelled(self):
         for word, meant in (('run', 'continue'), ('info', 'print'), ('exit', 'quit'), ('prnt', 'print'), ('reverse-contine', 'reverse-continue')):
             with self.subTest(word=word):
