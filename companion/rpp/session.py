@@ -333,8 +333,8 @@ class Session(Closing):
             ended = [self._is_over(walk, begin, back) for walk in walks]
             reached = [walk[-1].point.position for walk, is_over in zip(walks, ended) if not is_over]
             horizon = (max if back else min)(reached) if reached else None
-            found = {moment.point.position: moment for walk, place in zip(walks, self.break_places) for moment in walk
-                     if moment.point.place == place and moment.point.position != begin}
+            found = {moment.point.position: moment for walk in walks for moment in walk
+                     if moment.point.place in self.break_places and moment.point.position != begin}
             for position in sorted(found, reverse=back):
                 if horizon is None or way * position <= way * horizon:
                     stop = self._broken(found[position])
@@ -343,7 +343,9 @@ class Session(Closing):
             if horizon is None:
                 return self._stand(self.run.point(0), 'start') if back else self._stand(self.run.end(), 'end', FAR)
             most = self.run.affordable(WINDOW_SECONDS, horizon) // (len(walks) * (1 + len(shown))) + 1
-            begin, bound, count = horizon, min(FAR, 2 * bound), min(most, 4 * count)
+            # (of several places, one that the run no longer reaches costs the whole bound at each search)
+            is_far = abs(horizon - begin) >= bound
+            begin, bound, count = horizon, min(FAR, 2 * bound) if is_far else bound, min(most, 4 * count)
             self.notify(f'looked {"back" if back else "up"} to position {horizon}')
 
     @staticmethod

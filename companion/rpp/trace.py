@@ -247,7 +247,10 @@ class SourceRun(Closing):
 
     def hits(self, position: int, places: List[int], limit: int, count: int, back: bool, shown: Sequence[str] = ()) -> List[List[Moment]]:
         """For each of the places, the moments after so many searches for it in a row, each within the limit, with what these lines show
-        there."""
+        there. A session that looks for any of them gives one list for all."""
+        together = self._hits_of_any(position, places, limit, count, back, shown) if len(places) > 1 else None
+        if together is not None:
+            return [together]
         searches = [[f'{"backto" if back else "to"} {place} {limit}', *shown] * count for place in places]
         if self._is_held:
             return [self._walk([f'step {position}', *search], keep=not shown)[1:] for search in searches]
@@ -400,6 +403,26 @@ class SourceRun(Closing):
             if is_met:
                 break
         return found
+
+    def _hits_of_any(self, position: int, places: List[int], limit: int, count: int, back: bool, shown: Sequence[str]) -> Optional[List[Moment]]:
+        """The moments after so many searches in a row for the nearest of the places; None if no session is held that has such searches."""
+        search = f'{"back " if back else ""}any {limit} {" ".join(str(place) for place in places)}'
+        if self._special(position, search) is None:
+            return None
+
+        def question(live: Live) -> List[Moment]:
+            script = ['step 0', *shown, *[search, *shown] * (count - 1)]
+            begin = time.monotonic()
+            replies = live.ask(script, self.patience)
+            self._pace = (time.monotonic() - begin) / len(script)
+            moments = self._noted(script, [line for reply in replies for line in reply.lines], not shown)
+            self._stands = moments[-1].point.position
+            return moments
+        try:
+            return self._ask(question)
+        except Lost:
+            self._is_held = False
+            return None
 
     def _keep(self, moment: Moment, whole: bool) -> None:
         """Keeps a point, and where the script looked at all of it its state; notes where the run ends."""

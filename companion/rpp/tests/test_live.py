@@ -225,6 +225,14 @@ class Held(Case):
                 self.assertEqual(held.end(), plain.end())
                 self.assertEqual(held.points(FAR, 3), plain.points(FAR, 3))
 
+    def test_several_places_of_which_one_is_not_reached_again(self):
+        """A search among breakpoints with conditions takes no longer than to the nearest that counts."""
+        source = self.write('far.rpp', 'class P int x\nmethod main()\n  from x = 0 do\n    x += 1\n  loop\n    skip\n  until x = 1000000000')
+        done = self.rpp('debug', source, *[word for line in ('break 4 if x = 700', 'break main if x = 1', 'continue', 'print x', 'rc', 'where')
+                                           for word in ('-c', line)])
+        self.assertIn('breakpoint 1\n  x: 0 -> 700\n(rpp) print x\nx = 700\n', done.stdout)
+        self.assertIn('this is the start\n', done.stdout)
+
     def test_interrupted(self):
         """A search that is stopped ends the session; the next question begins another, and the answers stay the same."""
         source = self.write('far.rpp', 'class P int x method main() from x = 0 do x += 1 loop skip until x = 1000000000')
