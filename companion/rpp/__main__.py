@@ -5,6 +5,7 @@ a function `parser()` next to it gives completion and `rpp help` the words.
 """
 import importlib
 import os
+import signal
 import sys
 from typing import List, NamedTuple
 
@@ -114,8 +115,17 @@ def run_command(words: List[str]) -> int:
 
 
 def command() -> int:
-    """The command as an installation starts it."""
+    """The command as a shell or an installation starts it. If its terminal is closed or a signal ends it, it ends the programs that it
+    started too."""
+    for name in ('SIGHUP', 'SIGTERM'):
+        number = getattr(signal, name, None)
+        if number is not None and signal.getsignal(number) == signal.SIG_DFL:
+            signal.signal(number, end_by)
     return main(sys.argv[1:])
+
+
+def end_by(number: int, _frame) -> None:
+    raise SystemExit(128 + number)
 
 
 if __name__ == '__main__':

@@ -2,8 +2,11 @@
 random moves gives what `trace` gives, and stays one session."""
 import os
 import random
+import signal
+import subprocess
 import sys
 import threading
+import time
 import unittest
 from itertools import zip_longest
 
@@ -14,7 +17,7 @@ from rpp.program import Interrupted, OutOfTime, Program
 from rpp.session import Session
 from rpp.trace import FAR, Failure, Fault, MachineRun, SourceRun, read_failure
 
-from .base import EXAMPLES, Case
+from .base import COMMAND, EXAMPLES, HANGS, Case
 
 # Answers `echo ..` with what follows and `. done`, and words of its own with what a session can do besides.
 STAND_IN = r'''import sys, time
@@ -232,6 +235,32 @@ class Held(Case):
                                            for word in ('-c', line)])
         self.assertIn('breakpoint 1\n  x: 0 -> 700\n(rpp) print x\nx = 700\n', done.stdout)
         self.assertIn('this is the start\n', done.stdout)
+
+    @unittest.skipUnless(os.path.isdir('/proc/self/task'), 'there is no /proc')
+    def test_nothing_goes_on_when_it_is_told_to_end(self):
+        source = self.write('far.rpp', 'class P int x method main() from x = 0 do x += 1 loop skip until x = 1000000000')
+        for number in (signal.SIGHUP, signal.SIGTERM):
+            with self.subTest(number=number):
+                started = subprocess.Popen([sys.executable, COMMAND, 'debug', source], stdin=subprocess.PIPE, stdout=subprocess.PIPE)
+                started.stdin.write(b'finish\n')
+                started.stdin.flush()
+                session = self.until(lambda: self.children(started.pid))[0]
+                started.send_signal(number)
+                self.assertEqual(started.wait(HANGS), 128 + number)
+                started.stdout.close()
+                started.stdin.close()
+                self.until(lambda: not os.path.exists(f'/proc/{session}'))
+
+    def children(self, process):
+        with open(f'/proc/{process}/task/{process}/children', encoding='utf-8') as file:
+            return file.read().split()
+
+    def until(self, is_so):
+        end = time.monotonic() + HANGS
+        while not is_so():
+            self.assertLess(time.monotonic(), end)
+            time.sleep(0.05)
+        return is_so()
 
     def test_interrupted(self):
         """A search that is stopped ends the session; the next question begins another, and the answers stay the same."""
