@@ -27,20 +27,28 @@ class Prompt(cmd.Cmd):
         super().__init__()
         self.echo = echo
         self.failed = False
+        self.noted = 0
         self.use_rawinput = not echo
 
     def say(self, lines: List[str]) -> None:
+        self.wipe()
         say(lines)
+
+    def wipe(self) -> None:
+        """Takes the progress away, and the ^C after it, so that what follows begins its line."""
+        if self.noted:
+            print('\r' + ' ' * (self.noted + len('^C')) + '\r', end='', file=sys.stderr, flush=True)
+        self.noted = 0
 
     def notify(self, text: str) -> None:
         """Progress of a long search, only on a terminal."""
         if sys.stderr.isatty():
-            print(f'\r{text}; ^C ends it ', end='', file=sys.stderr, flush=True)
-            self.noted = True
+            said = f'{text}; ^C ends it '
+            print(f'\r{said}', end='', file=sys.stderr, flush=True)
+            self.noted = max(self.noted, len(said))
 
     def onecmd(self, line: str) -> bool:
         """Carries one command out; what goes wrong is printed, and the prompt stays."""
-        self.noted = False
         try:
             return bool(super().onecmd(line))
         except Unfit as wrong:
@@ -52,8 +60,7 @@ class Prompt(cmd.Cmd):
         except (Interrupted, KeyboardInterrupt):
             self.say(['stopped by ^C, and nothing has moved'])
         finally:
-            if self.noted:
-                print(file=sys.stderr)
+            self.wipe()
         return False
 
     def fail(self, text: str) -> None:

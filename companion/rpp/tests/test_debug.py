@@ -8,7 +8,7 @@ import subprocess
 import sys
 import time
 
-from .base import COMMAND, EXAMPLES, HANGS, SUMS, Case
+from .base import COMMAND, EXAMPLES, HANGS, SUMS, Case, shown_by
 
 TWICE = '''class P
   int x
@@ -204,6 +204,18 @@ class Scripts(Case):
         done = self.rpp('debug', SUMS, 'a=4', 'b=8', '-c', 'until 11')
         self.assertIn('[3] sums.rpp:11:5 in Sums.main\n', done.stdout)
         self.assertNotIn('breakpoint', done.stdout)
+
+    def test_progress_is_taken_away(self):
+        """On a terminal what a search finds begins its line."""
+        source = self.write('far.rpp', 'class P int x\nmethod main()\n  from x = 0 do\n    x += 1\n  loop\n    skip\n  until x = 1000000000')
+        ours, its = pty.openpty()
+        started = subprocess.Popen([sys.executable, COMMAND, 'debug', source, '-c', 'break 4 if x = 900', '-c', 'continue'], stdout=its, stderr=its,
+                                   env=dict(os.environ, NO_COLOR='1'))
+        os.close(its)
+        # (the statement begins at the positions 1, 3, 5 and so on, where x is 0, 1, 2)
+        line = next(each for each in shown_by(started, ours).split('\n') if '[1801]' in each)
+        self.assertIn('looked up to position', line)
+        self.assertEqual(line.split('\r')[-1], '[1801] far.rpp:4:5 in P.main')
 
     def test_a_command_of_another_debugger_or_misspelled(self):
         for word, meant in (('run', 'continue'), ('info', 'print'), ('exit', 'quit'), ('prnt', 'print'), ('reverse-contine', 'reverse-continue')):
