@@ -112,7 +112,7 @@ class Failure(NamedTuple):
 
 
 class Active(NamedTuple):
-    """An active call: how many calls are active with it, the offset of the statement of it that runs (None at the end of the run), the
+    """An active call: how many calls are active with it, and the offset of its statement that runs (None at the end of the run). Then the
     number of its object, and whether its text runs backward."""
     depth: int
     place: Optional[int]
