@@ -3,7 +3,7 @@
 
 const NARROW = 1180, MOST_CHIPS = 4;
 const isNumber = value => /^-?\d{1,10}$/.test(value) && Number(value) === (Number(value) | 0);
-// Of fields with their values, those that hold numbers.
+// The fields that hold numbers, with their values.
 const intsOf = fields => fields.filter(([, value]) => isNumber(value));
 
 class Inputs {

@@ -240,8 +240,8 @@ class Workbench {
 
   // ---- judging and running
 
-  // Judges the text by the session of its run; where it is accepted, shows the run. The fields are those that the session
-  // prints of the start. If some begin with other numbers than 0, the session begins again.
+  // Judges the text by the session of its run. Where it is accepted, shows the run. The fields are those of the start.
+  // If some begin with other numbers than 0, the session begins again.
   judge() {
     clearTimeout(this.later);
     this.later = undefined;
