@@ -2,7 +2,7 @@
 // memory, stepped with the run by the program's debugger.
 'use strict';
 
-const HUES = 6, FIRST_STATIC = 40, MOST_CELLS = 4096, STACK_CELLS = 256, CELLS_AT_ONCE = 1000, MORE_ROWS = 20;
+const HUES = 6, FIRST_STATIC = 40, MOST_CELLS = 4096, FRAME_CELLS = 512, USED_CELLS = 128, MOST_FRAMES = 7, CELLS_AT_ONCE = 1000, MORE_ROWS = 20;
 // The machine's steps are looked up for so many positions in one call, and a statement's cells without a bound.
 const ALIGNED_AT_ONCE = 2000, FAR = 1000000000, MOST_STATES = 120, AHEAD = 16, MOST_ALIGNED_AHEAD = 200;
 // The height of a row, as the style has it.
@@ -110,15 +110,18 @@ class ListingView {
 
   // ---- the machine's states
 
-  // The areas of the memory: cells 1 to 3 hold the order of the heap and the bases of heap and stack.
-  areas() {
-    const [, heap, stack] = this.bases, first = Math.max(heap, stack - MOST_CELLS);
-    return [['Static words', FIRST_STATIC, this.listing.statics], ['Heap', first, stack - first], ['Stack', stack, STACK_CELLS]];
+  // The areas of the memory after a step. Cells 1 to 3 hold the order of the heap and the bases of heap and stack. The
+  // stack has a frame for each open call; where there are many, some after the first are left out.
+  areas(step) {
+    const [, heap, stack] = this.bases, first = Math.max(heap, stack - MOST_CELLS), at = this.positionAt(step), { depths } = this.run;
+    const depth = Math.max(1, depths[at], depths[at + 1] ?? 0), shown = range(0, depth).filter(it => it === 0 || it > depth - MOST_FRAMES);
+    const frames = shown.map(it => [it ? `Stack, call ${it + 1}` : 'Stack', stack + it * FRAME_CELLS, USED_CELLS]);
+    return [['Static words', FIRST_STATIC, this.listing.statics], ['Heap', first, stack - first], ...frames];
   }
 
-  look() {
+  look(step) {
     let script = 'regs\n';
-    for (const [, first, length] of this.areas()) {
+    for (const [, first, length] of this.areas(step)) {
       for (let at = 0; at < length; at += CELLS_AT_ONCE) script += `cells ${first + at} ${Math.min(CELLS_AT_ONCE, length - at)}\n`;
     }
     return script;
@@ -136,7 +139,7 @@ class ListingView {
   async askStates(steps, isAhead) {
     const { run } = this, wanted = [...new Set(steps)].filter(it => !this.states.has(it)).sort((one, other) => one - other);
     if (!wanted.length) return;
-    const look = this.look(), moves = wanted.map((step, at) => `step ${step - (wanted[at - 1] ?? 0)}\n${look}`);
+    const moves = wanted.map((step, at) => `step ${step - (wanted[at - 1] ?? 0)}\n${this.look(step)}`);
     const states = statesOf((await this.debug(`${moves.join('')}step 1\n`, isAhead)).text), next = states.pop();
     if (run !== this.run) return;
     for (const state of states) this.states.set(state.at, state);
@@ -226,7 +229,7 @@ class ListingView {
 
   // Shows the cells by their areas; runs of zeros are one line. What stays as it is stays in its place.
   showCells(before, state) {
-    const names = new Map(this.listing.cellNames), begins = new Map(this.areas().map(([name, first]) => [first, name])), shown = [], { spans } = this;
+    const names = new Map(this.listing.cellNames), begins = new Map(this.areas(state.at).map(([name, first]) => [first, name])), shown = [], { spans } = this;
     let zeros = [];
     const close = () => {
       const [first] = zeros, count = zeros.length;
@@ -237,7 +240,7 @@ class ListingView {
     };
     spans.begin();
     for (const [number, value] of state.cells) {
-      const isChanged = before.cells.get(number) !== value;
+      const isChanged = (before.cells.get(number) ?? '0') !== value;
       if (begins.has(number)) {
         close();
         shown.push(spans.get(begins.get(number), () => made('h3', { textContent: begins.get(number) })));

@@ -54,6 +54,19 @@ const { files } = await playground.caller.call(['compile', 'p', 'i'], [['p', arg
 const listed = await playground.caller.call(['list', 'i', 'l'], [['i', files.get('i')]]);
 return new TextDecoder().decode(listed.files.get('l'));
 '''
+# The registers that are drawn, and the cells of the memory with a value that is not 0; named ones have their names.
+MACHINE = IS_DRAWN + '''
+const registers = [...drawn('#machine .registers').querySelectorAll('dt')].filter(it => it.nextElementSibling?.tagName === 'DD')
+  .map(it => [it.textContent, it.nextElementSibling.textContent]);
+const cells = [...document.querySelectorAll('#machine .cells span:not(.run)')].map(it => [it.querySelector('small').textContent, it.lastChild.textContent]);
+return [Object.fromEntries(registers), Object.fromEntries(cells.filter(([, value]) => value !== '0'))];
+'''
+# What the program's debugger prints of the machine after so many steps of the image of a text.
+DEBUGGED = '''
+const [text, step] = arguments, { files } = await playground.caller.call(['compile', 'p', 'i'], [['p', text]]);
+const script = ['step ' + step, 'regs', ...Array.from({ length: 12 }, (_, at) => `cells ${40 + at * 1000} 1000`)].join('\\n') + '\\n';
+return (await playground.caller.call(['debug', 'i', '12', '64', 's'], [['i', files.get('i')], ['s', script]])).text;
+'''
 # The colours of the rows of the listing that are drawn, by their cells, and those of the lines of the editor.
 ROW_COLOURS = IS_DRAWN + '''
 const colour = it => it && getComputedStyle(it).backgroundColor;
@@ -314,6 +327,23 @@ def rows_have_the_colours_of_their_lines(page):
     page.view('store')
 
 
+def the_machine_is_as_the_debugger_prints_it(page):
+    """Registers, static words, heap and stack are what the program's debugger prints after the step that is shown."""
+    text = read('examples/tree.rpp')
+    page.choose('Search tree')
+    page.view('machine')
+    names = dict(re.findall(r'^NAME (\d+) (\w+)$', page.run(LISTING, text), re.M))
+    for at in (0, 33, 60, 98):
+        page.run('const it = document.querySelector("#timeline input"); it.value = arguments[0]; it.dispatchEvent(new Event("input"))', at)
+        page.settled()
+        printed = page.run(DEBUGGED, text, re.search(r'step ([\d,]+) of', page.text('#machine .caption'))[1].replace(',', ''))
+        registers = dict(re.findall(r'^(\$\w+) = (-?\d+)$', printed, re.M))
+        cells = {names.get(cell, cell): value for cell, value in re.findall(r'^cell (\d+) = (-?\d+)$', printed, re.M) if value != '0'}
+        holds(cells or not at, printed)
+        equal(page.run(MACHINE), [registers, cells], f'the machine at position {at}')
+    page.view('store')
+
+
 def large_programs_step(page):
     """A program of 20,000 tokens steps in less than 50 ms, with any view open. The listing draws only what is in sight, and the next
     moves wait for no call."""
@@ -356,4 +386,4 @@ def the_inverse_is_paired(page):
 
 TESTS = (examples_are_drawn, a_tree_looks_like_one, a_change_is_marked, one_object_has_one_name, long_runs_open, runs_have_no_end,
          runs_open_at_once, long_chains_fold, a_thousand_nodes_move, the_listing_is_coloured, rows_have_the_colours_of_their_lines,
-         large_programs_step, the_inverse_is_paired)
+         the_machine_is_as_the_debugger_prints_it, large_programs_step, the_inverse_is_paired)
