@@ -288,7 +288,6 @@ class Workbench {
     $('views').classList.remove('stale');
     this.transport.fill(fault && run.isWhole);
     this.tellEnd();
-    await this.go(Math.min(this.at, run.last), { isQuiet: true });
     await this.fillView();
     if (this.exercise) await this.checkExercise(still);
   }
@@ -448,7 +447,6 @@ class Workbench {
       $(tab.getAttribute('aria-controls')).hidden = !isOpen;
     }
     this.tellSheet();
-    this.listing.colour(false);
     $('tools').hidden = view !== 'store';
     this.keepPlace();
     return this.fillView();
@@ -466,21 +464,15 @@ class Workbench {
     for (const tab of all('#sheets [role=tab]')) selectTab(tab, isOpen(tab));
   }
 
+  // Shows the position in the view that is open, which may need more of the program first.
   async fillView() {
-    const { run, view, at } = this;
+    const { run, view } = this;
     if (!run) return;
-    if (view === 'store') this.drawStore();
-    if (view === 'output') this.output.show(at);
-    if (view === 'inverse') {
-      if (!this.hasInverse) await this.loadInverse();
-      if (run === this.run) this.inverse.go(run.places[this.at], run.undone[this.at]);
-    }
-    if (view === 'machine') {
-      if (!this.hasListing) await this.loadListing();
-      if (run !== this.run || this.view !== 'machine') return;
-      this.listing.colour(true);
-      await this.listing.go(this.at, this.way);
-    }
+    if (view === 'inverse' && !this.hasInverse) await this.loadInverse();
+    if (view === 'machine' && !this.hasListing) await this.loadListing();
+    if (run !== this.run || view !== this.view) return;
+    this.listing.colour(view === 'machine');
+    await this.go(this.at, { isQuiet: true });
   }
 
   async loadInverse() {
