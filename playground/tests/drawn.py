@@ -50,6 +50,10 @@ const isBusy = it => it && (it.running || it.later !== undefined || Number(docum
 do { await frame(); await frame(); } while (isBusy(globalThis.playground) && performance.now() < end);
 return !isBusy(globalThis.playground);
 '''
+# Waits in the page until it has answered a question that is asked from here on: what the driver asks takes time of the page too.
+ANSWERED = '''
+const answered = new Promise(done => new MutationObserver(done).observe(document.body, { attributeFilter: ['data-asked'] }));
+'''
 # Makes moves, each as soon as the last one is drawn.
 MOVES = '''
 const [key, count, told] = arguments, frame = () => new Promise(done => requestAnimationFrame(() => setTimeout(done, 0)));
@@ -199,9 +203,9 @@ class Page:
 
     def write(self, text):
         """Puts a text into the editor in the place of all that is there, as one pastes it."""
-        self.run('const { code } = playground.editor, last = code.lastLine(); document.body.dataset.askedBefore = document.body.dataset.asked;'
-                 'code.replaceRange(arguments[0], { line: 0, ch: 0 }, { line: last, ch: code.getLine(last).length }, "paste"); code.getInputField().blur()', text)
-        self.browser.until('return document.body.dataset.asked !== document.body.dataset.askedBefore')
+        self.run(ANSWERED + 'const { code } = playground.editor, last = code.lastLine();'
+                 'code.replaceRange(arguments[0], { line: 0, ch: 0 }, { line: last, ch: code.getLine(last).length }, "paste");'
+                 'code.getInputField().blur(); await answered', text)
         self.settled()
 
     def follow(self, fragment):
@@ -246,7 +250,6 @@ class Page:
 
     def put(self, selector, value):
         """Types a value into a box, and leaves it."""
-        self.run('const it = document.querySelector(arguments[0]); document.body.dataset.askedBefore = document.body.dataset.asked;'
-                 'it.focus(); it.value = arguments[1]; it.dispatchEvent(new Event("input")); it.dispatchEvent(new Event("change")); it.blur()', selector, value)
-        self.browser.until('return document.body.dataset.asked !== document.body.dataset.askedBefore')
+        self.run(ANSWERED + 'const it = document.querySelector(arguments[0]); it.focus(); it.value = arguments[1];'
+                 'it.dispatchEvent(new Event("input")); it.dispatchEvent(new Event("change")); it.blur(); await answered', selector, value)
         self.settled()
