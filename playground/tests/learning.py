@@ -65,9 +65,12 @@ def exercises_check_themselves(page):
 
 
 def the_help_has_all(page):
-    """The sheet, the keys, all faults and refusals, the version and the sums are in the help."""
+    """The sheet with each keyword, the keys, all faults and refusals, the version and the sums are in the help."""
     page.click('#help')
     text = page.text('#helping')
+    keywords = re.search(r'Keywords: ([^.]*)\.', read('docs/reference/language.md'))[1].split()
+    sheet = set(re.findall(r'\w+', page.run('return [...document.querySelector("#helping section").querySelectorAll("code")].map(it => it.innerText).join(" ")')))
+    equal(set(keywords) - sheet, set(), f'keywords that the sheet does not have, of {len(keywords)}')
     pages = ''.join(read(it) for it in ('docs/reference/language.md', 'docs/reference/messages.md') if os.path.isfile(f'{TOP}/{it}'))
     rules = sorted(set(re.findall(r'^### (?:Fault )?(\d+ \w+)$', pages, re.M)))
     holds(len(rules) == 39, f'{len(rules)} rules in docs/reference')

@@ -10,7 +10,9 @@ MOST_OF_NODES, MOST_OF_TOKENS, MEASURED, BEFORE = 60, 50, 20, 4
 MOST_TRIES = 12
 MOST_TO_OPEN, MOST_TO_OPEN_LONG = 0.3, 2
 # Examples that are stepped through. Then how many positions are looked at, of these and of the others, and at which of them arrows are.
-STEPPED, ALL_POSITIONS, SOME_POSITIONS = ('list', 'tree', 'doubly', 'queue', 'visitor'), (80, 9), (12, 1)
+STEPPED, ALL_POSITIONS, SOME_POSITIONS = ('list', 'tree', 'doubly', 'queue', 'visitor'), (240, 9), (12, 1)
+# So many objects of a class are drawn one by one.
+MOST_DRAWN = 60
 
 # Goes through positions of the run, at most so many, and looks at arrows at each that this number divides. Gives the objects that move
 # while they live, places that two objects have at once, arrows that go through a box, and how many objects it saw.
@@ -243,12 +245,16 @@ def cells_of_fold(page):
 
 
 def long_chains_fold(page):
-    """A list of 200 nodes is one folded box, which has a cell for each node, in the order of the list."""
-    page.write(CHAIN.replace('{count}', '200'))
-    page.go('end')
-    fold = [it for it in page.boxes() if ' fold' in it['kind']]
-    equal([it['title'] for it in fold], ['200 × Node'])
-    equal(sorted(map(int, cells_of_fold(page))), list(range(200)))
+    """A list of more than 60 nodes is one folded box, which has a cell for each node. One of 60 nodes has a box for each."""
+    for count in (MOST_DRAWN, MOST_DRAWN + 1, 200):
+        page.write(CHAIN.replace('{count}', str(count)))
+        page.go('end')
+        boxes = page.boxes()
+        folds, nodes = [it['title'] for it in boxes if ' fold' in it['kind']], [it for it in boxes if it['title'].endswith(' Node')]
+        is_folded = count > MOST_DRAWN
+        equal((folds, len(nodes) < count), ([f'{count} × Node'] if is_folded else [], is_folded), f'{count} nodes')
+        values = cells_of_fold(page) if is_folded else [dict(zip(it['fields'], it['values']))['value'] for it in nodes]
+        equal(sorted(map(int, values)), list(range(count)), f'{count} nodes')
 
 
 def is_quick(cost, most, what):
