@@ -12,7 +12,7 @@ const range = (first, count) => Array.from({ length: count }, (_, at) => first +
 class Run {
   // `session` holds the run of the text open.
   constructor(text, session) {
-    Object.assign(this, { text, session, source: new Source(text), places: [], depths: [], callers: [], bases: [], undone: [] });
+    Object.assign(this, { text, session, source: new Source(text), places: [], depths: [], callers: [], undone: [] });
     Object.assign(this, { isWhole: false, names: 1, looks: new Map(), older: new Map(), kept: 0 });
   }
 
@@ -32,17 +32,17 @@ class Run {
     return undefined;
   }
 
-  // Adds the next position. Its base is the innermost open call of another object's method.
+  // Adds the next position. A name is given to each object that is made, and never again.
   add(place, depth) {
     let caller = this.last;
     while (caller >= 0 && this.depths[caller] >= depth) caller = this.callers[caller];
-    const [word, , sign] = this.words(caller);
+    const isUndone = caller >= 0 && this.undone[caller] !== (this.words(caller)[0] === 'uncall'), isAgain = place === this.places[this.last];
     this.places.push(place);
     this.depths.push(depth);
     this.callers.push(caller);
-    this.bases.push(sign === '(' ? this.bases[caller] : caller);
-    this.undone.push(caller >= 0 && this.undone[caller] !== (word === 'uncall'));
-    this.names += ['new', 'construct', 'delete'].includes(this.words(this.last)[0]);
+    this.undone.push(isUndone);
+    const [word] = this.words(this.last);
+    this.names += word === 'construct' ? isAgain : word === (isUndone ? 'delete' : 'new');
   }
 
   // The words of the statement at a position.
@@ -53,7 +53,8 @@ class Run {
 
   // ---- variables and objects
 
-  // What was printed of a position: the variables as fields, and the objects. Nothing if it was not asked for.
+  // What was printed of a position: the variables as fields, a line for each call, and the objects. Nothing if it was
+  // not asked for.
   look(index) {
     const look = this.looks.get(index) ?? this.older.get(index);
     return look && (look.report ??= reportOf(look.printed));
@@ -74,7 +75,7 @@ class Run {
     const isWanted = it => it >= 0 && it <= this.last && !this.looks.has(it);
     const wanted = [...new Set(indices)].filter(isWanted).sort((one, other) => one - other);
     if (!wanted.length) return;
-    const shows = ['regs', ...this.cellLines], linesAt = at => wanted.flatMap((it, next) => [moveTo(wanted[next - 1] ?? at, it), ...shows]);
+    const shows = ['regs', 'stack', ...this.cellLines], linesAt = at => wanted.flatMap((it, next) => [moveTo(wanted[next - 1] ?? at, it), ...shows]);
     const { replies } = await this.session.ask(linesAt, isAhead);
     for (const index of wanted) {
       const [move, ...looks] = replies.splice(0, 1 + shows.length), printed = looks.map(it => it.text).join('');
@@ -83,8 +84,8 @@ class Run {
     }
   }
 
-  // The positions that show one: the ends, those next to it, and those that have the object on which its method runs.
-  needed(index) { return [0, index - 1, index, this.bases[index] - 1, this.bases[index], this.last]; }
+  // The positions that show one: itself, the one before it, and the ends.
+  needed(index) { return [0, index - 1, index, this.last]; }
 
   has(index) { return this.needed(index).every(it => it < 0 || this.looks.has(it) || this.older.has(it)); }
 
@@ -102,10 +103,11 @@ class Run {
 
   // ---- calls
 
-  // The object on which the method at a position runs, if that is known. An element is moved before its call.
-  self(index) {
-    const base = this.bases[index], first = this.source.first(this.places[base]) + 1, isElement = this.words(base)[2] === '[';
-    return base < 0 ? '#1' : new Expression(this, base - isElement).value(first, this.source.afterPlace(first));
+  // The object of the innermost call at a position, or of that with so many calls, if it is known. A test that failed
+  // has the calls of the position before it.
+  self(index, depth = this.depths[index]) {
+    const calls = this.look(index - (index === this.test))?.rest ?? [];
+    return /#\d+/.exec(calls[Math.max(1, depth) - 1])?.[0];
   }
 
   // Parameters and locals: the variables after the fields of the current object.
@@ -123,7 +125,7 @@ class Run {
   calls(index, most = Infinity) {
     if (this.places[index] < 0) return [];
     const all = [index, ...this.chain(index)].reverse(), left = all.length - most + 1;
-    const call = at => ({ at, self: this.self(at), method: this.source.method(this.places[at]), isUndone: this.undone[at] });
+    const call = at => ({ at, self: this.self(index, this.depths[at]), method: this.source.method(this.places[at]), isUndone: this.undone[at] });
     return left > 1 ? [call(all[0]), { left }, ...all.slice(1 + left).map(call)] : all.map(call);
   }
 
