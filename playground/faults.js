@@ -4,7 +4,7 @@
 
 // The last fault of a test that has a value. If the expression of a test fails, the values are those of an element.
 const DELOCAL = 3;
-const IMAGE_HEADER = 16, CELL_BYTES = 8, TO_THE_END = 'step 100000000000000000';
+const IMAGE_HEADER = 16, CELL_BYTES = 8;
 
 // The image with the numbers of a run in its static words.
 function withNumbers(image, listing, numbers) {
@@ -15,8 +15,8 @@ function withNumbers(image, listing, numbers) {
 }
 
 // The fault of a run: its number and name, the place of its statement if the program names it, and what a failed test
-// says. `machine` is what `go` answered, `runImage` runs the image, `sessionOf` gives a session of another text.
-async function findFault(run, machine, runImage, sessionOf) {
+// says. `machine` is what `go` answered, `runImage` runs the image.
+async function findFault(run, machine, runImage) {
   const fault = faultOf(machine.text), told = run.failing?.number === fault.number ? run.failing : undefined;
   const from = told ? undefined : /^from (\d+)$/m.exec((await runImage()).text)?.[1];
   fault.place = told?.place ?? (from && Number(from));
@@ -24,30 +24,20 @@ async function findFault(run, machine, runImage, sessionOf) {
     const test = testOf(run.source, told);
     run.test = run.last + 1;
     run.add(byteOf(run.text, run.source.tokens[test.keyword].at), told.depth);
-    run.looks.set(run.test, { printed: told.printed + await objectsAtTest(run, told, sessionOf) });
+    run.looks.set(run.test, { printed: told.printed + await objectsAtTest(run) });
     fault.failure = failureOf(run, told, test);
   }
   return { ...fault, isUndone: run.undone[run.last] };
 }
 
-// The objects at a test that failed, as they are printed. `fault` does not say them, and the last position is the one
-// before the last statement. So the run is made once more with a `skip` between that statement and the test.
-async function objectsAtTest(run, told, sessionOf) {
-  const text = withSkip(run.source, told), session = text ? sessionOf(text) : run.session;
-  const { replies } = await session.ask(at => [text ? TO_THE_END : moveTo(at, run.test - 1), ...run.cellLines]);
-  if (text) session.end();
+// The objects at a test that failed, as the session prints them. They have the names of the position before, and one
+// that the statement there may have given: for each request the source is run again.
+async function objectsAtTest(run) {
+  await run.ask([run.test - 1]);
+  const names = [run.names, ...run.objects(run.test - 1).map(it => Number(it.name.slice(1)))];
+  const firsts = [...new Set(names.map(it => it - (it - 1) % NAMES_AT_ONCE))].sort((one, other) => one - other);
+  const { replies } = await run.session.ask(at => [moveTo(at, run.test - 1), ...firsts.map(it => `fault cells ${it} ${NAMES_AT_ONCE}`)]);
   return replies.slice(1).map(it => it.text).join('');
-}
-
-// The text with a `skip` between a test that failed and the last statement before it, on the same line. Nothing if
-// there is no such statement: then the statement of the test began at the last position.
-function withSkip(source, { place, word, needed }) {
-  const first = source.first(place), { middle, closer } = source.parts(first), isTrue = needed === 'true';
-  const before = { fi: isTrue ? middle[1] : closer, from: isTrue ? undefined : closer, delocal: closer }[word];
-  const after = { if: middle[isTrue ? 0 : 1], until: isTrue ? undefined : middle[1], local: source.afterHead(first) - 1 }[word];
-  if (before === undefined && after === undefined) return undefined;
-  const at = before === undefined ? source.tokens[after].end : source.tokens[before].at;
-  return `${source.text.slice(0, at)} skip ${source.text.slice(at)}`;
 }
 
 // The faults of `new`. Where a `construct` fails with another one, what fails is its `delete`.

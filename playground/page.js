@@ -225,16 +225,12 @@ class Workbench {
 
   question(words) { return this.call(words({ input: this.input, names: this.inputs.names }, this.limits), this.files()); }
 
-  // A session of the run of a text, which begins with numbers in some fields.
-  sessionOf(text, numbers) {
-    const [heap, depth] = this.limits, input = numbers.length ? [INPUT] : [], send = (message, isAhead) => this.send(message, isAhead);
-    return new LiveSession(this.caller, send, ['source', SOURCE, heap, depth, ...input], this.files(numbers, text));
-  }
-
-  // Begins the session of a run. One that was begun before, and that shows no run yet, ends.
+  // Begins the session of the run of a text, with numbers in some fields. One that was begun before, and that shows no
+  // run yet, ends.
   begin(text, numbers) {
+    const [heap, depth] = this.limits, input = numbers.length ? [INPUT] : [], send = (message, isAhead) => this.send(message, isAhead);
     this.begun?.end();
-    this.begun = this.sessionOf(text, numbers);
+    this.begun = new LiveSession(this.caller, send, ['source', SOURCE, heap, depth, ...input], this.files(numbers, text));
     return this.begun;
   }
 
@@ -294,7 +290,7 @@ class Workbench {
 
   async faultOf(run, machine) {
     if (machine.status !== FAULTED) return undefined;
-    const { heap, depth } = this.inputs.limits, fault = await findFault(run, machine, () => this.runImage(run), text => this.sessionOf(text, this.inputs.numbers()));
+    const { heap, depth } = this.inputs.limits, fault = await findFault(run, machine, () => this.runImage(run));
     return { ...fault, message: await faultMessage(fault, run, heap, depth) };
   }
 

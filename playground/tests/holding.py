@@ -34,12 +34,14 @@ AFTER_CHANGES = (
      {'#1 P': {'x': '0', 'c': '#2'}, '#2 C': {'v': '0'}, 'P::q': {}}),
 )
 MARK = re.compile(r'(@[A-Z])')
-# From here on the page counts what it sends to its worker: calls by their first word, and what sessions are asked.
+# From here on the page counts what it sends to its worker: calls by their first word, and what sessions are asked; and the programs.
 COUNTS = '''
 const { caller } = playground, { send } = Object.getPrototypeOf(caller);
 caller.sent = [];
+caller.texts = new Set();
 caller.send = function (message) {
-  const { session, words, lines } = message;
+  const { session, words, files = [], lines } = message;
+  for (const [name, text] of files) if (name === 'program.rpp') caller.texts.add(text);
   caller.sent.push(session === undefined ? words[0] : words ? 'begin' : lines !== undefined ? 'ask' : 'end');
   return send.call(this, message);
 };
@@ -186,5 +188,16 @@ def objects_at_a_failed_condition_are_drawn(page):
         equal(page.store(), store, f'after a move back and on: {text}')
 
 
+def a_fault_is_found_in_the_session_of_the_run(page):
+    """Where a condition fails, one session begins, as for any other run, and no program has another text than the editor."""
+    for text in (text for text, *_ in (*AFTER_CHANGES, *AFTER_CALLS)):
+        page.run(COUNTS)
+        page.write(text)
+        page.go('end')
+        sent, texts = page.run(SENT), page.run('return [...playground.caller.texts]')
+        equal((sent.count('begin'), texts), (1, [text]), f'{sent}')
+
+
 TESTS = (sessions_reply_as_documented, a_run_has_one_session, a_window_is_asked_for_once, a_session_that_ended_begins_again, a_long_run_opens,
-         a_test_after_a_call_is_in_its_method, objects_at_a_failed_condition_are_drawn)
+         a_test_after_a_call_is_in_its_method, objects_at_a_failed_condition_are_drawn,
+         a_fault_is_found_in_the_session_of_the_run)
