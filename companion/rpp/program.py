@@ -132,6 +132,9 @@ class Program:
         except KeyboardInterrupt:
             self._end()
             raise Interrupted() from None
+        except SystemExit:
+            self._end()
+            raise
         return self._answer(output)
 
     def line(self, words: List[str]) -> List[str]:

@@ -98,6 +98,8 @@ def of_new(it: Place) -> Optional[Hint]:
         return Hint(f'`{word}` must name the class and then the element: `{word} {kind} {it.written(first, -1)}`.', '',
                     (Edit(it.begin(first), it.begin(first), f'{kind} '),), f'Write `{kind}`')
     if it.expects(NAME) and it.inside in ('new', 'delete') and it.at > opened.first + 1:
+        if it.word(-1) == ']' and (made == 'int' or it.has_class(made)):
+            return Hint(f'`{word}` must name the array after its type: `{word} {it.written(opened.first + 1 - it.at, -1)} a`.')
         if word == 'delete':
             return of_delete(it, made)
         return Hint(f'`{word}` must name the variable that it fills: `{word} {made} x`.')
@@ -107,6 +109,8 @@ def of_new(it: Place) -> Optional[Hint]:
 def of_delete(it: Place, name: str) -> Hint:
     """`delete x`."""
     kind = it.declared(name)
+    if it.has_class(name):
+        return Hint(f'`delete` must name the variable after the class: `delete {name} x`.')
     if kind.endswith('[]'):
         return Hint(f'`delete` must name the type and the length and then the array: `delete {kind[:-1]}5] {name}`.',
                     'The length is that of its `new`.')
@@ -176,7 +180,7 @@ def began_with(it: Place, first: int, name: str) -> str:
 def of_word_in_copy(it: Place) -> Optional[Hint]:
     """`copy C x to y`."""
     first = -7 if it.word(-4) == ']' else -5
-    if it.is_behind_place() and it.word(first) in ('copy', 'uncopy') and it.word(-2) in ('to', 'into', 'as', 'from', 'in', 'onto'):
+    if it.is_behind_place() and it.word(first) in ('copy', 'uncopy') and it.word(-2) in ('to', 'into', 'as', 'in', 'onto') and not it.declared(it.word(-2)):
         return Hint(f'There must be no `{it.word(-2)}` between the two variables of `{it.word(first)}`.', 'Leave it out.',
                     (Edit(it.begin(-2), it.begin(-1), ''),), f'Remove `{it.word(-2)}`')
     return None

@@ -294,11 +294,14 @@ class Completion(Case):
         for name in ('two words/in it.rpp', 'at home.rpp', 'a=b/b=c.rpp'):
             os.makedirs(os.path.join(self.folder, os.path.dirname(name)), exist_ok=True)
             self.write(name, 'class P method main() skip')
-        settings = ['env', f'--chdir={self.folder}', f'HOME={self.folder}', f'ZDOTDIR={self.folder}', f'XDG_CONFIG_HOME={self.folder}', 'TERM=xterm',
+        settings = ['env', f'--chdir={self.folder}', f'HOME={self.folder}', f'ZDOTDIR={self.folder}', f'XDG_CONFIG_HOME={self.folder}',
+                    f'XDG_DATA_HOME={self.folder}/.local/share', 'TERM=xterm',
                     f'PATH={TOP}:{os.environ["PATH"]}', f'ROOPLPP_PROGRAM={self.program.path}']
         self.write('.bashrc', f"source {TOP}/editors/bash/rpp.bash\nPS1='type: '\n")
         self.write('.zshrc', f"fpath=({TOP}/editors/zsh $fpath)\nautoload -U compinit && compinit -u\nPS1='type: '\n")
         os.makedirs(os.path.join(self.folder, 'fish'))
+        # (without this folder fish begins to make completions of all manuals)
+        os.makedirs(os.path.join(self.folder, '.local', 'share', 'fish', 'generated_completions'))
         self.write('fish/config.fish', f"source {TOP}/editors/fish/rpp.fish\nfunction fish_prompt; echo -n 'type: '; end\n")
         completed = terminal_of_tests(self).completed
         for shell, words in (('bash', ['--rcfile', f'{self.folder}/.bashrc', '-i']), ('zsh', ['-i']), ('fish', ['-i'])):

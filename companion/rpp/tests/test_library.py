@@ -92,7 +92,7 @@ class LibraryTest(Case):
                 'rpp.check(b"class P int x method main() x += x").fix[:4])')
         os.environ['ROOPLPP_PROGRAM'], kept = self.program.path, os.environ.get('ROOPLPP_PROGRAM')
         try:
-            self.assertEqual(self.python(code, target).stdout, 'True 5 Read\n')
+            self.assertEqual(self.python(code, target).stdout, 'True 5 Put \n')
             script = os.path.join(target, 'bin', 'rpp')
             said = subprocess.run([sys.executable, script, 'help', '16'], env=dict(os.environ, PYTHONPATH=target), stdout=subprocess.PIPE,
                                   universal_newlines=True, check=False).stdout

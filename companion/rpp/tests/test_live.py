@@ -241,7 +241,9 @@ class Held(Case):
         source = self.write('far.rpp', 'class P int x method main() from x = 0 do x += 1 loop skip until x = 1000000000')
         for number in (signal.SIGHUP, signal.SIGTERM):
             with self.subTest(number=number):
-                started = subprocess.Popen([sys.executable, COMMAND, 'debug', source], stdin=subprocess.PIPE, stdout=subprocess.PIPE)
+                # (under nohup the signal is ignored, by what it starts too)
+                started = subprocess.Popen([sys.executable, COMMAND, 'debug', source], stdin=subprocess.PIPE, stdout=subprocess.PIPE,
+                                           preexec_fn=lambda signalled=number: signal.signal(signalled, signal.SIG_DFL))
                 started.stdin.write(b'finish\n')
                 started.stdin.flush()
                 session = self.until(lambda: self.children(started.pid))[0]
@@ -250,6 +252,15 @@ class Held(Case):
                 started.stdout.close()
                 started.stdin.close()
                 self.until(lambda: not os.path.exists(f'/proc/{session}'))
+
+    @unittest.skipUnless(os.path.isdir('/proc/self/task'), 'there is no /proc')
+    def test_no_run_goes_on_when_it_is_told_to_end(self):
+        source = self.write('far.rpp', 'class P int x method main() from x = 0 do x += 1 loop skip until x = 1000000000')
+        started = subprocess.Popen([sys.executable, COMMAND, 'run', source, '--steps', str(10 ** 12)], stdout=subprocess.DEVNULL)
+        run = self.until(lambda: self.children(started.pid))[0]
+        started.terminate()
+        self.assertEqual(started.wait(HANGS), 128 + signal.SIGTERM)
+        self.until(lambda: not os.path.exists(f'/proc/{run}'))
 
     def children(self, process):
         with open(f'/proc/{process}/task/{process}/children', encoding='utf-8') as file:
