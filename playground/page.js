@@ -227,7 +227,7 @@ class Workbench {
 
   // Begins the session of the run of a text, with numbers in some fields. One that was begun before, and that shows no
   // run yet, ends.
-  begin(text, numbers) {
+  openSession(text, numbers) {
     const [heap, depth] = this.limits, input = numbers.length ? [INPUT] : [], send = (message, isAhead) => this.send(message, isAhead);
     this.begun?.end();
     this.begun = new LiveSession(this.caller, send, ['source', SOURCE, heap, depth, ...input], this.files(numbers, text));
@@ -246,7 +246,7 @@ class Workbench {
       const text = this.editor.text;
       this.lessons.name(this.lessons.title(text, this.exercise));
       $('welcome-first').hidden = text !== this.carried.examples[FIRST.example].text;
-      const answer = still(await this.begin(text, []).ask(() => ['regs']));
+      const answer = still(await this.openSession(text, []).ask(() => ['regs']));
       this.editor.clear();
       if (answer.status === REFUSED_TEXT) {
         this.refused(answer, text);
@@ -254,7 +254,7 @@ class Workbench {
       }
       if (answer.status === undefined) this.inputs.show(intsOf(reportOf(answer.replies[0].text).fields).map(([name]) => name));
       const numbers = this.inputs.numbers();
-      await this.film(new Run(text, numbers.length ? this.begin(text, numbers) : this.begun), still);
+      await this.film(new Run(text, numbers.length ? this.openSession(text, numbers) : this.begun), still);
     });
   }
 
