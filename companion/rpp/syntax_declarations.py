@@ -102,7 +102,7 @@ def of_digit_first(it: Place) -> Optional[Hint]:
 
 def of_hyphen(it: Place) -> Optional[Hint]:
     """`int my-count`, where a name is declared, and later where it is changed."""
-    is_name = it.word() == '-' and it.kind(-1) == it.kind(1) == 'name' and it.is_joined(-1) and it.is_joined(0)
+    is_name = it.word() == '-' and it.kind(-1) == 'name' and it.kind(1) == 'name' and it.is_joined(-1) and it.is_joined(0)
     name = f'{it.word(-1)}_{it.word(1)}'
     is_declared = it.expects('class', 'int') or it.expects('inherits') or it.expected <= {'=', '(', ',', ')'}
     if not is_name or not (is_declared or it.is_behind_place() and it.declared(name)):
