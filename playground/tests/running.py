@@ -344,7 +344,7 @@ def mistakes_are_told(page):
     problems = page.text('#problems')
     holds(problems.startswith('Line 1, column 29: self update'), problems)
     holds('its own value' in problems or 'what changes it' in problems, problems)
-    holds('How to fix it: ' in problems and 'local' in problems.split('How to fix it: ')[1], problems)
+    holds('How to fix it: ' in problems and 'y += x + x' in problems.split('How to fix it: ')[1], problems)
     equal([it['marked'] for it in page.lines() if it['marked']], ['x'])
     equal(page.text('#picked'), 'Your program')
     holds(page.is_drawn('#views.stale'), 'the last run is not faded')
