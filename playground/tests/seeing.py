@@ -7,7 +7,7 @@ from drawn import IS_DRAWN, equal, holds, read
 # The most milliseconds of the processor for a move: of a run with 1,000 nodes, and of a program with 20,000 tokens.
 MOST_OF_NODES, MOST_OF_TOKENS, MEASURED, BEFORE = 60, 50, 20, 4
 # The most seconds of the processor in which a run opens.
-MOST_TRIES = 12
+MOST_TRIES = 3
 MOST_TO_OPEN, MOST_TO_OPEN_LONG = 0.3, 2
 # Examples that are stepped through. Then how many positions are looked at, of these and of the others, and at which of them arrows are.
 STEPPED, ALL_POSITIONS, SOME_POSITIONS = ('list', 'tree', 'doubly', 'queue', 'visitor'), (240, 9), (12, 1)
