@@ -63,9 +63,10 @@ class Layer:
     def words(self, command, path='', is_root=False, folder=HOME):
         """The words that run a command of the shell in the system."""
         home = '/root' if is_root else HOME
-        inside = ['--bind', self.top, '/', '--proc', '/proc', '--dev', '/dev', '--tmpfs', '/tmp', '--unshare-net', '--unshare-pid', '--die-with-parent',
-                  '--clearenv', '--setenv', 'HOME', home, '--setenv', 'PATH', f'{path}:{PATH}' if path else PATH, '--setenv', 'LC_ALL', 'C.UTF-8',
-                  '--setenv', 'DEBIAN_FRONTEND', 'noninteractive', '--setenv', 'TERM', 'xterm', '--chdir', folder]
+        # (everyone writes to /tmp)
+        inside = ['--bind', self.top, '/', '--proc', '/proc', '--dev', '/dev', '--perms', '1777', '--tmpfs', '/tmp', '--unshare-net', '--unshare-pid',
+                  '--die-with-parent', '--clearenv', '--setenv', 'HOME', home, '--setenv', 'PATH', f'{path}:{PATH}' if path else PATH,
+                  '--setenv', 'LC_ALL', 'C.UTF-8', '--setenv', 'DEBIAN_FRONTEND', 'noninteractive', '--setenv', 'TERM', 'xterm', '--chdir', folder]
         person = [] if is_root else ['setpriv', '--reuid', NUMBER, '--regid', NUMBER, '--clear-groups']
         return ['bwrap', *inside, *person, 'bash', '-c', command]
 

@@ -24,7 +24,8 @@ PACKED = rf'{CLONE}/release/[\w.-]+\.(tgz|vsix|tar|tar\.gz)'
 
 
 class Way(NamedTuple):
-    """Packages of Debian that are there before, commands in the clone, what calls a program, and what others leave."""
+    """Packages of Debian that are there before, commands in the clone, what calls a program, and what others leave. More packages are
+    there before, if apt has loaded them."""
     name: str
     needs: str
     install: str
@@ -36,6 +37,7 @@ class Way(NamedTuple):
     course: str = f'mkdir {COURSE} && cd {COURSE}'
     stays: str = 'nothing'
     use: str = 'chapter'
+    more: Tuple[str, ...] = ()
 
 
 def commands(page, name):
@@ -106,7 +108,7 @@ def ways_of_others():
     yield Way('completion, by the Debian package', shells, *debian, is_root=True, before=debian,
               stays=f'{NOTES_OF_APT}|{NOTES_OF_FISH}', use='shells')
     yield Way('editors, by the Debian package', 'python3 vim-nox neovim emacs-nox elpa-eglot', *debian, is_root=True, before=debian,
-              stays=f'{NOTES_OF_APT}|{NOTES_OF_EDITORS}', use='editors')
+              stays=f'{NOTES_OF_APT}|{NOTES_OF_EDITORS}', use='editors', more=('vim-ale', 'elpa-dap-mode'))
     install, remove = of_readme('other x86-64 Linux')
     yield Way('completion, by --install', shells, install, remove, path=f'{HOME}/.local/bin', stays=NOTES_OF_FISH, use='shells')
 
