@@ -2,6 +2,7 @@
 ghost use Rattle.std.specs.Prelude.{◌≡◌, ◌≤◌, ◌++◌, ◌∷◌, [], List, ℕ, Some, IfOk, OnOk, OnErr, option_map, string_bytes};
 ghost use Rattle.rpp_tree.specs.Views.{source_of};
 ghost use Rattle.source_meaning.specs.meaning_points.Trail.{trail};
+ghost use Rattle.source_meaning.specs.rpp_words.Limits.{IsLimits};
 ghost use Rattle.source_debugger.specs.declared.running.TheConstants.{MOST_COST};
 ghost use Rattle.source_debugger.specs.declared.moves.TheConstants.{LAST_POSITION};
 ghost use Rattle.source_debugger.specs.Shown.{told_by, walked};
@@ -316,5 +317,27 @@ impl<'a> SourceDebugger<'a> {
         ensures { result ≡ self.now.position }
     {
         self.position
+    }
+
+    /// The program.
+    pub fn checked(&self) -> &'a Checked
+        ensures { result.now ≡ self.now.program }
+    {
+        self.checked
+    }
+
+    /// The limits of the run.
+    pub fn limits(&self) -> Limits
+        ensures same { result ≡ self.now.limits }
+        ensures in_range { IsLimits result }
+    {
+        self.limits
+    }
+
+    /// The input of the run.
+    pub fn input(&self) -> &'a Input
+        ensures { result.now.words.items ≡ self.now.input }
+    {
+        self.input
     }
 }

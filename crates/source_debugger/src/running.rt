@@ -109,9 +109,11 @@ fn counted(passed: u64, place: Option<u32>) -> Result<u64, Stop>
     }
 }
 
-// A step. An error aborts the run, unless it is a fault: that leaves it where it was.
-fn step(course: &mut Course) -> Result<(), Stop>
+// A step, by the statement that begins, if one does. An error aborts the run, unless it is a fault:
+// that leaves it where it was.
+fn step(course: &mut Course, here: Option<u32>) -> Result<(), Stop>
     requires whole { course.old.execution.broken ≡ false }
+    requires here { here ≡ next_place (config_at course.old.execution).rest }
     ensures gives { Gives (λ u. config_at course.new.execution) result course.new.fuel
         (metered course.old.fuel
         (next (setting_at course.old.execution) (config_at course.old.execution))) }
@@ -125,7 +127,7 @@ fn step(course: &mut Course) -> Result<(), Stop>
         (2 * course.new.fuel + length (config_at course.new.execution).around)
         (2 * course.old.fuel + length (config_at course.old.execution).around)) }
 {
-    match counted(course.passed, course.execution.place()) {
+    match counted(course.passed, here) {
         Err(why) => {
             course.broken = true;
             Err(why)
@@ -298,11 +300,12 @@ fn go_on<'a>(run: &Run<'a>, course: &mut Course<'a>, watching: Watching) -> Resu
     run.checked.program();
     let mut watch = ahead(watching, course.passed);
     while !course.execution.is_over() {
-        if wanted(watch, course.execution.place()) {
+        let here = course.execution.place();
+        if wanted(watch, here) {
             return arrive(run.alloc, course, watch);
         }
-        watch = behind(watch, course.execution.place());
-        match step(course) {
+        watch = behind(watch, here);
+        match step(course, here) {
             Ok(()) => {}
             Err(stop) => return broken(stop, watch),
         }

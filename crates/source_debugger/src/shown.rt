@@ -26,6 +26,9 @@ use source_execution::Variable;
 use source_store::{Heap, Lack, Value};
 use std::alloc::{AllocError, Global};
 
+// The space for a text of a few lines.
+const FEW_BYTES: usize = 64;
+
 /// The position of a run: at a trace point, or at its end.
 #[derive(Drop)]
 pub(crate) enum Place {
@@ -86,7 +89,7 @@ fn line_text(alloc: Global, walk: Walk, place: &Place) -> Result<String, AllocEr
     ensures { IfOk result (λ text. (heap : Kept)
         → line_at walk.position (stand_of place.now heap) walk.ending ≡ Some (string_bytes text)) }
 {
-    let mut text = String::new(alloc);
+    let mut text = String::with_capacity(alloc, FEW_BYTES)?;
     let position = walk.position;
     match place {
         Place::Point { arrival } => {
@@ -162,7 +165,7 @@ fn place_regs(alloc: Global, checked: &Checked, place: &Place, heap: &Heap) -> R
     ensures { IfOk result (λ text. regs_at (source_of checked.now) (stand_of place.now heap.now)
         ≡ Some (string_bytes text)) }
 {
-    let mut text = String::new(alloc);
+    let mut text = String::with_capacity(alloc, FEW_BYTES)?;
     match place {
         Place::Point { arrival } => add_state(
             &mut text,

@@ -16,16 +16,16 @@ loop-course-init c =
     c.ahead-watch.ensures
 
 pub step-requires : goal.step-requires
-step-requires c = record { whole = c.loop-course.invariant.way.whole }
+step-requires c = record { whole = c.loop-course.invariant.way.whole; here = c.place-here.ensures }
 
 pub arrive-requires : goal.arrive-requires
-arrive-requires c = ap (wanted c.loop-course.watch) (sym c.place.ensures) ∙ sym c.wanted.ensures ∙ c.if-wanted.true
+arrive-requires c = ap (wanted c.loop-course.watch) (sym c.place-here.ensures) ∙ sym c.wanted.ensures ∙ c.if-wanted.true
 
 pub returns-then-wanted-clause-ended : goal.returns-then-wanted-clause-ended
 returns-then-wanted-clause-ended c =
     is_at (source_of c.args.run.now.checked.now) c.args.run.now.limits c.args.run.now.input.now.words.items MOST_COST
     c.loop-course.course c.args.watching c.loop-course.watch c.loop-course.invariant c.arrive.result
-    (ap (wanted c.loop-course.watch) (sym c.place.ensures) ∙ sym c.wanted.ensures ∙ c.if-wanted.true)
+    (ap (wanted c.loop-course.watch) (sym c.place-here.ensures) ∙ sym c.wanted.ensures ∙ c.if-wanted.true)
     c.arrive.ensures
 
 pub returns-then-wanted-clause-holds : goal.returns-then-wanted-clause-holds
@@ -35,10 +35,10 @@ pub loop-course-preserved : goal.loop-course-preserved
 loop-course-preserved c =
     subst (λ (w : Watching). HasCome (source_of c.args.run.now.checked.now) c.args.run.now.limits
     c.args.run.now.input.now.words.items MOST_COST c.step.new.course c.args.watching w)
-    (sym (c.behind-watch.ensures ∙ ap (behind c.loop-course.watch) c.place-in-loop-course.ensures))
+    (sym (c.behind-watch.ensures ∙ ap (behind c.loop-course.watch) c.place-here.ensures))
     (come_further (source_of c.args.run.now.checked.now) c.args.run.now.limits c.args.run.now.input.now.words.items
     MOST_COST c.loop-course.course c.args.watching c.loop-course.watch c.loop-course.invariant
-    (ap (wanted c.loop-course.watch) (sym c.place.ensures) ∙ sym c.wanted.ensures ∙ c.if-wanted.false)
+    (ap (wanted c.loop-course.watch) (sym c.place-here.ensures) ∙ sym c.wanted.ensures ∙ c.if-wanted.false)
     c.step.new.course c.in-Ok.ensures.gives c.in-Ok.ensures.setting c.in-Ok.ensures.whole c.in-Ok.ensures.passed)
 
 pub returns-in-Err-clause-ended : goal.returns-in-Err-clause-ended
@@ -46,10 +46,10 @@ returns-in-Err-clause-ended c =
     is_stopped (source_of c.args.run.now.checked.now) c.args.run.now.limits c.args.run.now.input.now.words.items
     MOST_COST c.loop-course.course c.args.watching c.loop-course.watch c.loop-course.invariant c.broken.result
     (heap_of c.step.new.course) c.in-Err.stop c.step.new.course.fuel
-    (ap (wanted c.loop-course.watch) (sym c.place.ensures) ∙ sym c.wanted.ensures ∙ c.if-wanted.false)
+    (ap (wanted c.loop-course.watch) (sym c.place-here.ensures) ∙ sym c.wanted.ensures ∙ c.if-wanted.false)
     c.in-Err.ensures.gives
     (subst (λ (w : Watching). IfOk c.broken.result (λ e. IsStopped c.in-Err.stop w e))
-    (c.behind-watch.ensures ∙ ap (behind c.loop-course.watch) c.place-in-loop-course.ensures) c.broken.ensures)
+    (c.behind-watch.ensures ∙ ap (behind c.loop-course.watch) c.place-here.ensures) c.broken.ensures)
 
 pub returns-in-Err-clause-holds : goal.returns-in-Err-clause-holds
 returns-in-Err-clause-holds c =
