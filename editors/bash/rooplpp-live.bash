@@ -3,7 +3,7 @@ _rooplpp_live() {
     local word=${COMP_WORDS[COMP_CWORD]} forms=() form=() at=$((COMP_CWORD - 1))
 # <!-- forms -->
     forms+=('source F - - F -')
-    forms+=('image F - - -')
+    forms+=('image F - - F -')
 # <!-- end -->
     if [ "$at" -eq 0 ]; then
         mapfile -t COMPREPLY < <(compgen -W "${forms[*]%% *}" -- "$word")

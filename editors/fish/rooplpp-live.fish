@@ -2,7 +2,7 @@
 set -g __rooplpp_live_forms
 # <!-- forms -->
 set -a __rooplpp_live_forms 'source F - - F -'
-set -a __rooplpp_live_forms 'image F - - -'
+set -a __rooplpp_live_forms 'image F - - F -'
 # <!-- end -->
 function __rooplpp_live_takes_file
     set -l words (commandline -opc)

@@ -24,6 +24,7 @@ use Rattle.plan_serving.specs.Outside.{Shelved}
 use Rattle.plan_serving.proofs.Fetched.{some_none}
 use Rattle.live_talks.specs.Talks.{Talk, Printed, Puts, status_by}
 use Rattle.live_talks.specs.Sessions.{IsSession}
+use Rattle.live_talks.specs.Limits.{held as held_at}
 use Rattle.live_session.specs.Sessions.{RepliesOf}
 use Rattle.live_command.specs.Beginnings.{Opened}
 use Rattle.live_command.specs.Lives.{PutsOnce, Prints, greeting, words_refused, OpensRun, Starts, Lives}
@@ -66,7 +67,8 @@ lives_some it begun rose shelf shelf' before after status is h =
 pub greets : (d : Standing) (talk : Talk) (new : Printed) (after : Talk) (status : ℕ)
     (answer : Result (Unit {0}) SinkFault)
     → d.position ≡ 0 → answer ≡ Ok tt → Puts greeting answer talk.out new
-    → IsSession (RepliesOf (source_of d.program) (account_of d)) d.position (talk_with talk new) after status
+    → IsSession (RepliesOf (source_of d.program) (account_of d)) (held_at d.position None) (talk_with talk new) after
+    status
     → OpensRun talk after status (source_of d.program) d.limits d.input
 greets d talk new after status answer start is puts session = inr (inr (record {
   fuel = MOST_COST;
@@ -76,8 +78,8 @@ greets d talk new after status answer start is puts session = inr (inr (record {
     lines = refl;
     heard = refl;
   };
-  session = subst (λ (j : ℕ). IsSession (RepliesOf (source_of d.program) (account_of d)) j (talk_with talk new) after
-      status) start
+  session = subst (λ (j : ℕ). IsSession (RepliesOf (source_of d.program) (account_of d)) (held_at j None)
+      (talk_with talk new) after status) start
       session;
 }))
 

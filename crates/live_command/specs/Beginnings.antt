@@ -16,10 +16,11 @@ pub record Begun : Type 0 where
   pub room : Room
   pub input : Option (List ℕ)
 
--- the file of an image, and the sizes of the memory
+-- the file of an image, the sizes of the memory, and the file of a state, if there is one
 pub record Loads : Type 0 where
   pub file : List ℕ
   pub room : Room
+  pub state : Option (List ℕ)
 
 -- a session of a source, or of an image
 pub data Opened : Type 0 where
@@ -34,7 +35,11 @@ begun it = record {
 }
 
 abbrev pub loads : Loading → Loads
-loads it = record { file = string_bytes it.file; room = it.room }
+loads it = record {
+  file = string_bytes it.file;
+  room = it.room;
+  state = option_map string_bytes it.state;
+}
 
 abbrev pub opened : Opening → Opened
 opened (Source it) = OfSource (begun it)
@@ -59,13 +64,15 @@ source_begin (file ∷ heap ∷ deep ∷ []) = source_with file (room_of heap de
 source_begin (file ∷ heap ∷ deep ∷ input ∷ []) = source_with file (room_of heap deep) (Some input)
 source_begin _ = None
 
-abbrev pub image_with : (file : List ℕ) → Option Room → Option Opened
-image_with file None = None
-image_with file (Some room) = Some (OfImage (record { file = file; room = room }))
+abbrev pub image_with : (file : List ℕ) → Option Room → (state : Option (List ℕ)) → Option Opened
+image_with file None state = None
+image_with file (Some room) state =
+    Some (OfImage (record { file = file; room = room; state = state }))
 
--- IMG H D
+-- IMG H D, and perhaps STATE
 abbrev pub image_begin : List (List ℕ) → Option Opened
-image_begin (file ∷ heap ∷ deep ∷ []) = image_with file (room_of heap deep)
+image_begin (file ∷ heap ∷ deep ∷ []) = image_with file (room_of heap deep) None
+image_begin (file ∷ heap ∷ deep ∷ state ∷ []) = image_with file (room_of heap deep) (Some state)
 image_begin _ = None
 
 -- what the words begin, if they begin a session

@@ -2,7 +2,7 @@
 -- it is passed and as it is left. `before` and `after` are the lines that come in, what was heard
 -- and what was put, before and after.
 use Rattle.std.specs.Prelude.{◌≡◌, ◌⊎◌, ℕ, List, [], ◌∷◌, ◌++◌, get_or, codes, None, Some, Result}
-use Rattle.std.specs.Prelude.{Ok, Err}
+use Rattle.std.specs.Prelude.{Ok, Err, slice_get}
 use Rattle.std.specs.declared.option.Option.{Option}
 use Rattle.run_settings.specs.rpp_words.declared.input.FieldWord.{FieldWord}
 use Rattle.run_settings.specs.rpp_words.declared.input.Limits.{Limits}
@@ -16,7 +16,7 @@ use Rattle.command_plan.specs.pisa_image.declared.error.ImageError.{ImageError}
 use Rattle.command_plan.specs.pisa_image.Reading.{image_at}
 use Rattle.command_plan.specs.pisa_loader.Limiting.{limits_refusal}
 use Rattle.command_plan.specs.pisa_loader.declared.error.LoadError.{LoadError}
-use Rattle.command_plan.specs.Files.{Needed, source, input_files, image_file}
+use Rattle.command_plan.specs.Files.{Needed, source, input_files, image_file, state_files}
 use Rattle.command_plan.specs.Reads.{Gave, StopsAt, ReadsSome}
 use Rattle.command_plan.specs.Plans.{Planned, code_of}
 use Rattle.command_plan.specs.Texts.{image_line, load_line}
@@ -25,12 +25,13 @@ use Rattle.plan_serving.specs.Outside.{Shelved}
 use Rattle.source_debugger.specs.Failures.{account}
 use Rattle.live_talks.specs.Talks.{Talk, Printed, Puts, Says, status_by}
 use Rattle.live_talks.specs.Sessions.{IsSession}
+use Rattle.live_talks.specs.Limits.{Held, held, WithLimits}
 use Rattle.live_session.specs.Sessions.{RepliesOf}
 use Rattle.pisa_isa.specs.Image.{Segments}
 use Rattle.pisa_isa.specs.Notes.{NotedImage}
 use Rattle.two_way_debugger.specs.pisa_machine.Position.{Position}
-use Rattle.image_commands.specs.DebugPlans.{start_of}
-use Rattle.live_images.specs.Replies.{RepliesOf as RepliesAlong}
+use Rattle.image_commands.specs.ImagePlans.{first_of}
+use Rattle.live_images.specs.Sessions.{RepliesOf as RepliesAlong}
 use Rattle.live_command.specs.Beginnings.{Opened, OfSource, OfImage}
 
 abbrev pub words_refused : List ℕ
@@ -63,14 +64,15 @@ pub record Prints (text : List ℕ) (taken : ℕ) (before after : Talk) (status 
   pub says : Says text answer before after
   pub status_is : status ≡ status_by taken answer
 
--- the greeting was put, and a session was held along the points of the run, with fuel enough
+-- the greeting was put, and a session was held along the points of the run, with fuel enough, at
+-- first with no limit on the moves of a request
 pub record HoldsSession (program : Source) (limits : Limits) (input : List FieldWord)
     (before after : Talk) (status : ℕ) : Type 0 where
   pub fuel : ℕ
   pub talk : Talk
   pub greets : Says greeting (Ok tt) before talk
-  pub session : IsSession (RepliesOf program (account program limits input fuel)) 0 talk after
-      status
+  pub session : IsSession (RepliesOf program (account program limits input fuel)) (held 0 None) talk
+      after status
 
 -- the greeting was not taken
 pub record FailsToGreet (greeting : List ℕ) (before after : Talk) (status : ℕ) : Type 0 where
@@ -103,53 +105,64 @@ Starts text given room before after status =
 -- ---- the run of an image
 
 -- the greeting was put, and a session was held along the positions of the machine from one on
-pub record HoldsAlong (first : Position) (before after : Talk) (status : ℕ) : Type 0 where
+pub record HoldsAlong (first : Held Position) (before after : Talk) (status : ℕ) : Type 0 where
   pub talk : Talk
   pub greets : Says image_greeting (Ok tt) before talk
-  pub session : IsSession RepliesAlong first talk after status
+  pub session : IsSession (WithLimits RepliesAlong) first talk after status
 
-abbrev pub OpensAlong : (first : Position) → (before after : Talk) → (status : ℕ) → Type 0
+abbrev pub OpensAlong : (first : Held Position) → (before after : Talk) → (status : ℕ) → Type 0
 OpensAlong first before after status =
     LacksMemory before after status
     ⊎ (FailsToGreet image_greeting before after status ⊎ HoldsAlong first before after status)
 
--- what is done with an image: it is loaded
-abbrev pub OpensImage : Segments → Limits → (before after : Talk) → (status : ℕ) → Type 0
-OpensImage image limits before after status = OpensAlong (start_of image limits) before after status
+-- where the run begins: at the loaded memory, or at a state, of which the first refusal is put
+abbrev pub OpensImage : Result Position LoadError → (before after : Talk) → (status : ℕ) → Type 0
+OpensImage (Err e) before after status =
+    LacksMemory before after status
+    ⊎ Prints (load_line e) (code_of ImageRefused) before after status
+OpensImage (Ok first) before after status = OpensAlong (held first None) before after status
 
--- the sizes of the memory are tried before the image is loaded
-abbrev pub SizesImage : Option LoadError → Segments → Limits → (before after : Talk) → (status : ℕ)
-    → Type 0
-SizesImage (Some e) image limits before after status =
+abbrev pub StartsImage : Segments → Limits → (state : Option (List ℕ)) → (before after : Talk)
+    → (status : ℕ) → Type 0
+StartsImage image limits state before after status =
+    LacksMemory before after status
+    ⊎ OpensImage (first_of image limits state) before after status
+
+-- the sizes of the memory are tried before the state
+abbrev pub SizesImage : Option LoadError → Segments → Limits → (state : Option (List ℕ))
+    → (before after : Talk) → (status : ℕ) → Type 0
+SizesImage (Some e) image limits state before after status =
     LacksMemory before after status
     ⊎ Prints (load_line e) (code_of InputRefused) before after status
-SizesImage None image limits before after status = OpensImage image limits before after status
+SizesImage None image limits state before after status =
+    StartsImage image limits state before after status
 
 -- the first refusal of the image is put, with its status
-abbrev pub ReadsImage : Result NotedImage ImageError → Room → (before after : Talk) → (status : ℕ)
-    → Type 0
-ReadsImage (Err e) room before after status =
+abbrev pub ReadsImage : Result NotedImage ImageError → Room → (state : Option (List ℕ))
+    → (before after : Talk) → (status : ℕ) → Type 0
+ReadsImage (Err e) room state before after status =
     LacksMemory before after status
     ⊎ Prints (image_line e) (code_of ImageRefused) before after status
-ReadsImage (Ok n) room before after status =
+ReadsImage (Ok n) room state before after status =
     LacksMemory before after status
     ⊎ SizesImage (limits_refusal room.heap room.deep MOST_DEEP) n.image
-    (record { heap = room.heap; deep = room.deep }) before after status
+    (record { heap = room.heap; deep = room.deep }) state before after status
 
 -- ---- the files
 
 -- the files that the words name, in order
 abbrev pub files_of : Opened → List Needed
 files_of (OfSource it) = source it.file ∷ input_files it.input
-files_of (OfImage it) = image_file it.file ∷ []
+files_of (OfImage it) = image_file it.file ∷ state_files it.state
 
--- what is done with their texts: the second one of a source, if there is one, is the input
+-- what is done with their texts: the second one, if there is one, is the input of a source, or the
+-- state of an image
 abbrev pub StartsBy : Opened → (texts : List (List ℕ)) → (before after : Talk) → (status : ℕ)
     → Type 0
 StartsBy (OfSource it) texts before after status =
     Starts (get_or texts 0 []) (get_or texts 1 []) it.room before after status
 StartsBy (OfImage it) texts before after status =
-    ReadsImage (image_at (get_or texts 0 [])) it.room before after status
+    ReadsImage (image_at (get_or texts 0 [])) it.room (slice_get texts 1) before after status
 
 -- the files were read, each once and in order, and a session is begun of their texts
 pub record Begins (it : Opened) (shelf shelf' : Shelved) (before after : Talk) (status : ℕ)

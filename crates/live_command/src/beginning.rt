@@ -4,7 +4,7 @@ ghost use Rattle.plan_serving.specs.Wanted.{file_of};
 ghost use Rattle.live_command.specs.Beginnings.{begun, loads, opened, OfSource, OfImage, begin_of, source_begin, source_with, image_begin, image_with, room_of};
 ghost use Rattle.live_command.specs.Lives.{files_of};
 
-use command_plan::{MOST_IMAGE, Room};
+use command_plan::{MOST_IMAGE, MOST_STATE, Room};
 use pisa_loader::MOST_INPUT;
 use pisa_scripts::short_number;
 use plan_serving::Wanted;
@@ -21,11 +21,13 @@ pub(crate) struct Beginning {
     pub input: Option<String>,
 }
 
-/// What a session of an image is held of: its file, and the sizes of its memory.
+/// What a session of an image is held of: its file, the sizes of its memory, and the file of a state,
+/// if there is one.
 #[derive(Drop)]
 pub(crate) struct Loading {
     pub file: String,
     pub room: Room,
+    pub state: Option<String>,
 }
 
 /// What a session is held of.
@@ -33,7 +35,7 @@ pub(crate) struct Loading {
 pub(crate) enum Opening {
     /// `source F H D`, or `source F H D INPUT`.
     Source(Beginning),
-    /// `image IMG H D`.
+    /// `image IMG H D`, or `image IMG H D STATE`.
     Image(Loading),
 }
 
@@ -83,14 +85,21 @@ fn read_image_words(args: &[String]) -> Result<Option<Opening>, NoMemory>
     ensures { IfOk result (λ it. option_map opened it ≡ image_begin (map string_bytes args.now)) }
 {
     match args {
-        [file, heap, deep] => loads_image(file, read_room(heap, deep)),
+        [file, heap, deep] => loads_image(file, read_room(heap, deep), None),
+        [file, heap, deep, state] => {
+            loads_image(file, read_room(heap, deep), Some(state.clone()?))
+        }
         _ => Ok(None),
     }
 }
 
-fn loads_image(file: &String, room: Option<Room>) -> Result<Option<Opening>, NoMemory>
+fn loads_image(
+    file: &String,
+    room: Option<Room>,
+    state: Option<String>,
+) -> Result<Option<Opening>, NoMemory>
     ensures { IfOk result (λ it. option_map opened it
-        ≡ image_with (string_bytes file.now) room) }
+        ≡ image_with (string_bytes file.now) room (option_map string_bytes state)) }
 {
     let Some(room) = room else {
         return Ok(None);
@@ -98,6 +107,7 @@ fn loads_image(file: &String, room: Option<Room>) -> Result<Option<Opening>, NoM
     Ok(Some(Opening::Image(Loading {
         file: file.clone()?,
         room,
+        state,
     })))
 }
 
@@ -119,7 +129,7 @@ pub(crate) fn wanted_files(alloc: Global, it: &Beginning) -> Result<Vec<Wanted>,
     Ok(files)
 }
 
-/// The file that a session of an image reads.
+/// The files that a session of an image reads, in order.
 pub(crate) fn wanted_image(alloc: Global, it: &Loading) -> Result<Vec<Wanted>, AllocError>
     ensures { IfOk result (λ files. map file_of files.items ≡ files_of (OfImage (loads it.now))) }
 {
@@ -128,6 +138,12 @@ pub(crate) fn wanted_image(alloc: Global, it: &Loading) -> Result<Vec<Wanted>, A
         name: it.file.clone()?,
         limit: MOST_IMAGE as u64,
     })?;
+    if let Some(name) = &it.state {
+        files.push(Wanted {
+            name: name.clone()?,
+            limit: MOST_STATE as u64,
+        })?;
+    }
     Ok(files)
 }
 

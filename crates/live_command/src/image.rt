@@ -1,24 +1,27 @@
 // Sessions of images.
-ghost use Rattle.std.specs.Prelude.{◌≡◌, ◌≤◌, Some, [], get_or, map};
+ghost use Rattle.std.specs.Prelude.{◌≡◌, ◌≤◌, Some, [], get_or, slice_get, map, option_map};
 ghost use Rattle.run_settings.specs.rpp_ports.Ports.{Rose};
 ghost use Rattle.run_settings.specs.rpp_words.Limits.{IsLimits};
 ghost use Rattle.run_settings.specs.rpp_words.declared.input.TheConstants.{MOST_DEEP};
 ghost use Rattle.command_plan.specs.pisa_image.Reading.{image_at};
 ghost use Rattle.command_plan.specs.pisa_loader.Limiting.{limits_refusal};
+ghost use Rattle.command_plan.specs.pisa_loader.States.{Gives};
+ghost use Rattle.image_commands.specs.ImagePlans.{first_of};
 ghost use Rattle.plan_serving.specs.Places.{held_bytes};
 ghost use Rattle.live_command.specs.Beginnings.{loads, OfImage};
-ghost use Rattle.live_command.specs.Lives.{Lives, ReadsImage, SizesImage, OpensImage, OpensAlong};
+ghost use Rattle.live_command.specs.Lives.{Lives, ReadsImage, SizesImage, StartsImage, OpensAlong};
+ghost use Rattle.live_images.specs.Sessions.{held_in};
 
 use crate::beginning::{Loading, wanted_image};
 use crate::reporting::report;
 use command_plan::{NoPlan, Room, Verdict, image_line, load_line};
-use live_images::serve;
+use live_images::{Run, serve};
 use live_port::Asker;
 use live_talks::{say, status_by};
 use pisa_image::{ImageError, read_image};
 use pisa_isa::Image;
-use pisa_loader::{check_limits, load};
-use pisa_machine::Steps;
+use pisa_loader::{LoadError, check_limits, load, load_state};
+use pisa_machine::{Machine, Steps};
 use plan_serving::fetch;
 use rpp_ports::{Named, Shelf, Sink};
 use rpp_words::{Input, Limits, MOST_DEEP, NoMemory};
@@ -31,7 +34,7 @@ const OUTSIDE: u8 = 2;
 
 const NO_MEMORY: u8 = 7;
 
-/// Reads the file of an image, and holds its session.
+/// Reads the files of a session of an image, and holds it.
 pub(crate) fn begin_image<S: Shelf, A: Asker, K: Sink>(
     alloc: Global,
     loading: &Loading,
@@ -62,7 +65,10 @@ pub(crate) fn begin_image<S: Shelf, A: Asker, K: Sink>(
     match fetch(alloc, shelf, &files, "") {
         Err(NoPlan::NoMemory) => NO_MEMORY,
         Err(NoPlan::Unread { text }) => report(out, text.as_str(), OUTSIDE),
-        Ok(texts) => start_image(alloc, first_text(&texts), loading.room, asker, out),
+        Ok(texts) => {
+            let state = second_text(&texts);
+            start_image(alloc, first_text(&texts), &state, loading.room, asker, out)
+        }
     }
 }
 
@@ -77,15 +83,26 @@ fn first_text(texts: &[Named]) -> &[u8]
     }
 }
 
+// The second text, if there is one.
+fn second_text(texts: &[Named]) -> Option<&[u8]>
+    ensures { option_map (λ text. text.now) result ≡ slice_get (map held_bytes texts.now) 1 }
+{
+    match texts {
+        [_image, state, ..] => Some(state.bytes.as_slice()),
+        _ => None,
+    }
+}
+
 // Reads the bytes of an image.
 fn start_image<A: Asker, K: Sink>(
     alloc: Global,
     bytes: &[u8],
+    state: &Option<&[u8]>,
     room: Room,
     asker: &mut A,
     out: &mut K,
 ) -> u8
-    ensures { ReadsImage (image_at bytes.now) room
+    ensures { ReadsImage (image_at bytes.now) room (option_map (λ text. text.now) state.now)
         (record {
           lines = A.lines asker.old;
           heard = A.events asker.old;
@@ -98,7 +115,7 @@ fn start_image<A: Asker, K: Sink>(
         }) result }
 {
     match read_image(alloc, bytes) {
-        Ok(noted) => size_image(alloc, noted.into_parts().0, room, asker, out),
+        Ok(noted) => size_image(alloc, noted.into_parts().0, room, state, asker, out),
         Err(ImageError::NoMemory) => NO_MEMORY,
         Err(e) => match image_line(alloc, e) {
             Ok(line) => report(out, line.as_str(), Verdict::ImageRefused.code()),
@@ -112,11 +129,12 @@ fn size_image<A: Asker, K: Sink>(
     alloc: Global,
     image: Image,
     room: Room,
+    state: &Option<&[u8]>,
     asker: &mut A,
     out: &mut K,
 ) -> u8
     ensures { SizesImage (limits_refusal room.heap room.deep MOST_DEEP) image
-        (record { heap = room.heap; deep = room.deep })
+        (record { heap = room.heap; deep = room.deep }) (option_map (λ text. text.now) state.now)
         (record {
           lines = A.lines asker.old;
           heard = A.events asker.old;
@@ -129,7 +147,7 @@ fn size_image<A: Asker, K: Sink>(
         }) result }
 {
     match check_limits(room.heap, room.deep, MOST_DEEP) {
-        Ok(limits) => load_image(alloc, image, limits, asker, out),
+        Ok(limits) => load_image(alloc, image, limits, state, asker, out),
         Err(e) => match load_line(alloc, e) {
             Ok(line) => report(out, line.as_str(), Verdict::InputRefused.code()),
             Err(_lack) => NO_MEMORY,
@@ -137,16 +155,42 @@ fn size_image<A: Asker, K: Sink>(
     }
 }
 
-// Loads the image, and holds its run open.
+// The machine where the run begins: at the loaded memory, or at a state.
+fn first_machine(
+    alloc: Global,
+    image: Image,
+    limits: Limits,
+    state: &Option<&[u8]>,
+) -> Result<Machine, LoadError>
+    requires { IsLimits limits }
+    ensures { Gives (λ machine. machine) result
+        (first_of image limits (option_map (λ text. text.now) state.now)) }
+{
+    match state {
+        Some(bytes) => load_state(alloc, image, limits, bytes),
+        None => {
+            let input = Input {
+                words: Vec::new(alloc),
+            };
+            match load(alloc, image, limits, &input) {
+                Ok(machine) => Ok(machine),
+                Err(_no_memory) => Err(LoadError::NoMemory),
+            }
+        }
+    }
+}
+
+// Makes the machine, and holds its run open.
 fn load_image<A: Asker, K: Sink>(
     alloc: Global,
     image: Image,
     limits: Limits,
+    state: &Option<&[u8]>,
     asker: &mut A,
     out: &mut K,
 ) -> u8
     requires { IsLimits limits }
-    ensures { OpensImage image limits
+    ensures { StartsImage image limits (option_map (λ text. text.now) state.now)
         (record {
           lines = A.lines asker.old;
           heard = A.events asker.old;
@@ -158,22 +202,23 @@ fn load_image<A: Asker, K: Sink>(
           out = record { bytes = K.written out.new; puts = K.puts out.new };
         }) result }
 {
-    let input = Input {
-        words: Vec::new(alloc),
-    };
-    match load(alloc, image, limits, &input) {
+    match first_machine(alloc, image, limits, state) {
         Ok(machine) => {
-            let mut debugger = Debugger::new(machine);
-            greet_image::<Brand, A, K>(alloc, &mut debugger, asker, out, Blank::new(1))
+            let mut run = Run::new(Debugger::new(machine));
+            greet_image::<Brand, A, K>(alloc, &mut run, asker, out, Blank::new(1))
         }
-        Err(NoMemory) => NO_MEMORY,
+        Err(LoadError::NoMemory) => NO_MEMORY,
+        Err(e) => match load_line(alloc, e) {
+            Ok(line) => report(out, line.as_str(), Verdict::ImageRefused.code()),
+            Err(_lack) => NO_MEMORY,
+        },
     }
 }
 
 // Puts the greeting, and answers lines.
 fn greet_image<L: Ledger, A: Asker, K: Sink>(
     alloc: Global,
-    debugger: &mut Debugger,
+    run: &mut Run,
     asker: &mut A,
     out: &mut K,
     blank: Blank,
@@ -181,7 +226,7 @@ fn greet_image<L: Ledger, A: Asker, K: Sink>(
     requires name { blank.name ≡ L.name }
     requires parts { blank.parts ≡ L.parts }
     requires one { blank.parts ≡ 1 }
-    ensures { OpensAlong debugger.old
+    ensures { OpensAlong (held_in run.old)
         (record {
           lines = A.lines asker.old;
           heard = A.events asker.old;
@@ -196,7 +241,7 @@ fn greet_image<L: Ledger, A: Asker, K: Sink>(
     match say(out, "rooplpp-live 1 image\n. done\n") {
         Ok(()) => {
             let mut steps = Steps::<L>::new(blank);
-            serve(alloc, debugger, &mut steps, asker, out)
+            serve(alloc, run, &mut steps, asker, out)
         }
         Err(fault) => status_by(0, Err(fault)),
     }

@@ -1,134 +1,141 @@
 -- What is put of the reply to a request.
-use Rattle.std.proofs.Common.{◌≡◌, ◌∙◌, refl, sym, ap, subst, ℕ, List, ◌∷◌, Bool, false, true, Some, Ok, Err, inl, inr}
-use Rattle.std.specs.Prelude.{Option, Result, ⊤}
+use Rattle.std.proofs.Common.{◌≡◌, refl, sym, subst, ℕ, List, Bool, false, Some, None, inl}
+use Rattle.std.proofs.Common.{inr}
+use Rattle.std.specs.Prelude.{Option, ⊤}
 use Rattle.two_way_debugger.specs.pisa_machine.Position.{Position}
-use Rattle.pisa_scripts.specs.declared.command.Command.{Command}
-use Rattle.live_port.specs.rpp_ports.declared.sink.SinkFault.{SinkFault}
-use Rattle.live_port.specs.Heard.{Heard, Line, Long, Lost, Over, Failed, Tells}
+use Rattle.live_port.specs.Heard.{Heard, Line}
 use Rattle.live_requests.specs.declared.request.Request.{Request}
-use Rattle.live_requests.specs.declared.request.Request.TheVariants.{Carry, Quit}
+use Rattle.live_requests.specs.declared.request.Request.TheVariants.{Limit, Quit}
+use Rattle.live_requests.specs.Limited.{limit_of}
 use Rattle.live_requests.specs.Requests.{request_of, is_quit}
 use Rattle.live_talks.specs.declared.ends.End.{End}
 use Rattle.live_talks.specs.declared.ends.End.TheVariants as end
 use Rattle.live_talks.specs.Ends.{end_line}
-use Rattle.live_talks.specs.Talks.{Talk, Printed, Puts, PutsText, PutsBye, status_by}
-use Rattle.live_talks.specs.Sessions.{IsReply, IsLine, quits}
-use Rattle.live_images.specs.Replies.{reply_of, led_by, RepliesOf}
-use Rattle.live_images.specs.Serving.{IsReplyBy, PutsBy, Goes}
-use Rattle.live_images.proofs.Putting.{by_text, goes}
+use Rattle.live_talks.specs.Limits.{Held, LimitedBy, WithLimits}
+use Rattle.live_talks.specs.Talks.{Printed, PutsText, PutsBye}
+use Rattle.live_talks.specs.Serving.{Reply, OrMemory, PutsBy}
+use Rattle.live_talks.specs.Sessions.{IsReply, quits}
+use Rattle.live_images.specs.Replies.{Answer, alone, reply_of, answered}
+use Rattle.live_images.specs.Sessions.{RepliesBy, RepliesOf, Gives, Replies}
+use Rattle.live_talks.proofs.Putting.{by_text, bye_said}
+
+-- ---- an answer
+
+-- what is put of an answer
+abbrev pub PutsAnswer : Answer → (from to : Held Position) → (old new : Printed) → Option ℕ → Type 0
+PutsAnswer a from to old new result = PutsBy (Gives a from) false ⊤ from to old new result
+
+pub answer_said : (a : Answer) (from to : Held Position) (text shown : List ℕ) (old new : Printed)
+    (result : Option ℕ) → text ≡ reply_of a → to.place ≡ a.position → to.limit ≡ from.limit → shown ≡ text
+    → PutsText shown old new result → PutsAnswer a from to old new result
+answer_said a from to text shown old new result is leads keeps shows puts =
+    by_text (Gives a from) false ⊤ from to old new result text
+    (subst (λ (t : List ℕ). PutsText t old new result) shows puts) (inl ((is, leads), keeps)) refl
+
+pub answer_unsaid : (a : Answer) (from to : Held Position) (old new : Printed) (result : Option ℕ) → to ≡ from
+    → PutsText (end_line end.Memory) old new result → PutsAnswer a from to old new result
+answer_unsaid a from to old new result stays puts =
+    by_text (Gives a from) false ⊤ from to old new result (end_line end.Memory) puts (inr (refl, stays)) refl
+
+pub answer_roomless : (a : Answer) (from to : Held Position) (old : Printed) → PutsAnswer a from to old old (Some 7)
+answer_roomless a from to old = inr (inr (tt, refl, refl))
+
+-- an answer that is one last line
+pub answer_alone : (a : Answer) (e : End) (from : Held Position) (old new : Printed) (result : Option ℕ)
+    → a ≡ alone e from.place → PutsText (end_line e) old new result → PutsAnswer a from from old new result
+answer_alone a e from old new result is puts =
+    subst (λ (a : Answer). PutsAnswer a from from old new result) (sym is)
+    (answer_said (alone e from.place) from from (end_line e) (end_line e) old new result refl refl refl refl puts)
+
+pub answer_is : (a it : Answer) (from to : Held Position) (old new : Printed) (result : Option ℕ) → a ≡ it
+    → PutsAnswer it from to old new result → PutsAnswer a from to old new result
+answer_is a it from to old new result is puts =
+    subst (λ (a : Answer). PutsAnswer a from to old new result) (sym is) puts
+
+-- ---- a request
 
 -- what is put of the reply to a request
-abbrev pub PutsTo : Request → (quit : Bool) → (from to : Position) → (old new : Printed) → Option ℕ → Type 0
-PutsTo request quit from to old new result = PutsBy (IsReplyBy request from) quit ⊤ from to old new result
+abbrev pub PutsTo : Request → (line : List ℕ) → (from to : Held Position) → (old new : Printed) → Option ℕ → Type 0
+PutsTo request line from to old new result =
+    PutsBy (Replies request line from) (is_quit request) ⊤ from to old new result
 
-pub carried_said : (from to : Position) (command : Command) (text shown : List ℕ) (old new : Printed)
-    (result : Option ℕ) → text ≡ reply_of (Carry command) from → to ≡ led_by (Carry command) from → shown ≡ text
-    → PutsText shown old new result → PutsTo (Carry command) false from to old new result
-carried_said from to command text shown old new result is leads shows puts =
-    by_text (IsReplyBy (Carry command) from) false ⊤ from to old new result text
-    (subst (λ (t : List ℕ). PutsText t old new result) shows puts) (inl (is, leads)) refl
+-- the reply to a request is an answer
+pub request_said : (request it : Request) (line : List ℕ) (from to : Held Position) (old new : Printed)
+    (result : Option ℕ) → request ≡ it → is_quit it ≡ false → limit_of it ≡ None
+    → PutsAnswer (answered from.limit it line from.place) from to old new result
+    → PutsTo request line from to old new result
+request_said request it line from to old new result is on unlimited puts =
+    subst (λ (r : Request). PutsTo r line from to old new result) (sym is)
+    (subst (λ (b : Bool). PutsBy (Replies it line from) b ⊤ from to old new result) (sym on)
+    (subst (λ (o : Option ℕ). PutsBy (OrMemory (LimitedBy o (RepliesBy it) line from) from) false ⊤ from to old new
+    result) (sym unlimited) puts))
 
-pub roomless : (from to : Position) (request : Request) (quit : Bool) (old : Printed)
-    → PutsTo request quit from to old old (Some 7)
-roomless from to request quit old = inr (inr (tt, refl, refl))
+pub limit_said : (request : Request) (most : ℕ) (line : List ℕ) (from : Held Position) (old new : Printed)
+    (result : Option ℕ) → request ≡ Limit most → PutsText (end_line end.Done) old new result
+    → PutsTo request line from (record { place = from.place; limit = Some most }) old new result
+limit_said request most line from old new result is puts =
+    subst (λ (r : Request). PutsTo r line from (record { place = from.place; limit = Some most }) old new result)
+    (sym is)
+    (by_text (Replies (Limit most) line from) false ⊤ from (record { place = from.place; limit = Some most }) old new
+    result (end_line end.Done) puts (inl ((refl, refl), refl)) refl)
 
--- a reply that is one last line
-pub end_said : (p : Position) (request it : Request) (e : End) (old new : Printed) (result : Option ℕ)
-    → request ≡ it → end_line e ≡ reply_of it p → p ≡ led_by it p → is_quit it ≡ false
-    → PutsText (end_line e) old new result → PutsTo request (is_quit request) p p old new result
-end_said p request it e old new result is says leads on puts =
-    subst (λ (r : Request). PutsTo r (is_quit r) p p old new result) (sym is)
-    (by_text (IsReplyBy it p) (is_quit it) ⊤ p p old new result (end_line e) puts (inl (says, leads)) on)
+pub quit_said : (request : Request) (line : List ℕ) (from : Held Position) (old new : Printed) (status : ℕ)
+    → request ≡ Quit → PutsBye old new status → PutsTo request line from from old new (Some status)
+quit_said request line from old new status is puts =
+    subst (λ (r : Request). PutsTo r line from from old new (Some status)) (sym is)
+    (bye_said (Replies Quit line from) ⊤ from old new status (inl ((refl, refl), refl)) puts)
 
-pub carry_said : (from to : Position) (request : Request) (command : Command) (old new : Printed)
-    (result : Option ℕ) → request ≡ Carry command → PutsTo (Carry command) false from to old new result
-    → PutsTo request (is_quit request) from to old new result
-carry_said from to request command old new result is puts =
-    subst (λ (r : Request). PutsTo r (is_quit r) from to old new result) (sym is) puts
-
-bye : (p : Position) (old new : Printed) (status : ℕ) (answer : Result (Unit {0}) SinkFault)
-    → Puts (end_line end.Bye) answer old new → status ≡ status_by 0 answer
-    → PutsTo Quit true p p old new (Some status)
-bye p old new status (Ok _) puts is =
-    inl (record { reply = end_line end.Bye; is_reply = inl (refl, refl); ends = refl; puts = puts; status_is = is })
-bye p old new status (Err fault) puts is = inr (inl (record {
-  reply = end_line end.Bye;
-  to = p;
-  fault = fault;
-  is_reply = inl (refl, refl);
-  puts = puts;
-  status_is = is;
-}))
-
-pub quit_said : (p : Position) (request : Request) (old new : Printed) (status : ℕ) → request ≡ Quit
-    → PutsBye old new status → PutsTo request (is_quit request) p p old new (Some status)
-quit_said p request old new status is puts =
-    subst (λ (r : Request). PutsTo r (is_quit r) p p old new (Some status)) (sym is)
-    (bye p old new status puts.answer puts.puts puts.status_is)
+-- ---- what is heard
 
 -- what is put of the reply to what is heard
-abbrev pub PutsToHeard : Heard → (N : Type 0) → (from to : Position) → (old new : Printed) → Option ℕ → Type 0
+abbrev pub PutsToHeard : Heard → (N : Type 0) → (from to : Held Position) → (old new : Printed) → Option ℕ → Type 0
 PutsToHeard it N from to old new result =
-    PutsBy (IsReply RepliesOf it from) (quits it) N from to old new result
+    PutsBy (IsReply (WithLimits RepliesOf) it from) (quits it) N from to old new result
 
-pub line_said : (from to : Position) (line : List ℕ) (request : Request) (old new : Printed) (result : Option ℕ)
-    → request ≡ request_of line → PutsTo request (is_quit request) from to old new result
+by_replies : (R S : Reply (Held Position)) (quit : Bool) (N : Type 0) (from to : Held Position) (old new : Printed)
+    (result : Option ℕ) → ((reply : List ℕ) (place : Held Position) → R reply place → S reply place)
+    → PutsBy R quit N from to old new result → PutsBy S quit N from to old new result
+by_replies R S quit N from to old new None so p = record {
+  reply = p.reply;
+  is_reply = so p.reply to p.is_reply;
+  goes_on = p.goes_on;
+  puts = p.puts;
+}
+by_replies R S quit N from to old new (Some status) so (inl p) = inl (record {
+  reply = p.reply;
+  is_reply = so p.reply from p.is_reply;
+  ends = p.ends;
+  puts = p.puts;
+  status_is = p.status_is;
+})
+by_replies R S quit N from to old new (Some status) so (inr (inl p)) = inr (inl (record {
+  reply = p.reply;
+  to = p.to;
+  fault = p.fault;
+  is_reply = so p.reply p.to p.is_reply;
+  puts = p.puts;
+  status_is = p.status_is;
+}))
+by_replies R S quit N from to old new (Some status) so (inr (inr p)) = inr (inr p)
+
+-- the reply to a line is that to the request that it is read as
+same_reply : (sets : Option ℕ) (line : List ℕ) (from : Held Position) (reply : List ℕ) (place : Held Position)
+    → OrMemory (LimitedBy sets (RepliesBy (request_of line)) line from) from reply place
+    → OrMemory (LimitedBy sets RepliesOf line from) from reply place
+same_reply None line from reply place r = r
+same_reply (Some most) line from reply place r = r
+
+pub line_said : (line : List ℕ) (request : Request) (from to : Held Position) (old new : Printed) (result : Option ℕ)
+    → request ≡ request_of line → PutsTo request line from to old new result
     → PutsToHeard (Line line) ⊤ from to old new result
-line_said from to line request old new result is puts =
-    subst (λ (r : Request). PutsTo r (is_quit r) from to old new result) is puts
+line_said line request from to old new result is puts =
+    by_replies (Replies (request_of line) line from) (IsReply (WithLimits RepliesOf) (Line line) from)
+    (is_quit (request_of line)) ⊤ from to old new result (same_reply (limit_of (request_of line)) line from)
+    (subst (λ (r : Request). PutsTo r line from to old new result) is puts)
 
-pub line_unsaid : (p : Position) (line : List ℕ) (old new : Printed) (result : Option ℕ)
+pub line_unsaid : (line : List ℕ) (from : Held Position) (old new : Printed) (result : Option ℕ)
     → is_quit (request_of line) ≡ false → PutsText (end_line end.Memory) old new result
-    → PutsToHeard (Line line) ⊤ p p old new result
-line_unsaid p line old new result on puts =
-    by_text (IsReply RepliesOf (Line line) p) (is_quit (request_of line)) ⊤ p p old new result
+    → PutsToHeard (Line line) ⊤ from from old new result
+line_unsaid line from old new result on puts =
+    by_text (IsReply (WithLimits RepliesOf) (Line line) from) (is_quit (request_of line)) ⊤ from from old new result
     (end_line end.Memory) puts (inr (refl, refl)) on
-
-pub long_said : (p : Position) (old new : Printed) (result : Option ℕ) → PutsText (end_line end.Long) old new result
-    → PutsToHeard Long ⊥ p p old new result
-long_said p old new result puts =
-    by_text (IsReply RepliesOf Long p) false ⊥ p p old new result (end_line end.Long) puts (refl, refl) refl
-
-pub lost_said : (p : Position) (old new : Printed) (result : Option ℕ) → PutsText (end_line end.Memory) old new result
-    → PutsToHeard Lost ⊥ p p old new result
-lost_said p old new result puts =
-    by_text (IsReply RepliesOf Lost p) false ⊥ p p old new result (end_line end.Memory) puts (refl, refl) refl
-
--- ---- what comes of what is heard
-
-pub heard_goes : (from to : Position) (talk : Talk) (lines : Option (List (List ℕ))) (heard : List Heard)
-    (new : Printed) (result : Option ℕ) (it₀ it : Heard) (N : Type 0) → it₀ ≡ it → Tells talk.lines it₀ lines
-    → heard ≡ it₀ ∷ talk.heard → (N → IsLine it) → PutsToHeard it N from to talk.out new result
-    → Goes from to talk (record { lines = lines; heard = heard; out = new }) result
-heard_goes from to talk lines heard new result it₀ it N is told noted line puts =
-    let between : Talk = record { lines = lines; heard = heard; out = talk.out } in
-    let talk' : Talk = record { lines = lines; heard = heard; out = new } in
-    goes it N from to talk between talk' result (record {
-      told = subst (λ (i : Heard). Tells talk.lines i lines) is told;
-      noted = noted ∙ ap (λ (i : Heard). i ∷ talk.heard) is;
-      silent = refl;
-    }) line puts refl refl
-
-pub over_goes : (p : Position) (talk : Talk) (lines : Option (List (List ℕ))) (heard : List Heard) (it : Heard)
-    → it ≡ Over → Tells talk.lines it lines → heard ≡ it ∷ talk.heard
-    → Goes p p talk (record { lines = lines; heard = heard; out = talk.out }) (Some 0)
-over_goes p talk lines heard it is told noted = inl (
-  inl (record {
-    told = subst (λ (i : Heard). Tells talk.lines i lines) is told;
-    noted = noted ∙ ap (λ (i : Heard). i ∷ talk.heard) is;
-    silent = refl;
-  }),
-  refl,
-)
-
-pub failed_goes : (p : Position) (talk : Talk) (lines : Option (List (List ℕ))) (heard : List Heard) (it : Heard)
-    → it ≡ Failed → Tells talk.lines it lines → heard ≡ it ∷ talk.heard
-    → Goes p p talk (record { lines = lines; heard = heard; out = talk.out }) (Some 2)
-failed_goes p talk lines heard it is told noted = inr (inl (
-  record {
-    told = subst (λ (i : Heard). Tells talk.lines i lines) is told;
-    noted = noted ∙ ap (λ (i : Heard). i ∷ talk.heard) is;
-    silent = refl;
-  },
-  refl,
-))

@@ -1,21 +1,36 @@
 -- The replies to the lines of a script.
-use Rattle.std.proofs.Common.{◌≡◌, ◌∙◌, sym, ap, ℕ, List, [], ◌∷◌, ◌++◌, Ok, inl, inr}
+use Rattle.std.proofs.Common.{◌≡◌, ◌∙◌, refl, sym, ap, ℕ, List, [], ◌∷◌, ◌++◌, None, Ok, inl, inr}
 use Rattle.pisa_scripts.specs.Lines.{pieces, without_returns}
 use Rattle.pisa_scripts.specs.declared.command.Command.{Command}
+use Rattle.pisa_scripts.specs.declared.command.Command.TheVariants.{Step, Back, To, BackTo, Regs, Cells}
 use Rattle.two_way_debugger.specs.pisa_machine.Position.{Position}
 use Rattle.two_way_debugger.specs.Scripts.{script_of}
 use Rattle.two_way_debugger.specs.Shown.{shown, walk_of, text_of}
 use Rattle.live_requests.specs.declared.request.Request.{Request}
+use Rattle.live_requests.specs.Limited.{limited}
 use Rattle.live_requests.proofs.ScriptLines.{AreCommands, script_lines}
-use Rattle.live_images.specs.Replies.{said, led_by, said_of}
+use Rattle.live_images.specs.Replies.{answered, said_of}
+
+-- without a limit a command is as it is
+unlimited : (command : Command) → limited None command ≡ command
+unlimited (Step n) = refl
+unlimited (Back n) = refl
+unlimited (To place n) = refl
+unlimited (BackTo place n) = refl
+unlimited Regs = refl
+unlimited (Cells from count) = refl
+
+-- what a line and those after it say, by its request
+abbrev by_request : (line : List ℕ) → (lines : List (List ℕ)) → Position → Request → List ℕ
+by_request line lines p r = (answered None r line p).text ++ said_of lines (answered None r line p).position
 
 lines_said : (commands : List Command) (lines : List (List ℕ)) (p : Position) → AreCommands commands lines
     → said_of lines p ≡ shown commands p
 lines_said commands [] p are = ap (λ (c : List Command). shown c p) (sym are)
-lines_said commands (line ∷ lines) p (inl (is, are)) =
-    ap (λ (r : Request). said r p ++ said_of lines (led_by r p)) is ∙ lines_said commands lines p are
+lines_said commands (line ∷ lines) p (inl (is, are)) = ap (by_request line lines p) is ∙ lines_said commands lines p are
 lines_said commands (line ∷ lines) p (inr (command, rest, is, commands_are, are)) =
-    ap (λ (r : Request). said r p ++ said_of lines (led_by r p)) is
+    ap (by_request line lines p) is
+    ∙ ap (λ (c : Command). text_of c p ++ said_of lines (walk_of c p).position) (unlimited command)
     ∙ ap (λ (t : List ℕ). text_of command p ++ t) (lines_said rest lines (walk_of command p).position are)
     ∙ ap (λ (c : List Command). shown c p) (sym commands_are)
 

@@ -1,74 +1,94 @@
 -- The replies to requests in the run of an image, and where they lead.
-use Rattle.std.specs.Prelude.{◌≡◌, ℕ, ◌==◌, Bool, List, [], ◌∷◌, ◌++◌, if◌then◌else◌}
-use Rattle.std.specs.List.{list_any}
+use Rattle.std.specs.Prelude.{ℕ, Bool, List, [], ◌∷◌, ◌++◌, if◌then◌else◌, Option, Some, None}
+use Rattle.std.specs.Prelude.{codes}
+use Rattle.std.specs.Fmt.{decimal}
+use Rattle.pisa_scripts.specs.Lines.{pieces}
 use Rattle.pisa_scripts.specs.declared.command.Command.{Command}
-use Rattle.pisa_scripts.specs.declared.command.Command.TheVariants.{Step, Back, To, BackTo}
-use Rattle.pisa_scripts.specs.declared.command.Command.TheVariants.{Regs, Cells}
+use Rattle.two_way_debugger.specs.pisa_scripts.rpp_words.Texts.{line_end}
 use Rattle.two_way_debugger.specs.pisa_machine.Position.{Position}
 use Rattle.two_way_debugger.specs.Shown.{walk_of, text_of}
+use Rattle.live_requests.specs.declared.asks.Ask.{Ask}
+use Rattle.live_requests.specs.declared.asks.Goal.{Goal}
 use Rattle.live_requests.specs.declared.request.Request.{Request}
-use Rattle.live_requests.specs.declared.request.Request.TheVariants.{Nothing, Carry, Stack}
-use Rattle.live_requests.specs.declared.request.Request.TheVariants.{RegsOf, Fault, FaultCells}
-use Rattle.live_requests.specs.declared.request.Request.TheVariants.{Quit}
-use Rattle.live_requests.specs.declared.request.Request.TheVariants.{Bad}
+use Rattle.live_requests.specs.declared.request.Request.TheVariants.{Nothing, Carry, Spend}
+use Rattle.live_requests.specs.declared.request.Request.TheVariants.{Limit, Quit, Bad}
+use Rattle.live_requests.specs.Asks.{ask_of, arguments}
+use Rattle.live_requests.specs.Limited.{limited, limited_ask, is_cut_ask}
 use Rattle.live_requests.specs.Requests.{request_of}
+use Rattle.image_searches.specs.Goals.{is_served}
+use Rattle.image_searches.specs.Makings.{made}
+use Rattle.image_searches.specs.Searches.{Found}
 use Rattle.live_talks.specs.declared.ends.End.{End}
 use Rattle.live_talks.specs.declared.ends.End.TheVariants as end
 use Rattle.live_talks.specs.Ends.{end_line}
-use Rattle.live_talks.specs.Sessions.{Replier}
+use Rattle.live_images.specs.Ends.{end_carried, end_moved}
 
--- whether a text has a letter
-abbrev pub has : ℕ → List ℕ → Bool
-has letter text = list_any (λ b. b == letter) text
+-- what a reply says before its last line, how it ends, and where it leads
+pub record Answer : Type 0 where
+  pub text : List ℕ
+  pub ending : End
+  pub position : Position
 
--- How moves ended, by the line on them. It is `at J pc P br B dir D`, and then perhaps ` start` or
--- ` end` with why the machine stopped. Only `fault`, `returned` and `bound` have a u, else only
--- `finished` has an h, else only ` end` has an e, else only ` start` has an s.
-abbrev pub end_in : List ℕ → End
-end_in text = if has 117 text then end.Fault else if has 104 text then end.Over
-    else if has 101 text then end.Fault else if has 115 text then end.Start else end.Done
+abbrev pub reply_of : Answer → List ℕ
+reply_of a = a.text ++ end_line a.ending
 
--- how the reply to a command ends that printed this
-abbrev pub end_shown : Command → List ℕ → End
-end_shown (Step n) text = end_in text
-end_shown (Back n) text = end_in text
-end_shown (To place n) text = end_in text
-end_shown (BackTo place n) text = end_in text
-end_shown Regs text = end.Done
-end_shown (Cells number count) text = end.Done
+-- a reply that is one last line, and leads nowhere
+abbrev pub alone : End → Position → Answer
+alone it p = record { text = []; ending = it; position = p }
 
--- what the reply to a request says before its last line: what `debug` prints of a command
-abbrev pub said : Request → Position → List ℕ
-said (Carry command) p = text_of command p
-said request p = []
+-- what `debug` prints of a command that makes no more moves than a limit allows
+abbrev pub carried : (limit : Option ℕ) → Command → Position → Answer
+carried limit command p = record {
+  text = text_of (limited limit command) p;
+  ending = end_carried limit command p.made (walk_of (limited limit command) p).position.made
+      (text_of (limited limit command) p);
+  position = (walk_of (limited limit command) p).position;
+}
 
--- how the reply to a request ends that says this
-abbrev pub end_of : Request → List ℕ → End
-end_of Nothing text = end.Done
-end_of (Carry command) text = end_shown command text
-end_of Stack text = end.Bad
-end_of (RegsOf depth) text = end.Bad
-end_of Fault text = end.Bad
-end_of (FaultCells number count) text = end.Bad
-end_of Quit text = end.Bye
-end_of Bad text = end.Bad
+-- the number of the position
+abbrev pub steps_line : ℕ → List ℕ
+steps_line made = codes "steps " ++ (decimal made ++ line_end)
 
--- the reply to a request at a position
-abbrev pub reply_of : Request → Position → List ℕ
-reply_of request p = said request p ++ end_line (end_of request (said request p))
+abbrev pub spent : Position → Answer
+spent p = record { text = steps_line p.made; ending = end.Done; position = p }
 
--- where it leads
-abbrev pub led_by : Request → Position → Position
-led_by (Carry command) p = (walk_of command p).position
-led_by request p = p
+-- the moves that words ask for, if the run of an image has them
+abbrev pub served : (words : List (List ℕ)) → Option Ask → Option Ask
+served words None = None
+served words (Some ask) = if is_served ask.goal (arguments ask.back words) then Some ask else None
 
--- the reply to a line, and where it leads
-abbrev pub RepliesOf : Replier Position
-RepliesOf line from reply to =
-    (reply ≡ reply_of (request_of line) from) × (to ≡ led_by (request_of line) from)
+-- moves that led there; `cut` says that a limit allowed fewer than were asked for
+abbrev pub moved : (cut : Bool) → Goal → Found → Answer
+moved cut goal found = record {
+  text = found.text;
+  ending = end_moved cut goal found.how found.text;
+  position = found.position;
+}
 
--- what the replies to lines say before their last lines, one after the other
+-- moves that words ask for
+abbrev pub answered_by : (limit : Option ℕ) → Option Ask → (words : List (List ℕ)) → Position
+    → Answer
+answered_by limit None words p = alone end.Bad p
+answered_by limit (Some ask) words p =
+    moved (is_cut_ask limit ask) ask.goal
+    (made (limited_ask limit ask) (arguments ask.back words) p)
+
+abbrev pub answered_words : (limit : Option ℕ) → (words : List (List ℕ)) → Position → Answer
+answered_words limit words p = answered_by limit (served words (ask_of words)) words p
+
+-- the answer to a line, by the request that it is read as
+abbrev pub answered : (limit : Option ℕ) → Request → (line : List ℕ) → Position → Answer
+answered limit Nothing line p = alone end.Done p
+answered limit (Carry command) line p = carried limit command p
+answered limit Spend line p = spent p
+answered limit (Limit most) line p = alone end.Done p
+answered limit Quit line p = alone end.Bye p
+answered limit Bad line p = answered_words limit (pieces 32 line) p
+answered limit request line p = alone end.Bad p
+
+-- what the replies to lines say before their last lines, one after the other, without a limit
 abbrev pub said_of : List (List ℕ) → Position → List ℕ
 said_of [] p = []
 said_of (line ∷ lines) p =
-    said (request_of line) p ++ said_of lines (led_by (request_of line) p)
+    (answered None (request_of line) line p).text
+    ++ said_of lines (answered None (request_of line) line p).position

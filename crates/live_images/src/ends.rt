@@ -1,8 +1,10 @@
-// How the replies to commands end.
-ghost use Rattle.std.specs.Prelude.{◌≡◌};
-ghost use Rattle.live_images.specs.Replies.{has as has_letter, end_in as end_in_text, end_shown as shown_end};
+// How the replies to commands and moves end.
+ghost use Rattle.std.specs.Prelude.{◌≡◌, ◌+◌, ◌-◌};
+ghost use Rattle.live_images.specs.Ends.{has as has_letter, end_in as end_in_text, end_shown as shown_end, all_made as all_moves_made, end_carried as carried_end, end_of_all, end_moved as moved_end};
 
-use live_talks::End;
+use image_searches::Outcome;
+use live_requests::{Goal, is_cut, limited, most_of};
+use live_talks::{End, end_cut};
 use pisa_scripts::Command;
 
 fn has(letter: u8, text: &str) -> bool
@@ -30,8 +32,8 @@ fn end_in(text: &str) -> End
     End::Done
 }
 
-/// How the reply to a command ends that printed this.
-pub(crate) fn end_shown(command: Command, text: &str) -> End
+// How the reply to a command ends that printed this.
+fn end_shown(command: Command, text: &str) -> End
     ensures { result ≡ shown_end command text.now }
 {
     match command {
@@ -41,5 +43,60 @@ pub(crate) fn end_shown(command: Command, text: &str) -> End
         Command::BackTo(_, _) => end_in(text),
         Command::Regs => End::Done,
         Command::Cells(_, _) => End::Done,
+    }
+}
+
+// How many moves lie between two positions.
+fn distance(from: u64, to: u64) -> u64
+    ensures { result ≡ to - from + (from - to) }
+{
+    if from <= to { to - from } else { from - to }
+}
+
+// Whether so many moves led from a position to another.
+fn all_made(moves: u64, from: u64, to: u64) -> bool
+    ensures { result ≡ all_moves_made moves from to }
+{
+    !(distance(from, to) < moves)
+}
+
+/// How the reply to a command ends that led from a position to another with a limit on its moves,
+/// and printed this.
+pub(crate) fn end_carried(
+    limit: Option<u64>,
+    command: Command,
+    from: u64,
+    to: u64,
+    text: &str,
+) -> End
+    ensures { result ≡ carried_end limit command from to text.now }
+{
+    let moves = most_of(limited(limit, command));
+    let end = end_shown(command, text);
+    end_cut(is_cut(limit, command), all_made(moves, from, to), end)
+}
+
+// How moves end that were all made, by what they look for.
+fn end_all(goal: Goal) -> End
+    ensures { result ≡ end_of_all goal }
+{
+    match goal {
+        Goal::Points => End::Done,
+        Goal::Any => End::More,
+        Goal::Depth(_most) => End::More,
+        Goal::Change => End::More,
+        Goal::Cell(_at) => End::More,
+    }
+}
+
+/// How the reply to moves ends that printed this. `cut` says that a limit allowed fewer than were
+/// asked for.
+pub(crate) fn end_moved(cut: bool, goal: Goal, how: Outcome, text: &str) -> End
+    ensures { result ≡ moved_end cut goal how text.now }
+{
+    match how {
+        Outcome::Met => End::Met,
+        Outcome::Made => end_cut(cut, true, end_all(goal)),
+        Outcome::Stopped => end_in(text),
     }
 }

@@ -6,6 +6,9 @@
 mod ends;
 pub mod laws;
 mod replying;
+mod run;
 mod session;
+mod telling;
 
+pub use run::Run;
 pub use session::serve;

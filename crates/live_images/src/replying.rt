@@ -1,88 +1,147 @@
 // The replies to requests.
-ghost use Rattle.std.specs.Prelude.{◌≡◌, ◌++◌, false, ⊤, IfOk, string_bytes};
-ghost use Rattle.live_requests.specs.declared.request.Request.TheVariants.{Carry};
+ghost use Rattle.std.specs.Prelude.{◌≡◌, false, ⊤, Some, map};
+ghost use Rattle.pisa_scripts.specs.Lines.{pieces as pieces_of};
 ghost use Rattle.live_requests.specs.Requests.{is_quit};
-ghost use Rattle.live_talks.specs.Ends.{end_line as line_of_end};
-ghost use Rattle.live_images.specs.Replies.{end_shown as end_of_command, reply_of, led_by};
-ghost use Rattle.live_images.specs.Serving.{IsReplyBy, PutsBy};
+ghost use Rattle.live_talks.specs.Serving.{PutsBy};
+ghost use Rattle.live_images.specs.Replies.{carried, spent, answered_by, answered_words};
+ghost use Rattle.live_images.specs.Sessions.{held_in, Gives, Replies};
 
-use crate::ends::end_shown;
-use live_requests::Request;
-use live_talks::{End, end_line, say_bye, say_end, say_text};
+use crate::run::Run;
+use crate::telling::{read_served, tell_carried, tell_moves, tell_spent};
+use live_requests::{Ask, Request};
+use live_talks::{End, say_bye, say_end, say_text};
 use pisa_machine::Steps;
-use pisa_scripts::Command;
+use pisa_scripts::{Command, pieces};
 use rpp_ports::Sink;
 use rpp_words::NoMemory;
-use std::alloc::{AllocError, Global};
+use std::alloc::Global;
 use std::sync::ledger::Ledger;
-use two_way_debugger::Debugger;
 
 const NO_MEMORY: u8 = 7;
-
-// What a command printed, and the last line.
-fn ended(command: Command, text: String) -> Result<String, AllocError>
-    ensures { IfOk result (λ reply. string_bytes reply ≡ string_bytes text
-        ++ line_of_end (end_of_command command (string_bytes text))) }
-{
-    let mut text = text;
-    let end = end_shown(command, text.as_str());
-    text.push_str(end_line(end))?;
-    Ok(text)
-}
-
-// Carries out a command. If memory runs out, its moves may have been made.
-fn carry_out<L: Ledger>(
-    alloc: Global,
-    debugger: &mut Debugger,
-    steps: &mut Steps<L>,
-    command: Command,
-) -> Result<String, NoMemory>
-    ensures reply { IfOk result (λ text. string_bytes text ≡ reply_of (Carry command) debugger.old) }
-    ensures leads { debugger.new ≡ led_by (Carry command) debugger.old }
-{
-    let mut text = String::new(alloc);
-    debugger.command(alloc, &command, &mut text, steps)?;
-    Ok(ended(command, text)?)
-}
 
 // Carries out a command, and puts the reply.
 fn say_carried<L: Ledger, K: Sink>(
     alloc: Global,
-    debugger: &mut Debugger,
+    run: &mut Run,
     steps: &mut Steps<L>,
     command: Command,
     out: &mut K,
 ) -> Option<u8>
-    ensures { PutsBy (IsReplyBy (Carry command) debugger.old) false ⊤ debugger.old debugger.new
+    ensures { PutsBy (Gives (carried run.old.limit command run.old.debugger) (held_in run.old))
+        false ⊤ (held_in run.old) (held_in run.new)
         (record { bytes = K.written out.old; puts = K.puts out.old })
         (record { bytes = K.written out.new; puts = K.puts out.new }) result }
 {
-    match carry_out(alloc, debugger, steps, command) {
+    match tell_carried(alloc, &mut run.debugger, steps, run.limit, command) {
         Ok(text) => say_text(out, text.as_str()),
         Err(NoMemory) => Some(NO_MEMORY),
     }
 }
 
-/// Puts the reply to a request. There is a status where the session ends.
-pub(crate) fn answer<L: Ledger, K: Sink>(
+// Puts the number of the position.
+fn say_spent<K: Sink>(alloc: Global, run: &mut Run, out: &mut K) -> Option<u8>
+    ensures { PutsBy (Gives (spent run.old.debugger) (held_in run.old))
+        false ⊤ (held_in run.old) (held_in run.new)
+        (record { bytes = K.written out.old; puts = K.puts out.old })
+        (record { bytes = K.written out.new; puts = K.puts out.new }) result }
+{
+    match tell_spent(alloc, run.debugger.machine()) {
+        Ok(text) => say_text(out, text.as_str()),
+        Err(_lack) => say_end(out, End::Memory),
+    }
+}
+
+// Makes the moves that words ask for, and puts the reply.
+fn say_moves<L: Ledger, K: Sink>(
     alloc: Global,
-    debugger: &mut Debugger,
+    run: &mut Run,
     steps: &mut Steps<L>,
-    request: Request,
+    ask: Ask,
+    words: &[&[u8]],
     out: &mut K,
 ) -> Option<u8>
-    ensures { PutsBy (IsReplyBy request debugger.old) (is_quit request) ⊤ debugger.old debugger.new
+    ensures { PutsBy (Gives (answered_by run.old.limit (Some ask)
+        (map (λ word. word.now) words.now) run.old.debugger) (held_in run.old))
+        false ⊤ (held_in run.old) (held_in run.new)
+        (record { bytes = K.written out.old; puts = K.puts out.old })
+        (record { bytes = K.written out.new; puts = K.puts out.new }) result }
+{
+    match tell_moves(alloc, &mut run.debugger, steps, run.limit, ask, words) {
+        Ok(text) => say_text(out, text.as_str()),
+        Err(NoMemory) => Some(NO_MEMORY),
+    }
+}
+
+// Puts the reply to words that are no command of a script.
+fn say_words<L: Ledger, K: Sink>(
+    alloc: Global,
+    run: &mut Run,
+    steps: &mut Steps<L>,
+    words: &[&[u8]],
+    out: &mut K,
+) -> Option<u8>
+    ensures { PutsBy (Gives (answered_words run.old.limit (map (λ word. word.now) words.now)
+        run.old.debugger) (held_in run.old))
+        false ⊤ (held_in run.old) (held_in run.new)
+        (record { bytes = K.written out.old; puts = K.puts out.old })
+        (record { bytes = K.written out.new; puts = K.puts out.new }) result }
+{
+    match read_served(words) {
+        None => say_end(out, End::Bad),
+        Some(ask) => say_moves(alloc, run, steps, ask, words, out),
+    }
+}
+
+// Puts the reply to a line that is no command of a script.
+fn say_asked<L: Ledger, K: Sink>(
+    alloc: Global,
+    run: &mut Run,
+    steps: &mut Steps<L>,
+    line: &[u8],
+    out: &mut K,
+) -> Option<u8>
+    ensures { PutsBy (Gives (answered_words run.old.limit (pieces_of 32 line.now)
+        run.old.debugger) (held_in run.old))
+        false ⊤ (held_in run.old) (held_in run.new)
+        (record { bytes = K.written out.old; puts = K.puts out.old })
+        (record { bytes = K.written out.new; puts = K.puts out.new }) result }
+{
+    match pieces(alloc, b' ', line) {
+        Ok(words) => say_words(alloc, run, steps, &words, out),
+        Err(_lack) => say_end(out, End::Memory),
+    }
+}
+
+/// Puts the reply to a line, by the request that it is read as. There is a status where the session
+/// ends.
+pub(crate) fn answer<L: Ledger, K: Sink>(
+    alloc: Global,
+    run: &mut Run,
+    steps: &mut Steps<L>,
+    request: Request,
+    line: &[u8],
+    out: &mut K,
+) -> Option<u8>
+    ensures { PutsBy (Replies request line.now (held_in run.old)) (is_quit request) ⊤
+        (held_in run.old) (held_in run.new)
         (record { bytes = K.written out.old; puts = K.puts out.old })
         (record { bytes = K.written out.new; puts = K.puts out.new }) result }
 {
     match request {
         Request::Nothing => say_end(out, End::Done),
-        Request::Carry(command) => say_carried(alloc, debugger, steps, command, out),
+        Request::Carry(command) => say_carried(alloc, run, steps, command, out),
+        Request::Spend => say_spent(alloc, run, out),
+        Request::Limit(most) => {
+            run.limit = Some(most);
+            say_end(out, End::Done)
+        }
         Request::Stack => say_end(out, End::Bad),
         Request::RegsOf(_depth) => say_end(out, End::Bad),
         Request::Fault => say_end(out, End::Bad),
         Request::FaultCells(_from, _count) => say_end(out, End::Bad),
+        Request::Value => say_end(out, End::Bad),
+        Request::Heap => say_end(out, End::Bad),
         Request::Quit => Some(say_bye(out)),
-        Request::Bad => say_end(out, End::Bad),
+        Request::Bad => say_asked(alloc, run, steps, line, out),
     }
 }

@@ -2,11 +2,13 @@
 ghost use Rattle.std.specs.Prelude.{◌≤◌, length, ⊤};
 ghost use Rattle.pisa_scripts.specs.declared.lines.TheConstants.{MOST_SCRIPT};
 ghost use Rattle.live_port.specs.Heard.{Heard};
+ghost use Rattle.live_talks.specs.Limits.{WithLimits};
+ghost use Rattle.live_talks.specs.Serving.{PutsBy, Goes};
 ghost use Rattle.live_talks.specs.Sessions.{IsReply, IsSession, quits};
-ghost use Rattle.live_images.specs.Replies.{RepliesOf};
-ghost use Rattle.live_images.specs.Serving.{PutsBy, Goes};
+ghost use Rattle.live_images.specs.Sessions.{RepliesOf, held_in};
 
 use crate::replying::answer;
+use crate::run::Run;
 use live_port::{Asked, Asker};
 use live_requests::read_request;
 use live_talks::{End, say_end};
@@ -15,24 +17,23 @@ use rpp_ports::Sink;
 use rpp_words::NoMemory;
 use std::alloc::Global;
 use std::sync::ledger::Ledger;
-use two_way_debugger::Debugger;
 
 // Puts the reply to a line.
 fn answer_line<L: Ledger, K: Sink>(
     alloc: Global,
-    debugger: &mut Debugger,
+    run: &mut Run,
     steps: &mut Steps<L>,
     line: &[u8],
     out: &mut K,
 ) -> Option<u8>
     requires { length line.now ≤ MOST_SCRIPT }
-    ensures { PutsBy (IsReply RepliesOf (Heard.Line line.now) debugger.old)
-        (quits (Heard.Line line.now)) ⊤ debugger.old debugger.new
+    ensures { PutsBy (IsReply (WithLimits RepliesOf) (Heard.Line line.now) (held_in run.old))
+        (quits (Heard.Line line.now)) ⊤ (held_in run.old) (held_in run.new)
         (record { bytes = K.written out.old; puts = K.puts out.old })
         (record { bytes = K.written out.new; puts = K.puts out.new }) result }
 {
     match read_request(alloc, line) {
-        Ok(request) => answer(alloc, debugger, steps, request, out),
+        Ok(request) => answer(alloc, run, steps, request, line, out),
         Err(NoMemory) => say_end(out, End::Memory),
     }
 }
@@ -40,12 +41,12 @@ fn answer_line<L: Ledger, K: Sink>(
 // Hears a line, and puts the reply to it. There is a status where the session ends.
 fn exchange<L: Ledger, A: Asker, K: Sink>(
     alloc: Global,
-    debugger: &mut Debugger,
+    run: &mut Run,
     steps: &mut Steps<L>,
     asker: &mut A,
     out: &mut K,
 ) -> Option<u8>
-    ensures { Goes debugger.old debugger.new
+    ensures { Goes (WithLimits RepliesOf) (held_in run.old) (held_in run.new)
         (record {
           lines = A.lines asker.old;
           heard = A.events asker.old;
@@ -58,7 +59,7 @@ fn exchange<L: Ledger, A: Asker, K: Sink>(
         }) result }
 {
     match asker.next() {
-        Asked::Line(line) => answer_line(alloc, debugger, steps, &line, out),
+        Asked::Line(line) => answer_line(alloc, run, steps, &line, out),
         Asked::Long => say_end(out, End::Long),
         Asked::Lost => say_end(out, End::Memory),
         Asked::Over => Some(0),
@@ -70,12 +71,12 @@ fn exchange<L: Ledger, A: Asker, K: Sink>(
 /// status of the program.
 pub fn serve<L: Ledger, A: Asker, K: Sink>(
     alloc: Global,
-    debugger: &mut Debugger,
+    run: &mut Run,
     steps: &mut Steps<L>,
     asker: &mut A,
     out: &mut K,
 ) -> u8
-    ensures { IsSession RepliesOf debugger.old
+    ensures { IsSession (WithLimits RepliesOf) (held_in run.old)
         (record {
           lines = A.lines asker.old;
           heard = A.events asker.old;
@@ -88,7 +89,7 @@ pub fn serve<L: Ledger, A: Asker, K: Sink>(
         }) result }
 {
     for _ in 0..u64::MAX {
-        match exchange(alloc, debugger, steps, asker, out) {
+        match exchange(alloc, run, steps, asker, out) {
             Some(status) => return status,
             None => {}
         }

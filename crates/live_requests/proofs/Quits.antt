@@ -9,7 +9,8 @@ use Rattle.two_way_debugger.specs.declared.error.ScriptError.{ScriptError}
 use Rattle.two_way_debugger.specs.Scripts.{script_of}
 use Rattle.live_requests.specs.declared.request.Request.{Request}
 use Rattle.live_requests.specs.declared.request.Request.TheVariants as request
-use Rattle.live_requests.specs.Requests.{read_as, of_the_fault, of_a_call, or_other, request_of, is_quit}
+use Rattle.live_requests.specs.Requests.{read_as, of_the_fault, of_a_call, of_a_limit, long_of, or_other}
+use Rattle.live_requests.specs.Requests.{request_of, is_quit}
 
 no_fault_quits : (it : Request) → is_quit (of_the_fault it) ≡ false
 no_fault_quits request.Nothing = refl
@@ -23,6 +24,10 @@ no_fault_quits request.Stack = refl
 no_fault_quits (request.RegsOf depth) = refl
 no_fault_quits request.Fault = refl
 no_fault_quits (request.FaultCells from count) = refl
+no_fault_quits request.Value = refl
+no_fault_quits request.Heap = refl
+no_fault_quits request.Spend = refl
+no_fault_quits (request.Limit most) = refl
 no_fault_quits request.Quit = refl
 no_fault_quits request.Bad = refl
 
@@ -30,21 +35,40 @@ no_call_quits : (depth : Option ℕ) → is_quit (of_a_call depth) ≡ false
 no_call_quits None = refl
 no_call_quits (Some depth) = refl
 
-by_words : (a b c : Bool) (it : Request) (depth : Option ℕ)
-    → is_quit (if a then request.Bad else if b then of_the_fault it else if c then of_a_call depth else request.Bad)
+no_limit_quits : (most : Option ℕ) → is_quit (of_a_limit most) ≡ false
+no_limit_quits None = refl
+no_limit_quits (Some most) = refl
+
+by_words : (a b c d : Bool) (it : Request) (most depth : Option ℕ)
+    → is_quit (if a then of_the_fault it else if b then request.Value else if c then of_a_limit most
+    else if d then of_a_call depth else request.Bad)
     ≡ false
-by_words true b c it depth = refl
-by_words false true c it depth = no_fault_quits it
-by_words false false true it depth = no_call_quits depth
-by_words false false false it depth = refl
+by_words true b c d it most depth = no_fault_quits it
+by_words false true c d it most depth = refl
+by_words false false true d it most depth = no_limit_quits most
+by_words false false false true it most depth = no_call_quits depth
+by_words false false false false it most depth = refl
+
+no_long_quits : (line : List ℕ) → is_quit (long_of line) ≡ false
+no_long_quits line =
+    by_words (bytes_eq (take 6 line) (codes "fault ")) (bytes_eq (take 6 line) (codes "value "))
+    (bytes_eq (take 6 line) (codes "limit ")) (bytes_eq (take 5 line) (codes "regs "))
+    (read_as (script_of (drop 6 line))) (short_number (drop 6 line)) (short_number (drop 5 line))
+
+by_looks : (a b c : Bool) (it : Request) → is_quit it ≡ false
+    → is_quit (if a then request.Heap else if b then request.Spend else if c then request.Bad else it) ≡ false
+by_looks true b c it on = refl
+by_looks false true c it on = refl
+by_looks false false true it on = refl
+by_looks false false false it on = on
 
 no_script_quits : (line : List ℕ) (read : Result (List Command) ScriptError) → is_quit (or_other line read) ≡ false
 no_script_quits line (Ok []) = refl
 no_script_quits line (Ok (command ∷ [])) = refl
 no_script_quits line (Ok (command ∷ other ∷ commands)) = refl
 no_script_quits line (Err e) =
-    by_words (nat_lt (length line) 6) (bytes_eq (take 6 line) (codes "fault ")) (bytes_eq (take 5 line) (codes "regs "))
-    (read_as (script_of (drop 6 line))) (short_number (drop 5 line))
+    by_looks (bytes_eq line (codes "heap")) (bytes_eq line (codes "spend")) (nat_lt (length line) 6) (long_of line)
+    (no_long_quits line)
 
 by_requests : (a b : Bool) (it : Request) → is_quit it ≡ false
     → is_quit (if a then request.Stack else if b then request.Fault else it) ≡ false

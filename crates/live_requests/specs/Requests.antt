@@ -11,6 +11,7 @@ use Rattle.two_way_debugger.specs.Scripts.{script_of}
 use Rattle.live_requests.specs.declared.request.Request.{Request}
 use Rattle.live_requests.specs.declared.request.Request.TheVariants.{Nothing, Carry, Stack}
 use Rattle.live_requests.specs.declared.request.Request.TheVariants.{RegsOf, Fault, FaultCells}
+use Rattle.live_requests.specs.declared.request.Request.TheVariants.{Value, Heap, Spend, Limit}
 use Rattle.live_requests.specs.declared.request.Request.TheVariants.{Quit}
 use Rattle.live_requests.specs.declared.request.Request.TheVariants.{Bad}
 
@@ -34,13 +35,29 @@ abbrev pub of_a_call : Option ℕ → Request
 of_a_call None = Bad
 of_a_call (Some depth) = RegsOf depth
 
--- a line that is no script: `fault` with one that is, or `regs E`
-abbrev pub other_of : List ℕ → Request
-other_of line = if nat_lt (length line) 6 then Bad
-    else if bytes_eq (take 6 line) (codes "fault ")
+-- `limit N`, if N is a number
+abbrev pub of_a_limit : Option ℕ → Request
+of_a_limit None = Bad
+of_a_limit (Some most) = Limit most
+
+-- a line of six bytes or more: `fault` with a script, `value NAME`, `limit N`, or `regs E`
+abbrev pub long_of : List ℕ → Request
+long_of line = if bytes_eq (take 6 line) (codes "fault ")
     then of_the_fault (read_as (script_of (drop 6 line)))
+    else if bytes_eq (take 6 line) (codes "value ") then Value
+    else if bytes_eq (take 6 line) (codes "limit ") then of_a_limit (short_number (drop 6 line))
     else if bytes_eq (take 5 line) (codes "regs ") then of_a_call (short_number (drop 5 line))
     else Bad
+
+-- a line that is no script: `heap`, `spend`, or another one
+abbrev pub other_of : List ℕ → Request
+other_of line = if bytes_eq line (codes "heap") then Heap
+    else if bytes_eq line (codes "spend") then Spend
+    else if nat_lt (length line) 6 then Bad else long_of line
+
+-- the name of `value NAME`
+abbrev pub name_of : (line : List ℕ) → List ℕ
+name_of line = drop 6 line
 
 -- what a script of this one line does, or else another line
 abbrev pub or_other : (line : List ℕ) → Result (List Command) ScriptError → Request

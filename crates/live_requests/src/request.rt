@@ -4,7 +4,7 @@ ghost use Rattle.std.specs.Str.{bytes_eq};
 ghost use Rattle.pisa_scripts.specs.Lines.{short_number as short_number_of};
 ghost use Rattle.pisa_scripts.specs.declared.lines.TheConstants.{MOST_SCRIPT};
 ghost use Rattle.two_way_debugger.specs.Scripts.{script_of};
-ghost use Rattle.live_requests.specs.Requests.{asked, read_as, of_the_fault, of_a_call, other_of, or_other, request_of, is_quit};
+ghost use Rattle.live_requests.specs.Requests.{asked, read_as, of_the_fault, of_a_call, of_a_limit, long_of, other_of, or_other, request_of, name_of, is_quit};
 
 use pisa_scripts::{Command, short_number};
 use rpp_words::NoMemory;
@@ -26,14 +26,22 @@ pub enum Request {
     Fault,
     /// `fault cells A N`: the objects and arrays of so many names from one on, as they are then.
     FaultCells(u32, u32),
+    /// `value NAME`: the value of a variable, field or element. `name_in` gives the name.
+    Value,
+    /// `heap`: how much of the heap is in use, and the free blocks.
+    Heap,
+    /// `spend`: what the run has cost up to the position.
+    Spend,
+    /// `limit N`: from now on a request makes at most so many moves.
+    Limit(u64),
     /// `quit`: the end of the session.
     Quit,
     /// The line is no request.
     Bad,
 }
 
-/// What a line asks. It is read as a script of this one line, except `quit`, `stack`, `regs E`, and
-/// what begins with `fault`.
+/// What a line asks. It is read as a script of this one line, except `quit`, `stack` and `fault`. A
+/// line that is no script may be another request.
 pub fn read_request(alloc: Global, line: &[u8]) -> Result<Request, NoMemory>
     requires { length line.now ≤ MOST_SCRIPT }
     ensures request { IfOk result (λ request. request ≡ request_of line.now) }
@@ -74,14 +82,44 @@ fn read_other(alloc: Global, line: &[u8]) -> Result<Request, NoMemory>
     requires { length line.now ≤ MOST_SCRIPT }
     ensures { IfOk result (λ request. request ≡ other_of line.now) }
 {
+    if is_word(line, b"heap") {
+        return Ok(Request::Heap);
+    }
+    if is_word(line, b"spend") {
+        return Ok(Request::Spend);
+    }
     if line.len() < 6 {
         return Ok(Request::Bad);
     }
+    read_long(alloc, line)
+}
+
+// What a line asks that begins with a word and a space.
+fn read_long(alloc: Global, line: &[u8]) -> Result<Request, NoMemory>
+    requires size { length line.now ≤ MOST_SCRIPT }
+    requires long { 6 ≤ length line.now }
+    ensures { IfOk result (λ request. request ≡ long_of line.now) }
+{
     let (word, rest) = line.split_at(6);
     if is_word(word, b"fault ") {
-        read_cells(alloc, rest)
-    } else {
-        Ok(read_call(line))
+        return read_cells(alloc, rest);
+    }
+    if is_word(word, b"value ") {
+        return Ok(Request::Value);
+    }
+    if is_word(word, b"limit ") {
+        return Ok(read_limit(rest));
+    }
+    Ok(read_call(line))
+}
+
+// `limit N`, or no request.
+fn read_limit(word: &[u8]) -> Request
+    ensures { result ≡ of_a_limit (short_number_of word.now) }
+{
+    match short_number(word) {
+        None => Request::Bad,
+        Some(most) => Request::Limit(most),
     }
 }
 
@@ -132,4 +170,15 @@ fn asked_by(commands: &[Command]) -> Request
         [command] => Request::Carry(*command),
         _ => Request::Bad,
     }
+}
+
+/// The name of `value NAME`.
+pub fn name_in(line: &[u8]) -> &[u8]
+    ensures { result.now ≡ name_of line.now }
+{
+    if line.len() < 6 {
+        return &[];
+    }
+    let (_word, name) = line.split_at(6);
+    name
 }

@@ -5,3 +5,4 @@ pub mod Seeking
 pub mod Returning
 pub mod GoingOn
 pub mod Watching
+pub mod Valued

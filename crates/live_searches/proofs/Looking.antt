@@ -55,7 +55,7 @@ pub look_stays : (before after : Standing) (object : Option ℕ) (text : List �
 look_stays before after object text leads =
     leads.same ∙ ap (λ (j : ℕ). record before { position = j }) (look_position before after object text leads)
 
-look_told : (before after : Standing) (object : Option ℕ) (text : List ℕ)
+pub look_told : (before after : Standing) (object : Option ℕ) (text : List ℕ)
     → Leads before (look_of object ∷ []) after text
     → shown_for (source_of before.program) object (stand_at (run_of before) before.position) ≡ Some text
 look_told before after object text leads =

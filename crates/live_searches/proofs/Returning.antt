@@ -5,9 +5,9 @@ use Rattle.source_debugger.specs.meaning_points.rpp_tree.Tree.{Source}
 use Rattle.source_debugger.specs.meaning_points.Trail.{Trail}
 use Rattle.pisa_scripts.specs.declared.command.Command.{Command}
 use Rattle.source_debugger.specs.Standing.{Standing}
-use Rattle.live_searches.specs.declared.asks.Ask.{Ask}
-use Rattle.live_searches.specs.declared.asks.Goal.{Goal}
-use Rattle.live_searches.specs.declared.asks.Goal.TheVariants.{Points}
+use Rattle.live_requests.specs.declared.asks.Ask.{Ask}
+use Rattle.live_requests.specs.declared.asks.Goal.{Goal}
+use Rattle.live_requests.specs.declared.asks.Goal.TheVariants.{Points}
 use Rattle.live_searches.specs.declared.moves.Moved.{Moved}
 use Rattle.live_searches.specs.Steps.{way_of, IsSameRun}
 use Rattle.live_searches.specs.Goals.{mark_at, wanted}

@@ -7,7 +7,7 @@ use Rattle.pisa_scripts.specs.declared.command.Command.{Command}
 use Rattle.pisa_scripts.specs.declared.command.Command.TheVariants as command
 use Rattle.source_debugger.specs.Shown.{Told, told_by}
 use Rattle.source_debugger.specs.Standing.{Standing, run_of, Leads}
-use Rattle.live_searches.specs.declared.asks.Goal.{Goal}
+use Rattle.live_requests.specs.declared.asks.Goal.{Goal}
 use Rattle.live_searches.specs.declared.moves.Moved.{Moved}
 use Rattle.live_searches.specs.declared.moves.Outcome.{Outcome}
 use Rattle.live_searches.specs.declared.moves.Outcome.TheVariants.{Met, Made, Stopped}

@@ -12,8 +12,9 @@ use Rattle.source_debugger.specs.declared.looking.Seen.TheVariants.{At, End}
 use Rattle.source_debugger.specs.Looks.{seen_of}
 use Rattle.source_debugger.specs.Walks.{Stand, stand_at}
 use Rattle.source_debugger.specs.Shown.{regs_at, cells_at}
-use Rattle.live_searches.specs.declared.asks.Goal.{Goal}
-use Rattle.live_searches.specs.declared.asks.Goal.TheVariants.{Points, Any, Depth, Change}
+use Rattle.live_requests.specs.declared.asks.Goal.{Goal}
+use Rattle.live_requests.specs.declared.asks.Goal.TheVariants.{Points, Any, Depth, Change}
+use Rattle.live_requests.specs.declared.asks.Goal.TheVariants.{Cell}
 
 -- ---- offsets
 
@@ -158,10 +159,11 @@ abbrev pub depth_met : (most : ℕ) → Option Seen → Bool
 depth_met most None = false
 depth_met most (Some seen) = nat_le (depth_of seen) most
 
--- whether moves look for a position that began with this mark
+-- whether moves look for a position that began with this mark; a run of a source has no cells
 unfoldable pub wanted : Source → Trail → Goal → (arguments : List (List ℕ)) → (from : Option Mark)
     → ℕ → Bool
 wanted program trail Points arguments from j = false
 wanted program trail Any arguments from j = any_met arguments (seen_of (stand_at trail j))
 wanted program trail (Depth most) arguments from j = depth_met most (seen_of (stand_at trail j))
 wanted program trail Change arguments from j = changed_at program trail from j
+wanted program trail (Cell address) arguments from j = false

@@ -1,5 +1,5 @@
 pub use Rattle.source_debugger.specs as source_debugger
-pub mod Asks
+pub use Rattle.live_requests.specs as live_requests
 pub mod Steps
 pub mod Searches
 pub mod Goals
@@ -7,3 +7,4 @@ pub mod Sights
 pub mod Turns
 pub mod Makings
 pub mod SearchLaws
+pub mod Values

@@ -4,9 +4,9 @@ use Rattle.source_debugger.specs.meaning_points.rpp_tree.Tree.{Source}
 use Rattle.source_debugger.specs.meaning_points.Trail.{Trail}
 use Rattle.pisa_scripts.specs.declared.command.Command.{Command}
 use Rattle.pisa_scripts.specs.declared.command.Command.TheVariants.{Step, Back}
-use Rattle.live_searches.specs.declared.asks.Ask.{Ask}
-use Rattle.live_searches.specs.declared.asks.Goal.{Goal}
-use Rattle.live_searches.specs.declared.asks.Goal.TheVariants.{Points}
+use Rattle.live_requests.specs.declared.asks.Ask.{Ask}
+use Rattle.live_requests.specs.declared.asks.Goal.{Goal}
+use Rattle.live_requests.specs.declared.asks.Goal.TheVariants.{Points}
 use Rattle.live_searches.specs.Steps.{way_of}
 use Rattle.live_searches.specs.Goals.{mark_at, wanted}
 use Rattle.live_searches.specs.Searches.{Found, points, seek}

@@ -8,8 +8,8 @@ ghost use Rattle.source_debugger.specs.Standing.{run_of};
 ghost use Rattle.live_searches.specs.Goals.{is_place as is_place_of, is_any as is_any_of, has_any as has_any_of, depth_of, kept_line, lines_from, lines_by as lines_of_start, shown_for, depth_for as depth_of_watch, sight_at, mark_at, is_change as is_change_of, changed_at, first_of, any_met, depth_met, wanted as wanted_at};
 ghost use Rattle.live_searches.specs.Sights.{watch_in, sight_of, mark_of, look_of};
 
-use crate::asks::Goal;
 use crate::watches::{Watch, read_watch};
+use live_requests::Goal;
 use pisa_scripts::{Command, pieces, short_number};
 use rpp_words::NoMemory;
 use source_debugger::{Seen, SourceDebugger};
@@ -107,8 +107,8 @@ fn lines_by(alloc: Global, start: &[u8], text: &[u8]) -> Result<Vec<u8>, AllocEr
     Ok(kept)
 }
 
-// The command that shows an object, or the variables.
-fn look_command(object: Option<u32>) -> Command
+/// The command that shows an object, or the variables.
+pub(crate) fn look_command(object: Option<u32>) -> Command
     ensures { result ≡ look_of object }
 {
     match object {
@@ -263,5 +263,6 @@ pub(crate) fn wanted(
         Goal::Any => any_here(alloc, debugger, arguments),
         Goal::Depth(most) => depth_here(alloc, debugger, most),
         Goal::Change => change_here(alloc, debugger, from),
+        Goal::Cell(_address) => Ok(false),
     }
 }

@@ -5,10 +5,10 @@ ghost use Rattle.source_debugger.specs.Standing.{run_of};
 ghost use Rattle.live_searches.specs.Steps.{IsSameRun};
 ghost use Rattle.live_searches.specs.Makings.{made, return_way};
 
-use crate::asks::{Ask, Goal};
 use crate::lists::points;
 use crate::moves::{Moved, way};
 use crate::searches::seek;
+use live_requests::{Ask, Goal};
 use pisa_scripts::Command;
 use rpp_words::NoMemory;
 use source_debugger::SourceDebugger;
@@ -66,6 +66,7 @@ fn make_on(
         Goal::Any => seek(alloc, debugger, ask, arguments),
         Goal::Depth(_depth) => seek(alloc, debugger, ask, arguments),
         Goal::Change => seek(alloc, debugger, ask, arguments),
+        Goal::Cell(_address) => seek(alloc, debugger, ask, arguments),
     }
 }
 

@@ -9,9 +9,9 @@ ghost use Rattle.live_searches.specs.Sights.{mark_of};
 ghost use Rattle.live_searches.specs.Searches.{seek as seek_in, all_made};
 ghost use Rattle.live_searches.specs.Turns.{IsTurn, IsJudged};
 
-use crate::asks::Ask;
 use crate::goals::{Mark, make_mark, wanted};
 use crate::moves::{Moved, Outcome, Step, go, way};
+use live_requests::Ask;
 use pisa_scripts::Command;
 use rpp_words::NoMemory;
 use source_debugger::SourceDebugger;

@@ -1,4 +1,5 @@
 pub mod Carried
-pub mod Putting
+pub mod Looks
 pub mod Answering
+pub mod Along
 pub mod Scripted

@@ -1,15 +1,19 @@
 -- How the replies to commands and moves end.
-use Rattle.std.specs.Prelude.{ℕ, ◌==◌, ◌+◌, ◌-◌, Bool, true, ◌&&◌, nat_lt, if◌then◌else◌, List}
+use Rattle.std.specs.Prelude.{ℕ, ◌==◌, ◌+◌, ◌-◌, Bool, true, false, not, ◌&&◌, nat_lt, List}
+use Rattle.std.specs.Prelude.{if◌then◌else◌, Option}
 use Rattle.std.specs.List.{list_any}
 use Rattle.pisa_scripts.specs.declared.command.Command.{Command}
 use Rattle.pisa_scripts.specs.declared.command.Command.TheVariants.{Step, Back, To, BackTo}
 use Rattle.pisa_scripts.specs.declared.command.Command.TheVariants.{Regs, Cells}
-use Rattle.live_searches.specs.declared.asks.Goal.{Goal}
-use Rattle.live_searches.specs.declared.asks.Goal.TheVariants.{Points}
+use Rattle.live_requests.specs.declared.asks.Goal.{Goal}
+use Rattle.live_requests.specs.declared.asks.Goal.TheVariants.{Points}
+use Rattle.live_requests.specs.declared.asks.Ask.{Ask}
+use Rattle.live_requests.specs.Limited.{most_of, limited, is_cut, is_cut_ask}
 use Rattle.live_searches.specs.declared.moves.Outcome.{Outcome}
 use Rattle.live_searches.specs.declared.moves.Outcome.TheVariants as outcome
 use Rattle.live_talks.specs.declared.ends.End.{End}
 use Rattle.live_talks.specs.declared.ends.End.TheVariants.{Done, Met, More, Start, Over, Fault}
+use Rattle.live_talks.specs.Limits.{end_cut}
 
 -- whether fewer moves were made than were allowed
 abbrev pub is_short : (most from to : ℕ) → Bool
@@ -36,6 +40,16 @@ end_shown (BackTo place n) from to text = end_in (is_short n from to) text
 end_shown Regs from to text = Done
 end_shown (Cells number count) from to text = Done
 
+-- whether all moves were made that a command asks for
+abbrev pub all_made : Command → (from to : ℕ) → Bool
+all_made command from to = not (is_short (most_of command) from to)
+
+-- how the reply to a command ends, of which a limit allows so much
+abbrev pub end_carried : (limit : Option ℕ) → Command → (from to : ℕ) → List ℕ → End
+end_carried limit command from to text =
+    end_cut (is_cut limit command) (all_made (limited limit command) from to)
+    (end_shown (limited limit command) from to text)
+
 -- how moves end that were all made, by what they look for
 abbrev pub end_of_all : Goal → End
 end_of_all Points = Done
@@ -46,3 +60,12 @@ abbrev pub end_moved : Goal → Outcome → List ℕ → End
 end_moved goal outcome.Met text = Met
 end_moved goal outcome.Made text = end_of_all goal
 end_moved goal outcome.Stopped text = end_in true text
+
+abbrev pub is_made : Outcome → Bool
+is_made outcome.Made = true
+is_made how = false
+
+-- the same, where a limit allows so many of them
+abbrev pub end_asked : (limit : Option ℕ) → Ask → Outcome → List ℕ → End
+end_asked limit ask how text =
+    end_cut (is_cut_ask limit ask) (is_made how) (end_moved ask.goal how text)

@@ -1,6 +1,7 @@
 pub use Rattle.source_debugger.specs as source_debugger
 pub use Rattle.live_talks.specs as live_talks
 pub use Rattle.live_searches.specs as live_searches
+pub use Rattle.live_accounts.specs as live_accounts
 pub mod Ends
 pub mod Replies
 pub mod Sessions

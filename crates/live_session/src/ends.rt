@@ -1,9 +1,10 @@
 // How the replies to commands and moves end.
 ghost use Rattle.std.specs.Prelude.{◌≡◌, ◌+◌, ◌-◌};
-ghost use Rattle.live_session.specs.Ends.{is_short as is_short_of, has as has_letter, end_in as end_in_text, end_shown as shown_end, end_of_all, end_moved as moved_end};
+ghost use Rattle.live_session.specs.Ends.{is_short as is_short_of, has as has_letter, end_in as end_in_text, end_shown as shown_end, all_made as are_all_made, end_carried as carried_end, end_of_all, end_moved as moved_end, is_made as is_made_outcome, end_asked as asked_end};
 
-use live_searches::{Goal, Outcome};
-use live_talks::End;
+use live_requests::{Ask, Goal, is_cut, is_cut_ask, limited, most_of};
+use live_searches::Outcome;
+use live_talks::{End, end_cut};
 use pisa_scripts::Command;
 
 // How many moves lie between two positions.
@@ -42,8 +43,8 @@ fn has(letter: u8, text: &str) -> bool
     text.as_bytes().contains(&letter)
 }
 
-/// How the reply to a command ends that led from a position to another, and printed this.
-pub(crate) fn end_shown(command: Command, from: u64, to: u64, text: &str) -> End
+// How the reply to a command ends that led from a position to another, and printed this.
+fn end_shown(command: Command, from: u64, to: u64, text: &str) -> End
     ensures { result ≡ shown_end command from to text.now }
 {
     match command {
@@ -56,6 +57,28 @@ pub(crate) fn end_shown(command: Command, from: u64, to: u64, text: &str) -> End
     }
 }
 
+// Whether all moves were made that a command asks for.
+fn all_made(command: Command, from: u64, to: u64) -> bool
+    ensures { result ≡ are_all_made command from to }
+{
+    !is_short(most_of(command), from, to)
+}
+
+/// How the reply to a command ends, of which a limit allows so much.
+pub(crate) fn end_carried(
+    limit: Option<u64>,
+    command: Command,
+    from: u64,
+    to: u64,
+    text: &str,
+) -> End
+    ensures { result ≡ carried_end limit command from to text.now }
+{
+    let allowed = limited(limit, command);
+    let end = end_shown(allowed, from, to, text);
+    end_cut(is_cut(limit, command), all_made(allowed, from, to), end)
+}
+
 // How moves end that were all made, by what they look for.
 fn end_all(goal: Goal) -> End
     ensures { result ≡ end_of_all goal }
@@ -65,11 +88,12 @@ fn end_all(goal: Goal) -> End
         Goal::Any => End::More,
         Goal::Depth(_most) => End::More,
         Goal::Change => End::More,
+        Goal::Cell(_address) => End::More,
     }
 }
 
-/// How the reply to moves ends that printed this.
-pub(crate) fn end_moved(goal: Goal, how: Outcome, text: &str) -> End
+// How the reply to moves ends that printed this.
+fn end_moved(goal: Goal, how: Outcome, text: &str) -> End
     ensures { result ≡ moved_end goal how text.now }
 {
     match how {
@@ -77,4 +101,22 @@ pub(crate) fn end_moved(goal: Goal, how: Outcome, text: &str) -> End
         Outcome::Made => end_all(goal),
         Outcome::Stopped => end_in(true, text),
     }
+}
+
+fn is_made(how: Outcome) -> bool
+    ensures { result ≡ is_made_outcome how }
+{
+    match how {
+        Outcome::Met => false,
+        Outcome::Made => true,
+        Outcome::Stopped => false,
+    }
+}
+
+/// How the reply to moves ends that printed this, where a limit allows so many of them.
+pub(crate) fn end_asked(limit: Option<u64>, ask: Ask, how: Outcome, text: &str) -> End
+    ensures { result ≡ asked_end limit ask how text.now }
+{
+    let end = end_moved(ask.goal, how, text);
+    end_cut(is_cut_ask(limit, ask), is_made(how), end)
 }

@@ -7,5 +7,6 @@ mod ends;
 pub mod laws;
 mod replying;
 mod session;
+mod telling;
 
 pub use session::serve;

@@ -1,66 +1,51 @@
 // The replies to requests.
-ghost use Rattle.std.specs.Prelude.{◌≡◌, ◌++◌, false, ⊤, IfOk, IsErrOf, map, option_map, Some, string_bytes};
+ghost use Rattle.std.specs.Prelude.{◌≡◌, false, ⊤, Some, map, string_bytes};
 ghost use Rattle.pisa_scripts.specs.Lines.{pieces as pieces_of};
 ghost use Rattle.source_debugger.specs.meaning_points.rpp_tree.Views.{source_of};
 ghost use Rattle.source_debugger.specs.Failures.{account_of};
 ghost use Rattle.live_requests.specs.declared.request.Request.TheVariants.{Carry};
 ghost use Rattle.live_requests.specs.Requests.{is_quit};
-ghost use Rattle.live_searches.specs.Asks.{ask_of};
-ghost use Rattle.live_talks.specs.Ends.{end_line as line_of_end};
-ghost use Rattle.live_session.specs.Ends.{end_shown as end_of_command, end_moved as end_of_moves};
-ghost use Rattle.live_session.specs.Replies.{or_none as or_none_of, RepliesStack, RepliesCall};
-ghost use Rattle.live_session.specs.Serving.{Answers, request_for, IsReplyTo, IsReplyBy, IsStack, IsCall, IsMoves, Moves, PutsBy};
+ghost use Rattle.live_talks.specs.Talks.{PutsText};
+ghost use Rattle.live_talks.specs.Serving.{OrMemory, PutsBy};
+ghost use Rattle.live_session.specs.Replies.{along as moves_along, moves_of, IsReplyOf};
+ghost use Rattle.live_searches.specs.Steps.{IsSameRun};
+ghost use Rattle.live_session.specs.Serving.{RepliesTo, RepliesMoves, made_or_memory};
 
-use crate::ends::{end_moved, end_shown};
-use live_requests::Request;
-use live_searches::{Ask, Goal, Lost, Moved, arguments, make, read_ask};
-use live_talks::{End, end_line, say_bye, say_end, say_text};
+use crate::telling::{
+    Unanswered, carry_moves, carry_out, tell_blocks, tell_call, tell_failure, tell_name,
+    tell_spent, tell_stack,
+};
+use live_requests::{Ask, Goal, Request, read_ask};
+use live_talks::{End, say_bye, say_bytes, say_end, say_text};
 use pisa_scripts::{Command, pieces};
 use rpp_ports::Sink;
 use rpp_words::NoMemory;
 use source_debugger::{Detail, SourceDebugger};
-use std::alloc::{AllocError, Global};
+use std::alloc::Global;
 
 const NO_MEMORY: u8 = 7;
 
-// Why there is no reply: no memory was left.
-#[derive(Clone, Copy, PartialEq, Eq, Debug)]
-enum Unanswered {
-    // For the command, and the position is as before.
-    Unmoved,
-    // Only for the last line.
-    Moved,
-}
-
-// What a command printed, and the last line.
-fn ended(command: Command, from: u64, to: u64, text: String) -> Result<String, Unanswered>
-    ensures told { IfOk result (λ reply. string_bytes reply ≡ string_bytes text
-        ++ line_of_end (end_of_command command from to (string_bytes text))) }
-    ensures moved { IsErrOf result Unanswered.Unmoved → ⊥ }
+// Puts a text that was made, or says that there was no memory for it.
+fn say_made<K: Sink>(made: Result<String, NoMemory>, out: &mut K) -> Option<u8>
+    ensures { PutsText (made_or_memory string_bytes made)
+        (record { bytes = K.written out.old; puts = K.puts out.old })
+        (record { bytes = K.written out.new; puts = K.puts out.new }) result }
 {
-    let mut text = text;
-    let end = end_shown(command, from, to, text.as_str());
-    match text.push_str(end_line(end)) {
-        Ok(()) => Ok(text),
-        Err(_) => Err(Unanswered::Moved),
+    match made {
+        Ok(text) => say_text(out, text.as_str()),
+        Err(NoMemory) => say_end(out, End::Memory),
     }
 }
 
-// Carries out a command.
-fn carry_out(
-    alloc: Global,
-    debugger: &mut SourceDebugger<'_>,
-    command: Command,
-) -> Result<String, Unanswered>
-    ensures told { IfOk result
-        (λ text. Answers debugger.old (Carry command) debugger.new (string_bytes text)) }
-    ensures stays { IsErrOf result Unanswered.Unmoved → debugger.new ≡ debugger.old }
+// The same of bytes.
+fn say_line<K: Sink>(made: Result<Vec<u8>, NoMemory>, out: &mut K) -> Option<u8>
+    ensures { PutsText (made_or_memory (λ line. line.items) made)
+        (record { bytes = K.written out.old; puts = K.puts out.old })
+        (record { bytes = K.written out.new; puts = K.puts out.new }) result }
 {
-    let from = debugger.position();
-    let mut text = String::new(alloc);
-    match debugger.command(alloc, &command, &mut text) {
-        Ok(()) => ended(command, from, debugger.position(), text),
-        Err(NoMemory) => Err(Unanswered::Unmoved),
+    match made {
+        Ok(line) => say_bytes(out, &line),
+        Err(NoMemory) => say_end(out, End::Memory),
     }
 }
 
@@ -68,159 +53,21 @@ fn carry_out(
 fn say_carried<K: Sink>(
     alloc: Global,
     debugger: &mut SourceDebugger<'_>,
+    limit: Option<u64>,
     command: Command,
     out: &mut K,
 ) -> Option<u8>
-    ensures { PutsBy (IsReplyTo (source_of debugger.old.program) (account_of debugger.old)
-        (Carry command) debugger.old.position) false ⊤ debugger.old debugger.new
+    ensures puts { PutsBy (OrMemory (RepliesTo (source_of debugger.old.program)
+        (account_of debugger.old) limit (Carry command) debugger.old.position)
+        debugger.old.position) false ⊤ debugger.old.position debugger.new.position
         (record { bytes = K.written out.old; puts = K.puts out.old })
         (record { bytes = K.written out.new; puts = K.puts out.new }) result }
+    ensures same { IsSameRun debugger.old debugger.new }
 {
-    match carry_out(alloc, debugger, command) {
+    match carry_out(alloc, debugger, limit, command) {
         Ok(text) => say_text(out, text.as_str()),
         Err(Unanswered::Unmoved) => say_end(out, End::Memory),
         Err(Unanswered::Moved) => Some(NO_MEMORY),
-    }
-}
-
-// Lines with their last line; there may be nothing to say.
-fn or_none(alloc: Global, text: Option<String>) -> Result<String, AllocError>
-    ensures { IfOk result (λ reply. string_bytes reply ≡ or_none_of (option_map string_bytes text)) }
-{
-    match text {
-        None => {
-            let mut text = String::new(alloc);
-            text.push_str(end_line(End::None))?;
-            Ok(text)
-        }
-        Some(mut text) => {
-            text.push_str(end_line(End::Done))?;
-            Ok(text)
-        }
-    }
-}
-
-// What is asked of the step that fails, and the last line.
-fn tell_failure(
-    alloc: Global,
-    debugger: &mut SourceDebugger<'_>,
-    detail: Detail,
-) -> Result<String, NoMemory>
-    ensures told { IfOk result
-        (λ text. Answers debugger.old (request_for detail) debugger.new (string_bytes text)) }
-    ensures stays { debugger.new ≡ debugger.old }
-{
-    let text = debugger.failure(alloc, detail)?;
-    let reply = or_none(alloc, text)?;
-    Ok(reply)
-}
-
-// Puts the reply on what fails.
-fn say_failure<K: Sink>(
-    alloc: Global,
-    debugger: &mut SourceDebugger<'_>,
-    detail: Detail,
-    out: &mut K,
-) -> Option<u8>
-    ensures { PutsBy (IsReplyTo (source_of debugger.old.program) (account_of debugger.old)
-        (request_for detail) debugger.old.position) false ⊤ debugger.old debugger.new
-        (record { bytes = K.written out.old; puts = K.puts out.old })
-        (record { bytes = K.written out.new; puts = K.puts out.new }) result }
-{
-    match tell_failure(alloc, debugger, detail) {
-        Ok(text) => say_text(out, text.as_str()),
-        Err(NoMemory) => say_end(out, End::Memory),
-    }
-}
-
-// The active calls, and the last line.
-fn tell_stack(alloc: Global, debugger: &mut SourceDebugger<'_>) -> Result<String, NoMemory>
-    ensures told { IfOk result (λ text. RepliesStack (source_of debugger.old.program)
-        (account_of debugger.old) debugger.old.position (string_bytes text)
-        debugger.new.position) }
-    ensures stays { debugger.new ≡ debugger.old }
-{
-    let mut text = debugger.stack(alloc)?;
-    text.push_str(end_line(End::Done))?;
-    Ok(text)
-}
-
-// Puts the reply on the active calls.
-fn say_stack<K: Sink>(alloc: Global, debugger: &mut SourceDebugger<'_>, out: &mut K) -> Option<u8>
-    ensures { PutsBy (IsStack (source_of debugger.old.program) (account_of debugger.old)
-        debugger.old.position) false ⊤ debugger.old debugger.new
-        (record { bytes = K.written out.old; puts = K.puts out.old })
-        (record { bytes = K.written out.new; puts = K.puts out.new }) result }
-{
-    match tell_stack(alloc, debugger) {
-        Ok(text) => say_text(out, text.as_str()),
-        Err(NoMemory) => say_end(out, End::Memory),
-    }
-}
-
-// The lines of a call, if there is one, and the last line.
-fn tell_call(
-    alloc: Global,
-    debugger: &mut SourceDebugger<'_>,
-    depth: u64,
-) -> Result<String, NoMemory>
-    ensures told { IfOk result (λ text. RepliesCall (source_of debugger.old.program)
-        (account_of debugger.old) depth debugger.old.position (string_bytes text)
-        debugger.new.position) }
-    ensures stays { debugger.new ≡ debugger.old }
-{
-    let text = debugger.call(alloc, depth)?;
-    let reply = or_none(alloc, text)?;
-    Ok(reply)
-}
-
-// Puts the reply on a call.
-fn say_call<K: Sink>(
-    alloc: Global,
-    debugger: &mut SourceDebugger<'_>,
-    depth: u64,
-    out: &mut K,
-) -> Option<u8>
-    ensures { PutsBy (IsCall (source_of debugger.old.program) (account_of debugger.old) depth
-        debugger.old.position) false ⊤ debugger.old debugger.new
-        (record { bytes = K.written out.old; puts = K.puts out.old })
-        (record { bytes = K.written out.new; puts = K.puts out.new }) result }
-{
-    match tell_call(alloc, debugger, depth) {
-        Ok(text) => say_text(out, text.as_str()),
-        Err(NoMemory) => say_end(out, End::Memory),
-    }
-}
-
-// What moves printed, and the last line.
-fn ended_moves(goal: Goal, moved: Moved) -> Result<String, Unanswered>
-    ensures told { IfOk result (λ reply. string_bytes reply ≡ string_bytes moved.text
-        ++ line_of_end (end_of_moves goal moved.how (string_bytes moved.text))) }
-    ensures moved { IsErrOf result Unanswered.Unmoved → ⊥ }
-{
-    let mut text = moved.text;
-    let last = end_line(end_moved(goal, moved.how, text.as_str()));
-    match text.push_str(last) {
-        Ok(()) => Ok(text),
-        Err(_) => Err(Unanswered::Moved),
-    }
-}
-
-// Makes the moves that words ask for.
-fn carry_moves(
-    alloc: Global,
-    debugger: &mut SourceDebugger<'_>,
-    ask: Ask,
-    words: &[&[u8]],
-) -> Result<String, Unanswered>
-    ensures told { IfOk result (λ text. Moves debugger.old ask (map (λ word. word.now) words.now)
-        debugger.new (string_bytes text)) }
-    ensures stays { IsErrOf result Unanswered.Unmoved → debugger.new ≡ debugger.old }
-{
-    match make(alloc, debugger, ask, arguments(ask.back, words)) {
-        Ok(moved) => ended_moves(ask.goal, moved),
-        Err(Lost::Unmoved) => Err(Unanswered::Unmoved),
-        Err(Lost::Moved) => Err(Unanswered::Moved),
     }
 }
 
@@ -228,19 +75,36 @@ fn carry_moves(
 fn say_moves<K: Sink>(
     alloc: Global,
     debugger: &mut SourceDebugger<'_>,
+    limit: Option<u64>,
     ask: Ask,
     words: &[&[u8]],
     out: &mut K,
 ) -> Option<u8>
-    ensures { PutsBy (IsMoves (source_of debugger.old.program) (account_of debugger.old) (Some ask)
-        (map (λ word. word.now) words.now) debugger.old.position) false ⊤ debugger.old
-        debugger.new (record { bytes = K.written out.old; puts = K.puts out.old })
+    ensures puts { PutsBy (OrMemory (RepliesMoves (source_of debugger.old.program)
+        (account_of debugger.old) limit (Some ask) (map (λ word. word.now) words.now)
+        debugger.old.position) debugger.old.position) false ⊤ debugger.old.position
+        debugger.new.position (record { bytes = K.written out.old; puts = K.puts out.old })
         (record { bytes = K.written out.new; puts = K.puts out.new }) result }
+    ensures same { IsSameRun debugger.old debugger.new }
 {
-    match carry_moves(alloc, debugger, ask, words) {
+    match carry_moves(alloc, debugger, limit, ask, words) {
         Ok(text) => say_text(out, text.as_str()),
         Err(Unanswered::Unmoved) => say_end(out, End::Memory),
         Err(Unanswered::Moved) => Some(NO_MEMORY),
+    }
+}
+
+// Moves along the points of a run: it has no memory cells.
+fn along(ask: Option<Ask>) -> Option<Ask>
+    ensures { result ≡ moves_along ask }
+{
+    let ask = ask?;
+    match ask.goal {
+        Goal::Cell(_address) => None,
+        Goal::Points => Some(ask),
+        Goal::Any => Some(ask),
+        Goal::Depth(_most) => Some(ask),
+        Goal::Change => Some(ask),
     }
 }
 
@@ -248,18 +112,21 @@ fn say_moves<K: Sink>(
 fn say_words<K: Sink>(
     alloc: Global,
     debugger: &mut SourceDebugger<'_>,
+    limit: Option<u64>,
     words: &[&[u8]],
     out: &mut K,
 ) -> Option<u8>
-    ensures { PutsBy (IsMoves (source_of debugger.old.program) (account_of debugger.old)
-        (ask_of (map (λ word. word.now) words.now)) (map (λ word. word.now) words.now)
-        debugger.old.position) false ⊤ debugger.old debugger.new
+    ensures puts { PutsBy (OrMemory (RepliesMoves (source_of debugger.old.program)
+        (account_of debugger.old) limit (moves_of (map (λ word. word.now) words.now))
+        (map (λ word. word.now) words.now) debugger.old.position) debugger.old.position) false ⊤
+        debugger.old.position debugger.new.position
         (record { bytes = K.written out.old; puts = K.puts out.old })
         (record { bytes = K.written out.new; puts = K.puts out.new }) result }
+    ensures same { IsSameRun debugger.old debugger.new }
 {
-    match read_ask(words) {
+    match along(read_ask(words)) {
         None => say_end(out, End::Bad),
-        Some(ask) => say_moves(alloc, debugger, ask, words, out),
+        Some(ask) => say_moves(alloc, debugger, limit, ask, words, out),
     }
 }
 
@@ -267,16 +134,19 @@ fn say_words<K: Sink>(
 fn say_asked<K: Sink>(
     alloc: Global,
     debugger: &mut SourceDebugger<'_>,
+    limit: Option<u64>,
     line: &[u8],
     out: &mut K,
 ) -> Option<u8>
-    ensures { PutsBy (IsMoves (source_of debugger.old.program) (account_of debugger.old)
-        (ask_of (pieces_of 32 line.now)) (pieces_of 32 line.now) debugger.old.position) false ⊤
-        debugger.old debugger.new (record { bytes = K.written out.old; puts = K.puts out.old })
+    ensures puts { PutsBy (OrMemory (RepliesMoves (source_of debugger.old.program)
+        (account_of debugger.old) limit (moves_of (pieces_of 32 line.now)) (pieces_of 32 line.now)
+        debugger.old.position) debugger.old.position) false ⊤ debugger.old.position
+        debugger.new.position (record { bytes = K.written out.old; puts = K.puts out.old })
         (record { bytes = K.written out.new; puts = K.puts out.new }) result }
+    ensures same { IsSameRun debugger.old debugger.new }
 {
     match pieces(alloc, b' ', line) {
-        Ok(words) => say_words(alloc, debugger, &words, out),
+        Ok(words) => say_words(alloc, debugger, limit, &words, out),
         Err(_lack) => say_end(out, End::Memory),
     }
 }
@@ -286,25 +156,33 @@ fn say_asked<K: Sink>(
 pub(crate) fn answer<K: Sink>(
     alloc: Global,
     debugger: &mut SourceDebugger<'_>,
+    limit: Option<u64>,
     request: Request,
     line: &[u8],
     out: &mut K,
 ) -> Option<u8>
-    ensures { PutsBy (IsReplyBy (source_of debugger.old.program) (account_of debugger.old) request
-        line.now debugger.old.position) (is_quit request) ⊤ debugger.old debugger.new
+    ensures puts { PutsBy (OrMemory (IsReplyOf (source_of debugger.old.program)
+        (account_of debugger.old) limit request line.now debugger.old.position)
+        debugger.old.position) (is_quit request) ⊤ debugger.old.position debugger.new.position
         (record { bytes = K.written out.old; puts = K.puts out.old })
         (record { bytes = K.written out.new; puts = K.puts out.new }) result }
+    ensures same { IsSameRun debugger.old debugger.new }
 {
     match request {
         Request::Nothing => say_end(out, End::Done),
-        Request::Carry(command) => say_carried(alloc, debugger, command, out),
-        Request::Stack => say_stack(alloc, debugger, out),
-        Request::RegsOf(depth) => say_call(alloc, debugger, depth, out),
-        Request::Fault => say_failure(alloc, debugger, Detail::Test, out),
+        Request::Carry(command) => say_carried(alloc, debugger, limit, command, out),
+        Request::Stack => say_made(tell_stack(alloc, debugger), out),
+        Request::RegsOf(depth) => say_made(tell_call(alloc, debugger, depth), out),
+        Request::Fault => say_made(tell_failure(alloc, debugger, limit, Detail::Test), out),
         Request::FaultCells(from, count) => {
-            say_failure(alloc, debugger, Detail::Cells { from, count }, out)
+            let detail = Detail::Cells { from, count };
+            say_made(tell_failure(alloc, debugger, limit, detail), out)
         }
+        Request::Value => say_line(tell_name(alloc, debugger, line), out),
+        Request::Heap => say_made(tell_blocks(alloc, debugger), out),
+        Request::Spend => say_made(tell_spent(alloc, debugger), out),
+        Request::Limit(_most) => say_end(out, End::Done),
         Request::Quit => Some(say_bye(out)),
-        Request::Bad => say_asked(alloc, debugger, line, out),
+        Request::Bad => say_asked(alloc, debugger, limit, line, out),
     }
 }

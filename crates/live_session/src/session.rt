@@ -1,37 +1,49 @@
 // A session: lines and their replies.
-ghost use Rattle.std.specs.Prelude.{◌≡◌, ◌≤◌, false, length, ⊤};
+ghost use Rattle.std.specs.Prelude.{◌≡◌, ◌≤◌, length, ⊤, None};
 ghost use Rattle.pisa_scripts.specs.declared.lines.TheConstants.{MOST_SCRIPT};
 ghost use Rattle.source_debugger.specs.meaning_points.rpp_tree.Views.{source_of};
 ghost use Rattle.source_debugger.specs.Failures.{account_of};
 ghost use Rattle.live_port.specs.Heard.{Heard};
+ghost use Rattle.live_searches.specs.Steps.{IsSameRun};
 ghost use Rattle.live_talks.specs.Sessions.{IsReply, quits, IsSession};
+ghost use Rattle.live_talks.specs.Serving.{PutsBy, Goes};
+ghost use Rattle.live_talks.specs.Limits.{held};
 ghost use Rattle.live_session.specs.Sessions.{RepliesOf};
-ghost use Rattle.live_session.specs.Serving.{PutsBy, Goes};
 
 use crate::replying::answer;
 use live_port::{Asked, Asker};
-use live_requests::read_request;
+use live_requests::{limit_of, read_request};
 use live_talks::{End, say_end};
 use rpp_ports::Sink;
 use rpp_words::NoMemory;
 use source_debugger::SourceDebugger;
 use std::alloc::Global;
 
-// Puts the reply to a line.
+// Puts the reply to a line, which may set the limit.
 fn answer_line<K: Sink>(
     alloc: Global,
     debugger: &mut SourceDebugger<'_>,
+    limit: &mut Option<u64>,
     line: &[u8],
     out: &mut K,
 ) -> Option<u8>
     requires { length line.now ≤ MOST_SCRIPT }
-    ensures { PutsBy (IsReply (RepliesOf (source_of debugger.old.program) (account_of debugger.old))
-        (Heard.Line line.now) debugger.old.position) (quits (Heard.Line line.now)) ⊤ debugger.old
-        debugger.new (record { bytes = K.written out.old; puts = K.puts out.old })
+    ensures puts { PutsBy (IsReply (RepliesOf (source_of debugger.old.program)
+        (account_of debugger.old)) (Heard.Line line.now) (held debugger.old.position limit.old))
+        (quits (Heard.Line line.now)) ⊤ (held debugger.old.position limit.old)
+        (held debugger.new.position limit.new)
+        (record { bytes = K.written out.old; puts = K.puts out.old })
         (record { bytes = K.written out.new; puts = K.puts out.new }) result }
+    ensures same { IsSameRun debugger.old debugger.new }
 {
     match read_request(alloc, line) {
-        Ok(request) => answer(alloc, debugger, request, line, out),
+        Ok(request) => match limit_of(request) {
+            Some(most) => {
+                *limit = Some(most);
+                say_end(out, End::Done)
+            }
+            None => answer(alloc, debugger, *limit, request, line, out),
+        },
         Err(NoMemory) => say_end(out, End::Memory),
     }
 }
@@ -40,10 +52,12 @@ fn answer_line<K: Sink>(
 fn exchange<A: Asker, K: Sink>(
     alloc: Global,
     debugger: &mut SourceDebugger<'_>,
+    limit: &mut Option<u64>,
     asker: &mut A,
     out: &mut K,
 ) -> Option<u8>
-    ensures { Goes debugger.old debugger.new
+    ensures goes { Goes (RepliesOf (source_of debugger.old.program) (account_of debugger.old))
+        (held debugger.old.position limit.old) (held debugger.new.position limit.new)
         (record {
           lines = A.lines asker.old;
           heard = A.events asker.old;
@@ -54,9 +68,10 @@ fn exchange<A: Asker, K: Sink>(
           heard = A.events asker.new;
           out = record { bytes = K.written out.new; puts = K.puts out.new };
         }) result }
+    ensures same { IsSameRun debugger.old debugger.new }
 {
     match asker.next() {
-        Asked::Line(line) => answer_line(alloc, debugger, &line, out),
+        Asked::Line(line) => answer_line(alloc, debugger, limit, &line, out),
         Asked::Long => say_end(out, End::Long),
         Asked::Lost => say_end(out, End::Memory),
         Asked::Over => Some(0),
@@ -65,7 +80,7 @@ fn exchange<A: Asker, K: Sink>(
 }
 
 /// Hears lines, and puts the reply to each, until the input ends or asks for the end. Gives the
-/// status of the program.
+/// status of the program. At first there is no limit on the moves of a request.
 pub fn serve<A: Asker, K: Sink>(
     alloc: Global,
     debugger: &mut SourceDebugger<'_>,
@@ -73,7 +88,7 @@ pub fn serve<A: Asker, K: Sink>(
     out: &mut K,
 ) -> u8
     ensures { IsSession (RepliesOf (source_of debugger.old.program) (account_of debugger.old))
-        debugger.old.position
+        (held debugger.old.position None)
         (record {
           lines = A.lines asker.old;
           heard = A.events asker.old;
@@ -85,8 +100,9 @@ pub fn serve<A: Asker, K: Sink>(
           out = record { bytes = K.written out.new; puts = K.puts out.new };
         }) result }
 {
+    let mut limit = None;
     for _ in 0..u64::MAX {
-        match exchange(alloc, debugger, asker, out) {
+        match exchange(alloc, debugger, &mut limit, asker, out) {
             Some(status) => return status,
             None => {}
         }

@@ -1,1 +1,3 @@
 pub mod Byes
+pub mod Putting
+pub mod Limiting

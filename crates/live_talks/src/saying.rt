@@ -10,17 +10,26 @@ const OUTSIDE: u8 = 2;
 
 const NO_MEMORY: u8 = 7;
 
+// Puts bytes, once.
+fn put<K: Sink>(out: &mut K, bytes: &[u8]) -> Result<(), SinkFault>
+    ensures { Puts bytes.now result
+        (record { bytes = K.written out.old; puts = K.puts out.old })
+        (record { bytes = K.written out.new; puts = K.puts out.new }) }
+{
+    match out.put(bytes) {
+        Ok(()) => Ok(()),
+        Err(SinkFault::Failed) => Err(SinkFault::Failed),
+        Err(SinkFault::NoMemory) => Err(SinkFault::NoMemory),
+    }
+}
+
 /// Puts a text, once.
 pub fn say<K: Sink>(out: &mut K, text: &str) -> Result<(), SinkFault>
     ensures { Puts text.now result
         (record { bytes = K.written out.old; puts = K.puts out.old })
         (record { bytes = K.written out.new; puts = K.puts out.new }) }
 {
-    match out.put(text.as_bytes()) {
-        Ok(()) => Ok(()),
-        Err(SinkFault::Failed) => Err(SinkFault::Failed),
-        Err(SinkFault::NoMemory) => Err(SinkFault::NoMemory),
-    }
+    put(out, text.as_bytes())
 }
 
 /// The status after a put: this one, if the text was taken.
@@ -52,6 +61,16 @@ pub fn say_text<K: Sink>(out: &mut K, text: &str) -> Option<u8>
         (record { bytes = K.written out.new; puts = K.puts out.new }) result }
 {
     let answer = say(out, text);
+    over_by(answer)
+}
+
+/// Puts a reply in bytes. If it is not taken, the session ends with the status.
+pub fn say_bytes<K: Sink>(out: &mut K, bytes: &[u8]) -> Option<u8>
+    ensures { PutsText bytes.now
+        (record { bytes = K.written out.old; puts = K.puts out.old })
+        (record { bytes = K.written out.new; puts = K.puts out.new }) result }
+{
+    let answer = put(out, bytes);
     over_by(answer)
 }
 

@@ -1,9 +1,10 @@
 use Rattle.live_command.proofs.Imaging.{along_greets, along_greets_not}
+use Rattle.live_images.specs.Sessions.{held_in}
 use Rattle.live_command.proofs.image.greet_image.Goals as goal
 
 pub returns-in-Ok : goal.returns-in-Ok
 returns-in-Ok g c =
-    along_greets c.args.debugger.now (record {
+    along_greets (held_in c.args.run.now) (record {
       lines = g.A.Asker.lines c.args.asker.now;
       heard = g.A.Asker.events c.args.asker.now;
       out = record { bytes = g.K.Sink.written c.args.out.now; puts = g.K.Sink.puts c.args.out.now };
@@ -18,7 +19,7 @@ returns-in-Ok g c =
 
 pub returns-in-Err : goal.returns-in-Err
 returns-in-Err g c =
-    along_greets_not c.args.debugger.now (record {
+    along_greets_not (held_in c.args.run.now) (record {
       lines = g.A.Asker.lines c.args.asker.now;
       heard = g.A.Asker.events c.args.asker.now;
       out = record { bytes = g.K.Sink.written c.args.out.now; puts = g.K.Sink.puts c.args.out.now };

@@ -1,12 +1,15 @@
 use Rattle.std.proofs.Common.{subst, ℕ}
 use Rattle.std.specs.Prelude.{Option}
-use Rattle.live_images.specs.Serving.{Goes}
-use Rattle.live_images.proofs.Putting.{one_more, over, enough}
+use Rattle.live_talks.specs.Limits.{WithLimits}
+use Rattle.live_talks.specs.Serving.{Goes}
+use Rattle.live_images.specs.Sessions.{RepliesOf, held_in}
+use Rattle.live_talks.proofs.Putting.{one_more, over, enough}
 use Rattle.live_images.proofs.session.serve.Goals as goal
 
 pub loop-preserved : goal.loop-preserved
 loop-preserved g c =
-    one_more c.loop.counter c.args.debugger.now c.loop.debugger c.exchange.new.debugger
+    one_more (WithLimits RepliesOf) c.loop.counter (held_in c.args.run.now) (held_in c.loop.run)
+    (held_in c.exchange.new.run)
     (record {
       lines = g.A.Asker.lines c.args.asker.now;
       heard = g.A.Asker.events c.args.asker.now;
@@ -22,7 +25,7 @@ loop-preserved g c =
       heard = g.A.Asker.events c.exchange.new.asker;
       out = record { bytes = g.K.Sink.written c.exchange.new.out; puts = g.K.Sink.puts c.exchange.new.out };
     }) c.loop.invariant
-    (subst (λ (r : Option ℕ). Goes c.loop.debugger c.exchange.new.debugger (record {
+    (subst (λ (r : Option ℕ). Goes (WithLimits RepliesOf) (held_in c.loop.run) (held_in c.exchange.new.run) (record {
       lines = g.A.Asker.lines c.loop.asker;
       heard = g.A.Asker.events c.loop.asker;
       out = record { bytes = g.K.Sink.written c.loop.out; puts = g.K.Sink.puts c.loop.out };
@@ -35,7 +38,7 @@ loop-preserved g c =
 
 pub returns-in-Some : goal.returns-in-Some
 returns-in-Some g c =
-    over c.loop.counter c.args.debugger.now c.loop.debugger
+    over (WithLimits RepliesOf) c.loop.counter (held_in c.args.run.now) (held_in c.loop.run)
     (record {
       lines = g.A.Asker.lines c.args.asker.now;
       heard = g.A.Asker.events c.args.asker.now;
@@ -51,7 +54,7 @@ returns-in-Some g c =
       heard = g.A.Asker.events c.exchange.new.asker;
       out = record { bytes = g.K.Sink.written c.exchange.new.out; puts = g.K.Sink.puts c.exchange.new.out };
     }) c.in-Some.status c.loop.invariant
-    (subst (λ (r : Option ℕ). Goes c.loop.debugger c.exchange.new.debugger (record {
+    (subst (λ (r : Option ℕ). Goes (WithLimits RepliesOf) (held_in c.loop.run) (held_in c.exchange.new.run) (record {
       lines = g.A.Asker.lines c.loop.asker;
       heard = g.A.Asker.events c.loop.asker;
       out = record { bytes = g.K.Sink.written c.loop.out; puts = g.K.Sink.puts c.loop.out };
@@ -64,7 +67,7 @@ returns-in-Some g c =
 
 pub returns : goal.returns
 returns g c =
-    enough c.loop.counter c.args.debugger.now c.loop.debugger
+    enough (WithLimits RepliesOf) c.loop.counter (held_in c.args.run.now) (held_in c.loop.run)
     (record {
       lines = g.A.Asker.lines c.args.asker.now;
       heard = g.A.Asker.events c.args.asker.now;

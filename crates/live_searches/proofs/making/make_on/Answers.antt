@@ -1,7 +1,7 @@
 use Rattle.std.proofs.Common.{refl, map}
 use Rattle.source_debugger.specs.meaning_points.rpp_tree.Views.{source_of}
 use Rattle.source_debugger.specs.Standing.{run_of}
-use Rattle.live_searches.specs.declared.asks.Goal.TheVariants.{Any, Depth, Change}
+use Rattle.live_requests.specs.declared.asks.Goal.TheVariants.{Any, Depth, Change, Cell}
 use Rattle.live_searches.proofs.Returning.{made_points, made_seek}
 use Rattle.live_searches.proofs.making.make_on.Goals as goal
 
@@ -28,3 +28,9 @@ returns-in-Change-clause-told c =
     made_seek (source_of c.args.debugger.now.program) (run_of c.args.debugger.now) c.args.ask
     (map (λ word. word.now) c.args.arguments.now) c.args.debugger.now.position c.seek-in-Change.new.debugger.position
     Change c.seek-in-Change.result c.in-Change.is refl c.seek-in-Change.ensures.told
+
+pub returns-in-Cell-clause-told : goal.returns-in-Cell-clause-told
+returns-in-Cell-clause-told c =
+    made_seek (source_of c.args.debugger.now.program) (run_of c.args.debugger.now) c.args.ask
+    (map (λ word. word.now) c.args.arguments.now) c.args.debugger.now.position c.seek-in-Cell.new.debugger.position
+    (Cell c.in-Cell._address) c.seek-in-Cell.result c.in-Cell.is refl c.seek-in-Cell.ensures.told

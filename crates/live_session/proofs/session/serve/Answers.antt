@@ -1,43 +1,56 @@
-use Rattle.std.proofs.Common.{subst, ℕ}
-use Rattle.std.specs.Prelude.{Option}
-use Rattle.live_session.specs.Serving.{Goes}
-use Rattle.live_session.proofs.Putting.{one_more, same_run, over, enough}
+use Rattle.std.proofs.Common.{None, Some}
+use Rattle.source_debugger.specs.meaning_points.rpp_tree.Views.{source_of}
+use Rattle.source_debugger.specs.Failures.{account_of}
+use Rattle.live_talks.specs.Limits.{held}
+use Rattle.live_talks.proofs.Putting.{one_more, over, enough}
+use Rattle.live_session.specs.Sessions.{RepliesOf}
+use Rattle.live_session.proofs.Along.{goes_along}
+use Rattle.live_session.proofs.Answering.{same_runs}
 use Rattle.live_session.proofs.session.serve.Goals as goal
 
 pub loop-preserved : goal.loop-preserved
-loop-preserved g c =
-    let goes = subst (λ (r : Option ℕ). Goes c.loop.debugger c.exchange.new.debugger (record {
-      lines = g.A.Asker.lines c.loop.asker;
-      heard = g.A.Asker.events c.loop.asker;
-      out = record { bytes = g.K.Sink.written c.loop.out; puts = g.K.Sink.puts c.loop.out };
-    })
-    (record {
-      lines = g.A.Asker.lines c.exchange.new.asker;
-      heard = g.A.Asker.events c.exchange.new.asker;
-      out = record { bytes = g.K.Sink.written c.exchange.new.out; puts = g.K.Sink.puts c.exchange.new.out };
-    }) r) c.in-None.is c.exchange.ensures in
-    record {
-      exchanges = one_more c.args.debugger.now c.loop.debugger c.exchange.new.debugger c.loop.counter (record {
+loop-preserved g c = record {
+  exchanges = one_more (RepliesOf (source_of c.args.debugger.now.program) (account_of c.args.debugger.now))
+      c.loop.counter
+      (held c.args.debugger.now.position None) (held c.loop.debugger.position c.loop.limit)
+      (held c.exchange.new.debugger.position c.exchange.new.limit)
+      (record {
         lines = g.A.Asker.lines c.args.asker.now;
         heard = g.A.Asker.events c.args.asker.now;
         out = record { bytes = g.K.Sink.written c.args.out.now; puts = g.K.Sink.puts c.args.out.now };
       })
-          (record {
-            lines = g.A.Asker.lines c.loop.asker;
-            heard = g.A.Asker.events c.loop.asker;
-            out = record { bytes = g.K.Sink.written c.loop.out; puts = g.K.Sink.puts c.loop.out };
-          })
-          (record {
-            lines = g.A.Asker.lines c.exchange.new.asker;
-            heard = g.A.Asker.events c.exchange.new.asker;
-            out = record { bytes = g.K.Sink.written c.exchange.new.out; puts = g.K.Sink.puts c.exchange.new.out };
-          }) c.loop.invariant.exchanges c.loop.invariant.same goes;
-      same = same_run c.args.debugger.now c.loop.debugger c.exchange.new.debugger c.loop.invariant.same goes.1;
-    }
+      (record {
+        lines = g.A.Asker.lines c.loop.asker;
+        heard = g.A.Asker.events c.loop.asker;
+        out = record { bytes = g.K.Sink.written c.loop.out; puts = g.K.Sink.puts c.loop.out };
+      })
+      (record {
+        lines = g.A.Asker.lines c.exchange.new.asker;
+        heard = g.A.Asker.events c.exchange.new.asker;
+        out = record { bytes = g.K.Sink.written c.exchange.new.out; puts = g.K.Sink.puts c.exchange.new.out };
+      })
+      c.loop.invariant.exchanges
+      (goes_along c.args.debugger.now c.loop.debugger (held c.loop.debugger.position c.loop.limit)
+      (held c.exchange.new.debugger.position c.exchange.new.limit) (record {
+        lines = g.A.Asker.lines c.loop.asker;
+        heard = g.A.Asker.events c.loop.asker;
+        out = record { bytes = g.K.Sink.written c.loop.out; puts = g.K.Sink.puts c.loop.out };
+      })
+      (record {
+        lines = g.A.Asker.lines c.exchange.new.asker;
+        heard = g.A.Asker.events c.exchange.new.asker;
+        out = record { bytes = g.K.Sink.written c.exchange.new.out; puts = g.K.Sink.puts c.exchange.new.out };
+      }) c.exchange.result None c.loop.invariant.same c.in-None.is
+      c.exchange.ensures.goes);
+  same = same_runs c.args.debugger.now c.loop.debugger c.exchange.new.debugger c.loop.invariant.same
+      c.exchange.ensures.same;
+}
 
 pub returns-in-Some : goal.returns-in-Some
 returns-in-Some g c =
-    over c.args.debugger.now c.loop.debugger c.exchange.new.debugger c.loop.counter (record {
+    over (RepliesOf (source_of c.args.debugger.now.program) (account_of c.args.debugger.now)) c.loop.counter
+    (held c.args.debugger.now.position None) (held c.loop.debugger.position c.loop.limit)
+    (record {
       lines = g.A.Asker.lines c.args.asker.now;
       heard = g.A.Asker.events c.args.asker.now;
       out = record { bytes = g.K.Sink.written c.args.out.now; puts = g.K.Sink.puts c.args.out.now };
@@ -51,8 +64,10 @@ returns-in-Some g c =
       lines = g.A.Asker.lines c.exchange.new.asker;
       heard = g.A.Asker.events c.exchange.new.asker;
       out = record { bytes = g.K.Sink.written c.exchange.new.out; puts = g.K.Sink.puts c.exchange.new.out };
-    }) c.in-Some.status c.loop.invariant.exchanges c.loop.invariant.same
-    (subst (λ (r : Option ℕ). Goes c.loop.debugger c.exchange.new.debugger (record {
+    })
+    c.in-Some.status c.loop.invariant.exchanges
+    (goes_along c.args.debugger.now c.loop.debugger (held c.loop.debugger.position c.loop.limit)
+    (held c.exchange.new.debugger.position c.exchange.new.limit) (record {
       lines = g.A.Asker.lines c.loop.asker;
       heard = g.A.Asker.events c.loop.asker;
       out = record { bytes = g.K.Sink.written c.loop.out; puts = g.K.Sink.puts c.loop.out };
@@ -61,11 +76,14 @@ returns-in-Some g c =
       lines = g.A.Asker.lines c.exchange.new.asker;
       heard = g.A.Asker.events c.exchange.new.asker;
       out = record { bytes = g.K.Sink.written c.exchange.new.out; puts = g.K.Sink.puts c.exchange.new.out };
-    }) r) c.in-Some.is c.exchange.ensures)
+    }) c.exchange.result (Some c.in-Some.status) c.loop.invariant.same c.in-Some.is
+    c.exchange.ensures.goes)
 
 pub returns : goal.returns
 returns g c =
-    enough c.args.debugger.now c.loop.debugger c.loop.counter (record {
+    enough (RepliesOf (source_of c.args.debugger.now.program) (account_of c.args.debugger.now)) c.loop.counter
+    (held c.args.debugger.now.position None) (held c.loop.debugger.position c.loop.limit)
+    (record {
       lines = g.A.Asker.lines c.args.asker.now;
       heard = g.A.Asker.events c.args.asker.now;
       out = record { bytes = g.K.Sink.written c.args.out.now; puts = g.K.Sink.puts c.args.out.now };
@@ -74,4 +92,5 @@ returns g c =
       lines = g.A.Asker.lines c.loop.asker;
       heard = g.A.Asker.events c.loop.asker;
       out = record { bytes = g.K.Sink.written c.loop.out; puts = g.K.Sink.puts c.loop.out };
-    }) c.loop.invariant.exchanges c.loop-test.false
+    })
+    c.loop.invariant.exchanges c.loop-test.false

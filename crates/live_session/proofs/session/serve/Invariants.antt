@@ -1,16 +1,18 @@
+use Rattle.std.proofs.Common.{None}
 use Rattle.source_debugger.specs.meaning_points.rpp_tree.Views.{source_of}
 use Rattle.source_debugger.specs.Failures.{account_of}
+use Rattle.live_searches.specs.Steps.{IsSameRun}
 use Rattle.live_talks.specs.Sessions.{Exchanges}
+use Rattle.live_talks.specs.Limits.{held}
 use Rattle.live_session.specs.Sessions.{RepliesOf}
-use Rattle.live_session.specs.Serving.{IsSameRun}
 use Rattle.live_session.proofs.session.serve.Given as goal
 
 -- so many lines were heard and answered
 abbrev pub invariant-loop : goal.invariant-loop
 invariant-loop g l = record {
   exchanges : Exchanges (RepliesOf (source_of l.fn.debugger.program) (account_of l.fn.debugger)) l.counter
-      l.fn.debugger.position
-      l.debugger.position
+      (held l.fn.debugger.position None)
+      (held l.debugger.position l.limit)
       (record {
         lines = g.A.Asker.lines l.fn.asker;
         heard = g.A.Asker.events l.fn.asker;

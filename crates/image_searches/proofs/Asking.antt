@@ -1,0 +1,38 @@
+-- Moves that are asked for.
+use Rattle.std.proofs.Common.{◌≡◌, ◌∙◌, sym, ap, subst, ℕ, List, Result}
+use Rattle.std.specs.Prelude.{IfOk, string_bytes}
+use Rattle.pisa_scripts.specs.declared.command.Command.{Command}
+use Rattle.two_way_debugger.specs.pisa_machine.Position.{Position}
+use Rattle.live_requests.specs.declared.asks.Ask.{Ask}
+use Rattle.live_requests.specs.declared.asks.Goal.{Goal}
+use Rattle.live_requests.specs.declared.asks.Goal.TheVariants.{Points}
+use Rattle.image_searches.specs.declared.moves.Moved.{Moved}
+use Rattle.image_searches.specs.Steps.{way_of}
+use Rattle.image_searches.specs.Goals.{sought, is_wanted}
+use Rattle.image_searches.specs.Searches.{Found, points, seek}
+use Rattle.image_searches.specs.Makings.{made_by, made}
+use Rattle.image_searches.proofs.Listing.{found_at}
+
+pub made_points : (ask : Ask) (arguments : List (List ℕ)) (from to : Position) (way : Command) {E : Type 0}
+    (result : Result Moved E) → ask.goal ≡ Points → way ≡ way_of ask.back
+    → IfOk result (λ (it : Moved). points way ask.most from ≡ found_at to (string_bytes it.text) it.how)
+    → IfOk result (λ (it : Moved). made ask arguments from ≡ found_at to (string_bytes it.text) it.how)
+unfolding made
+made_points ask arguments from to way result goal_is way_is h =
+    subst (λ (f : Found). IfOk result (λ (it : Moved). f ≡ found_at to (string_bytes it.text) it.how))
+    (ap (λ (w : Command). points w ask.most from) way_is
+    ∙ sym (ap (λ (g : Goal). made_by g (way_of ask.back) arguments ask.most from) goal_is)) h
+
+pub made_seek : (ask : Ask) (arguments : List (List ℕ)) (from to : Position) (g : Goal) {E : Type 0}
+    (result : Result Moved E) → ask.goal ≡ g
+    → made_by g (way_of ask.back) arguments ask.most from
+    ≡ seek (way_of ask.back) (is_wanted (sought g arguments from)) ask.most from
+    → IfOk result (λ (it : Moved). seek (way_of ask.back) (is_wanted (sought ask.goal arguments from)) ask.most from
+    ≡ found_at to (string_bytes it.text) it.how)
+    → IfOk result (λ (it : Moved). made ask arguments from ≡ found_at to (string_bytes it.text) it.how)
+unfolding made
+made_seek ask arguments from to g result goal_is is h =
+    subst (λ (f : Found). IfOk result (λ (it : Moved). f ≡ found_at to (string_bytes it.text) it.how))
+    (ap (λ (g : Goal). seek (way_of ask.back) (is_wanted (sought g arguments from)) ask.most from) goal_is
+    ∙ sym is
+    ∙ sym (ap (λ (g : Goal). made_by g (way_of ask.back) arguments ask.most from) goal_is)) h

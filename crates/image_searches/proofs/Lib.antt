@@ -1,0 +1,5 @@
+pub mod Moving
+pub mod Listing
+pub mod Seeking
+pub mod GoingOn
+pub mod Asking

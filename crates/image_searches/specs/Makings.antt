@@ -1,0 +1,18 @@
+-- What moves that are asked for come to.
+use Rattle.std.specs.Prelude.{ℕ, List}
+use Rattle.pisa_scripts.specs.declared.command.Command.{Command}
+use Rattle.two_way_debugger.specs.pisa_machine.Position.{Position}
+use Rattle.live_requests.specs.declared.asks.Ask.{Ask}
+use Rattle.live_requests.specs.declared.asks.Goal.{Goal}
+use Rattle.live_requests.specs.declared.asks.Goal.TheVariants.{Points}
+use Rattle.image_searches.specs.Steps.{way_of}
+use Rattle.image_searches.specs.Goals.{sought, is_wanted}
+use Rattle.image_searches.specs.Searches.{Found, points, seek}
+
+abbrev pub made_by : Goal → (way : Command) → (arguments : List (List ℕ)) → ℕ → Position → Found
+made_by Points way arguments n p = points way n p
+made_by goal way arguments n p = seek way (is_wanted (sought goal arguments p)) n p
+
+-- moves from a position on, as they are asked for
+unfoldable pub made : Ask → (arguments : List (List ℕ)) → Position → Found
+made ask arguments p = made_by ask.goal (way_of ask.back) arguments ask.most p

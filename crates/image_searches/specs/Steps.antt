@@ -1,0 +1,38 @@
+-- Single moves along the positions of a machine.
+use Rattle.std.specs.Prelude.{◌≡◌, ℕ, zero, suc, ◌≤◌, Bool, true, false, nat_eq, if◌then◌else◌}
+use Rattle.std.specs.Prelude.{List, ◌++◌, ⊤}
+use Rattle.pisa_scripts.specs.declared.command.Command.{Command}
+use Rattle.pisa_scripts.specs.declared.command.Command.TheVariants as command
+use Rattle.two_way_debugger.specs.pisa_machine.Position.{Position}
+use Rattle.two_way_debugger.specs.Shown.{walk_of, text_of}
+use Rattle.image_searches.specs.declared.moves.Step.{Step}
+use Rattle.image_searches.specs.declared.moves.Step.TheVariants.{Gone, Stuck, Lost}
+
+-- one move back or forward
+abbrev pub way_of : (back : Bool) → Command
+way_of back = if back then command.Back 1 else command.Step 1
+
+-- where a move leads
+abbrev pub led : (way : Command) → Position → Position
+led way p = (walk_of way p).position
+
+-- whether it leads nowhere: at a stop, at the last position and at position 0
+abbrev pub is_stuck : (way : Command) → Position → Bool
+is_stuck way p = nat_eq (led way p).made p.made
+
+-- where so many moves lead
+abbrev pub led_by : (way : Command) → ℕ → Position → Position
+led_by way zero p = p
+led_by way (suc n) p = led way (led_by way n p)
+
+-- some moves were made, at most so many, and no others
+pub record MovesSome (way : Command) (most : ℕ) (first last : Position) : Type 0 where
+  pub moves : ℕ
+  pub within : moves ≤ most
+  pub position : last ≡ led_by way moves first
+
+-- a move printed its line, and whether it led nowhere
+abbrev pub Goes : (way : Command) → (from : Position) → (old new : List ℕ) → Step → Type 0
+Goes way from old new Gone = (is_stuck way from ≡ false) × (new ≡ old ++ text_of way from)
+Goes way from old new Stuck = (is_stuck way from ≡ true) × (new ≡ old ++ text_of way from)
+Goes way from old new (Lost lack) = ⊤

@@ -1,0 +1,47 @@
+// Lists of positions.
+ghost use Rattle.std.specs.Prelude.{◌≡◌, IfOk, OnErr, string_bytes};
+ghost use Rattle.image_searches.specs.Steps.{MovesSome};
+ghost use Rattle.image_searches.specs.Searches.{points as points_of};
+
+use crate::moves::{Moved, Outcome, Step, go};
+use pisa_machine::Steps;
+use pisa_scripts::Command;
+use rpp_words::NoMemory;
+use std::alloc::Global;
+use std::sync::ledger::Ledger;
+use two_way_debugger::Debugger;
+
+/// The lines of the next positions, up to a move that leads nowhere. If memory runs out, some moves
+/// were made.
+pub(crate) fn points<L: Ledger>(
+    alloc: Global,
+    debugger: &mut Debugger,
+    steps: &mut Steps<L>,
+    way: Command,
+    most: u64,
+) -> Result<Moved, NoMemory>
+    ensures found { IfOk result (λ moved. points_of way most debugger.old ≡ record {
+      position = debugger.new;
+      text = string_bytes moved.text;
+      how = moved.how;
+    }) }
+    ensures lost { OnErr result (MovesSome way most debugger.old debugger.new) }
+{
+    let mut text = String::new(alloc);
+    for _ in 0..most {
+        match go(alloc, debugger, steps, way, &mut text) {
+            Step::Gone => {}
+            Step::Stuck => {
+                return Ok(Moved {
+                    text,
+                    how: Outcome::Stopped,
+                });
+            }
+            Step::Lost { lack } => return Err(lack),
+        }
+    }
+    Ok(Moved {
+        text,
+        how: Outcome::Made,
+    })
+}

@@ -1,0 +1,39 @@
+// Moves that are asked for.
+ghost use Rattle.std.specs.Prelude.{◌≡◌, IfOk, OnErr, string_bytes, map};
+ghost use Rattle.image_searches.specs.Steps.{way_of, MovesSome};
+ghost use Rattle.image_searches.specs.Makings.{made};
+
+use crate::lists::points;
+use crate::moves::{Moved, way};
+use crate::searches::seek;
+use live_requests::{Ask, Goal};
+use pisa_machine::Steps;
+use rpp_words::NoMemory;
+use std::alloc::Global;
+use std::sync::ledger::Ledger;
+use two_way_debugger::Debugger;
+
+/// Makes moves that are asked for. If memory runs out, some moves were made.
+pub fn make<L: Ledger>(
+    alloc: Global,
+    debugger: &mut Debugger,
+    steps: &mut Steps<L>,
+    ask: Ask,
+    arguments: &[&[u8]],
+) -> Result<Moved, NoMemory>
+    ensures found { IfOk result (λ moved. made ask (map (λ word. word.now) arguments.now)
+        debugger.old ≡ record {
+          position = debugger.new;
+          text = string_bytes moved.text;
+          how = moved.how;
+        }) }
+    ensures lost { OnErr result (MovesSome (way_of ask.back) ask.most debugger.old debugger.new) }
+{
+    match ask.goal {
+        Goal::Points => points(alloc, debugger, steps, way(ask.back), ask.most),
+        Goal::Any => seek(alloc, debugger, steps, ask, arguments),
+        Goal::Depth(_depth) => seek(alloc, debugger, steps, ask, arguments),
+        Goal::Change => seek(alloc, debugger, steps, ask, arguments),
+        Goal::Cell(_at) => seek(alloc, debugger, steps, ask, arguments),
+    }
+}

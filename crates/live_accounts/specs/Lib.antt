@@ -1,0 +1,6 @@
+pub use Rattle.source_execution.specs as source_execution
+pub use Rattle.source_debugger.specs as source_debugger
+pub mod Free
+pub mod Takes
+pub mod Accounts
+pub mod AccountLaws

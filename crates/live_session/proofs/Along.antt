@@ -1,0 +1,20 @@
+-- Debuggers of one run: their replies are the same.
+use Rattle.std.proofs.Common.{◌≡◌, subst, ℕ}
+use Rattle.std.specs.Prelude.{Option}
+use Rattle.source_debugger.specs.meaning_points.rpp_tree.Views.{source_of}
+use Rattle.source_debugger.specs.Standing.{Standing}
+use Rattle.source_debugger.specs.Failures.{account_of}
+use Rattle.live_searches.specs.Steps.{IsSameRun}
+use Rattle.live_talks.specs.Talks.{Talk}
+use Rattle.live_talks.specs.Serving.{Goes}
+use Rattle.live_talks.specs.Limits.{Held}
+use Rattle.live_session.specs.Sessions.{RepliesOf}
+
+pub goes_along : (start before : Standing) (from to : Held ℕ) (talk talk' : Talk) (result it : Option ℕ)
+    → IsSameRun start before → result ≡ it
+    → Goes (RepliesOf (source_of before.program) (account_of before)) from to talk talk' result
+    → Goes (RepliesOf (source_of start.program) (account_of start)) from to talk talk' it
+goes_along start before from to talk talk' result it same is goes =
+    subst (λ (r : Option ℕ). Goes (RepliesOf (source_of start.program) (account_of start)) from to talk talk' r) is
+    (subst (λ (d : Standing). Goes (RepliesOf (source_of d.program) (account_of d)) from to talk talk' result) same
+    goes)
