@@ -36,8 +36,8 @@ SCRIPTS = ('source.js', 'texts.js', 'messages.js', 'caller.js', 'session.js', 'e
 WORKER_SCRIPTS, ASIDE_SCRIPTS = ('program.js', 'live.js', 'worker.js'), ('unpack.js', 'aside.js')
 PAIRS = f'{TOP}/companion/rpp/pages/side.js'
 # What the companion says of refusals and faults, in the order in which these modules use each other.
-RULES = ('tokens', 'source', 'names', 'expressions', 'spelling', 'slots', 'grammar', 'syntax_place', 'syntax_declarations', 'syntax_changes',
-         'syntax_values', 'syntax_calls', 'syntax_blocks', 'syntax', 'rules', 'fault_slots', 'explain')
+RULES = ('tokens', 'source', 'names', 'expressions', 'spelling', 'slots', 'grammar', 'syntax_place', 'syntax_fields', 'syntax_declarations',
+         'syntax_changes', 'syntax_values', 'syntax_calls', 'syntax_blocks', 'syntax', 'rules', 'fault_slots', 'explain')
 # It names commands and their words; the page has views and fields in their place.
 AS_ON_PAGE = (('H must be from 1 to 20: the heap has 2^H words.', 'The heap must have 2 to the power of 1 to 20 words.'),
               ('D must be from 1 to 8192: the most calls that may be active.', 'The open calls at once must be from 1 to 8192.'),

@@ -7,6 +7,7 @@ import sys
 from drawn import HOME, TOP, equal, holds, read
 
 sys.path.insert(0, os.path.join(TOP, 'tests'))
+import live_looks
 
 COUNTER = 'class P\n  int x\nmethod main()\n  x += 5\n'
 TURNS = 3000
@@ -90,9 +91,17 @@ def faults():
         yield ['source', 'p', *(rows['$ '] or ['12 64'])[0].split()], {'p': text}, ['step 1000000', 'fault'], f'\n. fault\n{wanted}. done\n. bye\n'
 
 
+def looks():
+    """The sessions of tests/live_looks.txt on sources."""
+    for _, bounds, text, requests in live_looks.cases():
+        if bounds[0] != 'image':
+            replies = ''.join(f'{line}\n' for _, reply in requests for line in reply)
+            yield ['source', 'p', *bounds], {'p': text}, [line for line, _ in requests], f'. done\n{replies}. bye\n'
+
+
 def sessions_reply_as_documented(page):
-    """A session in the page replies what the page on live sessions says, and to `fault` what its cases say, byte for byte."""
-    for kind, cases, least in (('documented', list(documented()), 4), ('fault', list(faults()), 50)):
+    """A session in the page replies what the page on live sessions says, and to looks and `fault` what their cases say, byte for byte."""
+    for kind, cases, least in (('documented', list(documented()), 4), ('looks', list(looks()), 8), ('fault', list(faults()), 50)):
         holds(len(cases) >= least, f'{len(cases)} cases of the kind {kind}')
         for (words, files, _, wanted), printed in zip(cases, page.run(HOLDS_SESSIONS, [it[:3] for it in cases])):
             is_same = printed == wanted if kind == 'documented' else printed.endswith(wanted)
