@@ -61,6 +61,7 @@ REFUSALS = (
          'row of numbers.'),
         ('`{name}` must be the name of a class. Did you mean `{similar}`?', 'Correct the name.', '{similar}'),
         ('There is no type `{stack}`: an array, and a count of what is in it, serve in its place.', 'Declare an `int[]` and an `int`.'),
+        ('`{name}` must be the name of a class, and it is that of a {what}.', 'Write the type in front of the name, as `int {name}`.'),
         '`{name}` must be the name of a class, and no class of this source has it.'),
         'Declare the class, before or after its use, or correct the name.'),
     Rule(7, 'InheritanceCycle', 'A class must not inherit from itself, directly or over other classes.', (
@@ -72,7 +73,9 @@ REFUSALS = (
         '`{class}` must not declare the field `{name}` twice.'),
         'If you mean the other field, delete this one. Otherwise rename it.'),
     Rule(9, 'DuplicateMethod', 'A class must not declare two methods of one name, whatever their parameters are.', (
-        '`{class}` must not declare the method `{name}` twice: the first one is in line {line}.',),
+        ('`{class}` must not declare the method `{name}` twice, even with other parameters: the first one is in line {overloaded}.',
+         'Rename one of the two, and its calls.'),
+        '`{class}` must not declare the method `{name}` twice: the first one is in line {line}.'),
         'Rename one of the two.'),
     Rule(10, 'OverrideDiffers', 'A method that overrides an inherited one must have the same types of parameters.', (
         '`{name}` must take ({wanted}), as it does in `{ancestor}`, not ({given}).',),
@@ -80,7 +83,9 @@ REFUSALS = (
     Rule(11, 'NoMain', 'One class must declare a method `main` without parameters.', (
         '`main` of `{class}`, in line {line}, must have no parameters: a program gets its input through `int` fields.',
         'The source must not be {empty}: it needs a class with a method `main`.',
-        'One of the methods must be called `main`. Did you mean `{similar}` of line {line}?'),
+        'One of the methods must be called `main`. Did you mean `{similar}` of line {line}?',
+        ('One of the methods must be called `main`, with which a run begins. `{constructor}` of line {line} has the name of its class, but '
+         'there are no constructors.', 'Name it `main`, or declare `method main()` besides.')),
         'Declare `method main()` in one class. Its `int` fields are the input and the output of the program.'),
     Rule(12, 'TwoMains', 'A program must have only one method `main` without parameters.', (
         '`{class}` must not declare `main`: `{first}` already does.',),
@@ -104,7 +109,11 @@ REFUSALS = (
         ('`{method}` must be a method of `{class}`. Did you mean `{similar}`?', 'Correct the name.', '{similar}'),
         ('`{method}` must be a method of `{class}`, and it is one of `{other}`.', 'Name an object of that class: `call x::{method}(..)`.'),
         ('`{method}` must be a method of `{class}`.', 'Declare `method {method}(..)` there.'),
+        ('There is no type `{type_truth}`: 0 is false, and every other number is true.', 'Write `int`.', 'int'),
+        ('There is no type `{type_foreign}`: the types are `int`, the classes of the source, and arrays of them.', 'Write `int`, or `int[]` '
+         'for a row of numbers.'),
         ('`{class_name}` must be the name of a class. Did you mean `{similar}`?', 'Correct the name.', '{similar}'),
+        ('`{class_name}` must be the name of a class, and it is a variable of the class `{type}`.', 'Write `{type}`.', '{type}'),
         ('`{class_name}` must be the name of a class, and no class of this source has it.', 'Declare `class {class_name}`.')),
         'Correct the name, or declare it.'),
     Rule(14, 'Redeclared', 'A parameter or local must have a name that no parameter or local in scope has.', (

@@ -15,6 +15,7 @@ from .spelling import similar
 
 SLOT = re.compile(r'\{(\w+)\}')
 TRUTHS = {'true': '1', 'false': '0', 'True': '1', 'False': '0'}
+TRUTH_TYPES = ('bool', 'boolean', 'Bool', 'Boolean')
 NULLS = frozenset('NULL null Null nill nul None nullptr Nil NIL undefined nothing'.split())
 FOREIGN = frozenset('string String str char float double long short byte void var let unsigned integer Integer number any i32 u32 i64 u64 '
                     'usize f32 f64 object Object List Vec ArrayList Map'.split())
@@ -170,12 +171,21 @@ class Slots:
         first = self.names.classes.get(self.word)
         return {'name': self.word, 'line': self.line_of(first.name_at) if first else ''}
 
+    def one_of(self, *words: str) -> str:
+        """The word at the place if it is one of these, or ''."""
+        return self.word if self.word in words else ''
+
     def of_6(self):
-        one_of = lambda *words: self.word if self.word in words else ''
         return {'name': self.word, 'inherits': self.of_parent(), 'parent': self.word_at((self.token or 0) + 1),
-                'stack': one_of('stack', 'Stack', 'queue', 'Queue'),
-                'truth': one_of('bool', 'boolean', 'Bool', 'Boolean'), 'foreign': one_of(*FOREIGN),
-                'similar': similar(self.word, [*self.names.classes, 'int'])}
+                'stack': self.one_of('stack', 'Stack', 'queue', 'Queue'),
+                'truth': self.one_of(*TRUTH_TYPES), 'foreign': self.one_of(*FOREIGN),
+                'similar': similar(self.word, [*self.names.classes, 'int']), 'what': self.kind_of_name()}
+
+    def kind_of_name(self) -> str:
+        """What the source declares by the word at the place, if it is a field or a method."""
+        if any(each.name == self.word for owner in self.source.classes for each in owner.fields):
+            return 'field'
+        return 'method' if any(each.name == self.word for each in self.source.methods()) else ''
 
     def of_parent(self) -> str:
         """The word that is written for `inherits` after the name of a class."""
@@ -199,8 +209,13 @@ class Slots:
         return {'name': self.word, 'class': self.owner.name if self.owner else '', 'ancestor': holder}
 
     def of_9(self):
-        first = next((it for it in self.owner.methods if it.name == self.word), None) if self.owner else None
-        return {'name': self.word, 'class': self.owner.name, 'line': self.line_of(first.name_at)} if first else {}
+        same = [it for it in self.owner.methods if it.name == self.word] if self.owner else []
+        if not same:
+            return {}
+        types = [[each.type for each in it.parameters] for it in same]
+        is_overloaded = len(same) > 1 and types[0] != types[1]
+        line = self.line_of(same[0].name_at)
+        return {'name': self.word, 'class': self.owner.name, 'line': line, 'overloaded': line if is_overloaded else ''}
 
     def of_10(self):
         types = lambda method: ', '.join(each.type for each in method.parameters) or 'nothing'
@@ -220,7 +235,10 @@ class Slots:
             return {'empty': 'without methods' if self.source.classes else 'empty'}
         near = similar('main', [it.name for it in methods if not it.parameters])
         at = next((it.name_at for it in methods if it.name == near), None)
-        return {'similar': near, 'line': self.line_of(at)} if near else {}
+        if near:
+            return {'similar': near, 'line': self.line_of(at)}
+        own = next((it for it in methods if it.name == it.owner.name), None)
+        return {'constructor': own.name, 'line': self.line_of(own.name_at)} if own else {}
 
     def of_12(self):
         first = next((it for it in self.source.methods() if it.name == 'main' and not it.parameters), None)
@@ -232,7 +250,9 @@ class Slots:
         statement = self.statement()
         uses = [use for use in statement.uses if use.at == self.token] if statement else []
         if not uses or uses[0].kind == 'class':
-            return {'class_name': self.word, 'similar': similar(self.word, self.names.classes)}
+            variable = next((it for it in self.names.visible(self.at) if it.name == self.word and it.base in self.names.classes), None)
+            return {'class_name': self.word, 'similar': similar(self.word, self.names.classes), 'type': variable.base if variable else '',
+                    'type_truth': self.one_of(*TRUTH_TYPES), 'type_foreign': self.one_of(*FOREIGN)}
         if uses[0].kind == 'method':
             return self.of_unknown_method(self.names.receiver_class(uses[0], self.owner))
         return self.of_unknown_variable()

@@ -16,12 +16,14 @@ from .syntax_changes import (
 from .syntax_declarations import (
     of_digit_first, of_extends, of_field, of_first_word, of_hyphen, of_keyword_as_name, of_method_head, of_modifier, of_type,
     of_word_behind_statement)
+from .syntax_fields import of_int_as_class, of_name_twice, of_statement_among_fields
 from .syntax_place import Place
 from .syntax_values import of_value, of_value_end
 from .tokens import cut
 
 HINTS: List[Callable[[Place], Optional[Hint]]] = [
-    of_first_word, of_hyphen, of_digit_first, of_word_in_copy, of_comment_as_quotient, of_arrow, of_extends, of_modifier, of_cast,
+    of_first_word, of_hyphen, of_digit_first, of_word_in_copy, of_comment_as_quotient, of_arrow, of_statement_among_fields,
+    of_int_as_class, of_name_twice, of_extends, of_modifier, of_cast,
     of_operator_name, of_keyword_as_variable, of_missing_word,
     of_stray_word, of_keyword_as_name, of_method_head, of_field, of_type, of_argument, of_call_parentheses,
     of_local, of_construct, of_new_with_arguments, of_new, of_copy, of_update, of_call_without_word,

@@ -85,7 +85,7 @@ def of_field(it: Place) -> Optional[Hint]:
     if is_behind_field and it.word() == ',':
         return Hint('Each field must have its own type; there are no lists of names.', f'Write `{it.word(-2)}` in front of each name.',
                     it.changes(0, 0, f' {it.word(-2)}'), 'Write the type again')
-    if is_behind_field and it.word() == '=':
+    if is_behind_field and it.word() in ('=', '+=', '-=', '^='):
         kind = it.word(-2)
         way = f'`{name} += ..`' if kind == 'int' else f'`new {kind} {name}`' if kind != ']' else f'`new {it.word(-4)}[5] {name}`'
         return Hint(f'The field `{name}` must not have a value here: fields begin as 0 or nil, or by the input.', f'Write {way} in a method.')
