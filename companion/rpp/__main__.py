@@ -9,8 +9,9 @@ import signal
 import sys
 from typing import List, NamedTuple
 
-from .options import Unfit
+from .options import COLOUR, Unfit
 from .program import Interrupted, Killed, NoProgram, OverSource
+from .reading import meant_by
 from .screen import WHEN, choose, complain, wrapped
 from .spelling import similar
 
@@ -43,7 +44,6 @@ COMMANDS = {
     'complete': Command('complete', 'print what can follow on a command line, for shells'),
     'version': Command('version', 'print the commit, the program that is called, and who proved it'),
 }
-COLOUR = '--color'
 WRONG_WORDS = 1
 
 
@@ -107,7 +107,7 @@ def run_command(words: List[str]) -> int:
         os.dup2(os.open(os.devnull, os.O_WRONLY), sys.stdout.fileno())
         return 141
     except OSError as wrong:
-        complain(f'rpp: {wrong.filename}: {wrong.strerror}' if wrong.filename else f'rpp: {wrong}')
+        complain(f'rpp: {wrong.filename}: {wrong.strerror}{meant_by(wrong.filename)}' if isinstance(wrong.filename, str) else f'rpp: {wrong}')
         return 2
     except (Interrupted, KeyboardInterrupt):
         print('rpp: stopped by ^C', file=sys.stderr)

@@ -2,12 +2,14 @@
 
     value_of(moment, 'list.head.data')     # '3'; None where the path leads nowhere
     thing_of(moment, '#2')                 # the object of a reference
+    no_value(moment, 'lsit.head')          # 'there is no lsit.head here; did you mean `list.head`?'
     changes(before, after)                 # ['sum: 0 -> 5', '#3.next: nil -> #4', '#4 Node is new']
 """
 import re
 from typing import List, Optional
 
-from .formulas import Formula, Value
+from .formulas import BadFormula, Formula, NoValue, Value
+from .spelling import similar
 from .tokens import NAME
 from .trace import Moment, Thing
 
@@ -30,7 +32,51 @@ def value_of(moment: Moment, path: str) -> Optional[str]:
 
 def computed(moment: Moment, formula: Formula) -> Value:
     """What a formula gives of the values of a moment; raises BadFormula where one of them is not there."""
-    return formula.value(lambda path: value_of(moment, path))
+    try:
+        return formula.value(lambda path: value_of(moment, path))
+    except NoValue as wrong:
+        raise BadFormula(no_value(moment, wrong.path)) from None
+
+
+def no_value(moment: Moment, path: str) -> str:
+    """What is said of a path that leads nowhere: what may be meant, or at which part it ends."""
+    near = path_near(moment, path)
+    return f'there is no {path} here' + (f'; did you mean `{near}`?' if near else end_of_path(moment, path))
+
+
+def path_near(moment: Moment, path: str) -> str:
+    """The path with the names that are most like its own; '' if that leads nowhere either."""
+    found = PATH.match(path.replace(' ', ''))
+    if not found:
+        return ''
+    is_begun = value_of(moment, found[1]) is not None
+    head = found[1] if is_begun else similar(found[1], [name for name, _ in moment.variables])
+    for part in PART.finditer(found[2]):
+        thing = thing_of(moment, value_of(moment, head))
+        labels = [label for label, _ in thing.cells] if thing else []
+        label = part[1] or part[2]
+        near = label if label in labels else similar(label, labels) if part[1] else ''
+        if not near:
+            return ''
+        head += joined(near)
+    return head
+
+
+def end_of_path(moment: Moment, path: str) -> str:
+    """At which part of a path it leads no further, and why."""
+    found = PATH.match(path.replace(' ', ''))
+    head = found[1] if found else ''
+    for part in PART.finditer(found[2] if found else ''):
+        value = value_of(moment, head)
+        thing = thing_of(moment, value)
+        if value is None:
+            return ''
+        if thing is None:
+            return f': {head} is {"nil" if value == "nil" else "a number" if value[0] != "#" else "no live object"}'
+        if part[2] and part[2] not in dict(thing.cells) and thing.head.endswith(']'):
+            return f': the length of {head} is {len(thing.cells)}'
+        head += part[0]
+    return ''
 
 
 def thing_of(moment: Moment, value: Optional[str]) -> Optional[Thing]:

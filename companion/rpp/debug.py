@@ -1,9 +1,11 @@
 """`rpp debug F`: Steps through a run in both directions, by a prompt or a script. F is a source or an image."""
+import os
+import re
 import sys
 from typing import List, Tuple
 
 from . import show
-from .changes import thing_of, value_of
+from .changes import no_value, thing_of, value_of
 from .faults import failing
 from .formulas import BadFormula, Formula
 from .machine import debug_image
@@ -18,7 +20,10 @@ from .screen import say
 from .session import Session, Stop
 from .trace import Moment, Refused
 
+UNSAID = 'no session of rooplpp-live says the {} here; {}'
 IMAGE_MARK = b'RPPI'
+# LINE, FILE:LINE or FILE:LINE:COLUMN
+LINE = re.compile(r'(?:(.*?[^:]):)??(\d+)(?::\d+)?')
 
 
 class SourcePrompt(Prompt):
@@ -73,7 +78,7 @@ class SourcePrompt(Prompt):
 
     def do_until(self, arg: str) -> None:
         """until LINE: on to this line."""
-        line = self.statement_line(number_of(arg))
+        line = self.statement_line(self.line_of('until', arg))
         self.moved(lambda: self.session.until(line))
 
     def do_go(self, arg: str) -> None:
@@ -88,12 +93,12 @@ class SourcePrompt(Prompt):
             return
         where, _, text = (part.strip() for part in arg.partition(' if '))
         condition = formula_of(text) if text else None
-        if where[0].isdigit():
-            made = self.session.break_at(self.statement_line(number_of(where)), condition)
+        if where[0].isdigit() or LINE.fullmatch(where):
+            made = self.session.break_at(self.statement_line(self.line_of('break', where)), condition)
         else:
             made = self.session.break_in(where, condition)
         if made is None:
-            raise Unfit(f'there is no method {where} with a statement; break takes a line, or a method as Node.append or append')
+            raise Unfit(show.no_method(self.session.outline, where))
         self.say([f'{show.breakpoint_title(made)}: {self.session.run.text.line(made.line).strip()}'])
 
     def do_clear(self, arg: str) -> None:
@@ -118,7 +123,7 @@ class SourcePrompt(Prompt):
         if len(words) != 1 + back:
             raise Unfit('watch NAME, or watch back NAME: NAME is a variable, #K.FIELD or a path as list.head.data')
         if self.session.value(words[-1]) is None:
-            raise Unfit(f'there is no {words[-1]} here')
+            raise Unfit(no_value(self.session.moment, words[-1]))
         self.moved(lambda: (self.session.watch_back if back else self.session.watch)(words[-1]))
 
     def do_print(self, arg: str) -> None:
@@ -191,6 +196,20 @@ class SourcePrompt(Prompt):
         """objects: all live objects and arrays."""
         self.say(show.object_lines(self.session.moment))
 
+    def do_heap(self, _arg: str) -> None:
+        """heap: the order of the heap, how many objects live, and its free blocks."""
+        state = self.session.heap()
+        if state is None:
+            raise Unfit(UNSAID.format('heap', '`rpp heap` shows the memory'))
+        self.say(show.heap_lines(state))
+
+    def do_cost(self, _arg: str) -> None:
+        """cost: what the run has cost up to here, in the units of `explain`."""
+        cost = self.session.cost()
+        if cost is None:
+            raise Unfit(UNSAID.format('cost', '`rooplpp explain` prints that of a whole run'))
+        self.say([f'cost {cost:,} up to position {self.session.position}'])
+
     def do_where(self, _arg: str) -> None:
         """where: the active calls, the innermost first."""
         self.say(show.stack_lines(self.session))
@@ -199,11 +218,19 @@ class SourcePrompt(Prompt):
         """list [LINE]: the source around this line, or around the current statement."""
         point = self.session.point
         here = self.session.outline.line_of(point.place) if not point.at_end else self.session.run.text.line_count
-        self.say(show.listing_lines(self.session, number_of(arg, here)))
+        self.say(show.listing_lines(self.session, self.line_of('list', arg) if arg else here))
 
     def do_history(self, arg: str) -> None:
         """history [N]: the last N statements that led here."""
         self.say(show.history_lines(self.session, number_of(arg, 10)))
+
+    def line_of(self, command: str, arg: str) -> int:
+        """The line that LINE or FILE:LINE names, as messages write it; the file must be that of the run."""
+        found = LINE.fullmatch(arg.strip())
+        own = title(self.session.run.source)
+        if found and found[1] and os.path.basename(found[1]) != os.path.basename(own):
+            raise Unfit(f'the run is of {own}, not of {found[1]}; `{command} {found[2]}` names its line {found[2]}')
+        return int(found[2]) if found else number_of(arg)
 
     def statement_line(self, line: int) -> int:
         found, _ = self.session.outline.breakable(line)

@@ -19,7 +19,7 @@ from .program import Interrupted, Killed, NoProgram, Program
 from .protocol import Broken, Inbox, Message, Outbox
 from .scene import Counting, Declined, Scene
 from .session import Breakpoint, Session, Stop
-from .show import fault_where
+from .show import fault_where, no_method
 from .trace import Refused
 
 THREAD = 1
@@ -353,7 +353,7 @@ class Adapter:
     def in_method(self, wanted, condition: Optional[Formula]) -> Breakpoint:
         made = self.session.break_in(wanted['name'], condition)
         if made is None:
-            raise Declined(f'there is no method {wanted["name"]} with a statement: name it as Node.append or append')
+            raise Declined(no_method(self.session.outline, wanted['name']))
         return made
 
     def breakpoint(self, make: Callable[..., Breakpoint], wanted) -> Dict[str, Any]:

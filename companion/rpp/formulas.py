@@ -28,6 +28,14 @@ class BadFormula(Exception):
     """A text that is no formula, or a formula that has no value here; the text says why."""
 
 
+class NoValue(BadFormula):
+    """A formula whose path leads nowhere."""
+
+    def __init__(self, path: str):
+        super().__init__(f'there is no {path} here')
+        self.path = path
+
+
 def word(number: int) -> int:
     """The number as a signed word of 32 bits."""
     return (number + 2 ** 31) % 2 ** 32 - 2 ** 31
@@ -132,5 +140,5 @@ class _Reading:
             return 0
         value = self.lookup(path)
         if value is None:
-            raise BadFormula(f'there is no {path} here')
+            raise NoValue(path)
         return value if value == 'nil' or value.startswith('#') else int(value)

@@ -12,7 +12,7 @@ from .page import tell_refused, write_page
 from .places import Text, decoded
 from .program import Folder, Program
 from .reading import title
-from .report import fields_said
+from .report import fields_said, named_in
 from .screen import columns, say
 from .trace import FAR, MachineRun, Refused, Standing
 
@@ -71,7 +71,7 @@ class ImageRun:
         for line in lines:
             found = INPUT.match(line)
             if not found or found[1] not in self.inputs:
-                raise Unfit(f'{line.strip()}: an input must be NAME = NUMBER. {fields_said(self.source)}')
+                raise Unfit(f'{line.strip()}: an input must be NAME = NUMBER. {fields_said(self.source, named_in(line))}')
             at = 16 + 8 * cells + 4 * (self.inputs[found[1]] - 40)
             struct.pack_into('<I', image, at, int(found[2]) & 0xffffffff)
         with open(self.image, 'wb') as file:

@@ -4,6 +4,7 @@ from typing import Dict, List, Optional, Set
 from .memory import HEADER_WORDS, order_for
 from .options import Unfit
 from .results import Result
+from .spelling import similar
 from .trace import Thing
 
 
@@ -37,7 +38,8 @@ def garbage_words(result: Result, inputs: Dict[str, int], results: Optional[List
     results = results or []
     for name in results:
         if name not in result.fields:
-            raise Unfit(f'there is no field {name}; the fields are {", ".join(result.fields)}')
+            near = similar(name, result.fields)
+            raise Unfit(f'there is no field {name}; ' + (f'did you mean `{near}`?' if near else f'the fields are {", ".join(result.fields)}'))
     kept = reached(result, [result.fields[name] for name in results])
     start = {name: str(inputs.get(name, 'nil' if value == 'nil' or value.startswith('#') else 0)) for name, value in result.fields.items()}
     fields = [name for name, value in result.fields.items() if name not in results and value != start[name]]

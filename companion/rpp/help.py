@@ -2,10 +2,12 @@
 import importlib
 from typing import List
 
-from .forms import Form, forms_of
+from .forms import FORMS, WORDS, Form, forms_of
 from .messages import fault, rules_of
 from .report import rule_lines
+from .rules import FAULTS, REFUSALS
 from .screen import complain, say, wrapped
+from .spelling import similar
 
 
 def main(words: List[str]) -> int:
@@ -18,7 +20,9 @@ def main(words: List[str]) -> int:
         return importlib.import_module(f'rpp.{COMMANDS[word].module}').main(['--help']) or 0
     told = [[rule.title, *rule_lines(rule)] for rule in rules_of(word)] + [form_lines(form) for form in forms_of(word)]
     if not told:
-        complain(f'rpp: {word} is no command, no word of a statement, and no number or name of a refusal or fault')
+        near = similar(word, [*COMMANDS, *WORDS, *(name.rstrip('[]:') for name in FORMS), *(rule.name for rule in REFUSALS + FAULTS)])
+        meant = f'; did you mean `{near}`?' if near else ''
+        complain(f'rpp: {word} is no command, no word of a statement, and no number or name of a refusal or fault{meant}')
         return 1
     say('\n\n'.join('\n'.join(lines) for lines in told).split('\n'))
     return 0

@@ -3,6 +3,8 @@
     live = Live.begun(program, 'list.rpp', 12, 64)      # None where there is no such program, or it does not begin
     live.ask(['step 7', 'regs'])     # [Reply(lines=['at 7 place 375 depth 2'], end='done'), Reply(lines=[..], end='done')]
     live.served('any 375 401 1000')  # its reply, or None: a program may lack this request
+    live.value('list')               # '#2', '' if there is no such value, or None
+    live.limit(100000)               # True: no request makes more moves from now on
     live.close()
 
 Nothing of a run is computed here. A session that ends, or has no memory for an answer, raises Lost; the caller then has `trace`.
@@ -101,6 +103,15 @@ class Live(Closing):
                 self._lacks.add(word)
             return None
         return reply
+
+    def value(self, path: str, seconds: Optional[float] = None) -> Optional[str]:
+        """The value of a variable, or of a cell `#K.FIELD` or `#K[I]`; '' if there is none, None if the program has no such request."""
+        reply = self.served(f'value {path}', seconds)
+        return None if reply is None else (reply.lines or ['value '])[0][len('value '):]
+
+    def limit(self, moves: int, seconds: Optional[float] = None) -> bool:
+        """Lets each later request make at most so many moves, and end with `more` after them; whether the program has that."""
+        return self.served(f'limit {moves}', seconds) is not None
 
     def close(self) -> None:
         """Ends the session at once: it writes no file, and has nothing to lose."""

@@ -120,6 +120,9 @@ class MachinePrompt(Prompt):
 
     def sought(self, cells: List[int], back: bool) -> None:
         """To the nearest state at one of the cells, or to the end or the start; looks ever further."""
+        if cells and self.found(f'{"back " if back else ""}any {{}} {" ".join(str(pc) for pc in cells)}'):
+            self.here()
+            return
         word, plain = ('backto', 'back') if back else ('to', 'step')
         begin, bound = self.standing.position, FIRST_BOUND
         while True:
@@ -132,6 +135,21 @@ class MachinePrompt(Prompt):
             self.notify(f'looked up to position {nearest.position}')
         self.standing = nearest
         self.here()
+
+    def found(self, request: str) -> str:
+        """Goes where a search of a session leads, and says how it ends; '' if none can be asked. The request has `{}` for its moves, of
+        which there are ever more, so that ^C finds progress."""
+        position, bound = self.standing.position, FIRST_BOUND
+        while True:
+            reached = self.run.search(position, request.format(bound))
+            if reached is None:
+                return ''
+            standing, end = reached
+            if end != 'more':
+                self.standing = standing
+                return end
+            position, bound = standing.position, 2 * bound
+            self.notify(f'looked {"back" if request.startswith("back") else "up"} to position {position}')
 
     def do_next(self, _arg: str) -> None:
         """next: only for sources: an image does not record its active calls."""
@@ -169,8 +187,21 @@ class MachinePrompt(Prompt):
         if len(words) != 1 + back:
             raise Unfit('watch $6, watch count or watch 41; and watch back ..')
         line, read = self.reader(words[-1])
-        self.watched(line, read, back)
+        here = self.value_by(line, read)
+        end = self.found(f'{"back " if back else ""}until change {self.watched_name(words[-1])} {{}}')
+        if not end:
+            self.watched(line, read, back)
+        elif end == 'met':
+            self.say([changed_line(here, self.value_by(line, read), back)])
         self.here()
+
+    def value_by(self, line: str, read: Callable[[str], int]) -> int:
+        """The value that a line shows where the session is."""
+        return read(self.run.walk([f'step {self.standing.position}', line])[1])
+
+    def watched_name(self, name: str) -> str:
+        """A register, or the memory cell of a field or a number, as a session names it."""
+        return f'${int(name[1:])}' if name.startswith('$') else f'cell {self.listing.names[name] if name in self.listing.names else int(name)}'
 
     def reader(self, name: str) -> Tuple[str, Callable[[str], int]]:
         """The line that shows a register, a field or a cell, and what reads its value there."""
@@ -186,8 +217,7 @@ class MachinePrompt(Prompt):
     def watched(self, line: str, read: Callable[[str], int], back: bool) -> None:
         """Moves, window by window, to the first state where the value is another one."""
         word = 'back 1' if back else 'step 1'
-        _, output = self.run.walk([f'step {self.standing.position}', line])
-        here = read(output)
+        here = self.value_by(line, read)
         while True:
             begin = self.standing.position
             standings, output = self.run.walk([f'step {begin}'] + [word, line] * WINDOW)
@@ -195,7 +225,7 @@ class MachinePrompt(Prompt):
             for at, part in zip(standings[1:], parts):
                 self.standing = at
                 if read(part) != here:
-                    self.say([f'changed: {read(part)} -> {here}' if back else f'changed: {here} -> {read(part)}'])
+                    self.say([changed_line(here, read(part), back)])
                     return
             if self.standing.note or self.standing.position == begin:
                 return
@@ -211,6 +241,10 @@ class MachinePrompt(Prompt):
     def do_where(self, _arg: str) -> None:
         """where: the position, the code address and the instruction there."""
         self.here()
+
+
+def changed_line(here: int, there: int, back: bool) -> str:
+    return f'changed: {there} -> {here}' if back else f'changed: {here} -> {there}'
 
 
 def debug_image(program: Program, given, lines: List[str]) -> int:

@@ -14,6 +14,7 @@ from typing import List, Optional
 from .messages import placed
 from .program import Folder
 from .reading import is_kept, readable, shown
+from .spelling import similar
 from .tokens import NAME
 
 HEAP = 12
@@ -22,6 +23,9 @@ STEPS = 100_000_000
 MOST_HEAP = 20
 MOST_DEPTH = 8192
 SOURCES = ('.rpp', '.pisa')
+COLOUR = '--color'
+# How argparse begins what it says of words that nothing takes.
+UNKNOWN = 'unrecognized arguments: '
 ASSIGNMENT = re.compile(rf'^({NAME})=(-?[0-9]+)$')
 
 
@@ -38,7 +42,17 @@ class Parser(argparse.ArgumentParser):
 
     def error(self, message):
         # (inputs are never required, though argparse says so where the source is missing)
-        raise Unfit(f'{message.replace(", NAME=NUMBER", "")}\n{self.format_usage().rstrip()}')
+        said = self.unknown_option(message) or message.replace(', NAME=NUMBER', '')
+        raise Unfit(f'{said}\n{self.format_usage().rstrip()}')
+
+    def unknown_option(self, message: str) -> str:
+        """What is said of words that begin as options, with the option that may be meant; '' if the message is not about one."""
+        words = message[len(UNKNOWN):].split() if message.startswith(UNKNOWN) else []
+        word = next((each.split('=')[0] for each in words if each.startswith('-')), '')
+        if not word:
+            return ''
+        near = similar(word, [*self._option_string_actions, COLOUR])
+        return f'there is no option {word}' + (f'; did you mean `{near}`?' if near else '')
 
 
 def refuse_sources(*results: Optional[str]) -> None:

@@ -14,6 +14,7 @@ from .messages import read_answer
 from .places import TOKEN, Text
 from .program import Program
 from .source import parsed
+from .spelling import similar
 
 GAP = re.compile(rb'(?:[ \t\r\n]+|//[^\n]*)+')
 MARK = re.compile(r'^MARK \d+ \d+ (\d+)$', re.M)
@@ -79,6 +80,17 @@ class Outline:
         """The methods `Class.name`, or of all classes `name`."""
         return [method for method in self.methods if name.replace('::', '.') in (method.label, method.name)]
 
+    def methods_near(self, name: str) -> List[str]:
+        """The methods that a name may mean which is none: those that are spelled so, or else those of a class that is."""
+        head, _, tail = name.replace('::', '.').rpartition('.')
+        owner = nearest(head or tail, [method.owner for method in self.methods])
+        own = [method for method in self.methods if method.owner == owner]
+        for group in (own, self.methods):
+            near = nearest(tail, [method.name for method in group])
+            if near:
+                return [method.label for method in group if method.name == near]
+        return [method.label for method in own]
+
     def entries(self, method: Method) -> List[int]:
         """The statements with which a body can begin: its first one, and on the way back its last one."""
         own = next((each for each in self.parsed.methods() if self.parsed.tokens[each.first].at == method.at), None)
@@ -109,6 +121,11 @@ class Outline:
         """The places of all calls that name this method."""
         calls = [(place, self.call_at(place)) for place in self.places]
         return [place for place, call in calls if call and call.method == method]
+
+
+def nearest(word: str, known: List[str]) -> str:
+    """The word if it is known, else the one most like it, or ''."""
+    return word if word in known else similar(word, known)
 
 
 def tokens(content: bytes) -> List[Tuple[int, str]]:

@@ -12,6 +12,7 @@ import sys
 from typing import Dict
 
 from .program import Folder
+from .spelling import similar
 
 STDIN = '-'
 # Open files of this process by name. A program that it starts has others.
@@ -45,6 +46,28 @@ def title(path: str) -> str:
 def is_kept(path: str) -> bool:
     """Whether a path is that of a copy, which goes when the command ends."""
     return path in _shown
+
+
+def file_near(path: str) -> str:
+    """The file that a path which leads nowhere is most like, name by name; '' if there is none."""
+    found = os.path.sep if os.path.isabs(path) else ''
+    for name in [each for each in path.split(os.path.sep) if each and not os.path.exists(path)]:
+        try:
+            there = sorted(os.listdir(found or '.'))
+        except OSError:
+            return ''
+        is_there = name in there or name in (os.curdir, os.pardir)
+        near = name if is_there else similar(name, [each for each in there if each[:1] != '.'])
+        if not near:
+            return ''
+        found = os.path.join(found, near)
+    return found if os.path.isfile(found) else ''
+
+
+def meant_by(path: str) -> str:
+    """What is said after a file that is not there: the one that may be meant."""
+    near = file_near(path)
+    return f'; did you mean `{near}`?' if near else ''
 
 
 def keep(word: str) -> str:

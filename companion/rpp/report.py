@@ -1,6 +1,6 @@
 """Messages about a source: where it is, the line with a caret, what is wrong, what to write, and where the pages say more."""
 import os
-from typing import List, Tuple
+from typing import List, Optional, Tuple
 
 from .advice import of_refusal
 from .explain import Message
@@ -8,8 +8,10 @@ from .failing import FailedTest
 from .messages import Told, placed, refusal, see
 from .names import input_fields
 from .places import Text
+from .reading import meant_by, shown
 from .rules import Rule
 from .screen import columns, paint, wrapped
+from .spelling import similar
 
 
 def rule_lines(rule: Rule) -> List[str]:
@@ -63,25 +65,32 @@ def test_lines(file: str, text: Text, test: FailedTest) -> List[str]:
             *[f'  {name} = {value}' for name, value in test.moment.variables]]
 
 
+def named_in(row: str) -> str:
+    """The name in a line of an input."""
+    return row.split('=')[0].strip()
+
+
 def input_refused(source: str, told: Told, rows: List[str]) -> List[str]:
     """What is said of a refused input: its line, and what a line must be."""
     lines = [f'the input is refused: {told.number} {told.name}']
     if told.at and told.at <= len(rows):
         lines[0] += f' at line {told.at}: {rows[told.at - 1].strip()}'
     if told.name == 'UnknownField':
-        return lines + wrapped(fields_said(source))
+        return lines + wrapped(fields_said(source, named_in(rows[told.at - 1]) if told.at and told.at <= len(rows) else ''))
     if told.name == 'BadInputLine':
         return lines + ['A line is NAME = NUMBER, the number from -2147483648 to 2147483647.']
     return lines + rule_lines(refusal(told.number))
 
 
-def fields_said(source: str) -> str:
-    """The int fields that an input of a source can name."""
+def fields_said(source: str, name: str = '') -> str:
+    """The int fields that an input of a source can name, and the one that is most like a name which is none of them."""
     with open(source, 'rb') as file:
         fields = input_fields(file.read())
     if not fields:
         return 'The main object has no int field.'
-    return f'The main object has the int fields {", ".join(fields)}, and a line names each at most once.'
+    near = similar(name, fields) if name not in fields else ''
+    meant = f'There is no int field {name}; did you mean `{near}`? ' if near else ''
+    return f'{meant}The main object has the int fields {", ".join(fields)}, and a line names each at most once.'
 
 
 def refused_title(told: Told) -> str:
@@ -102,12 +111,16 @@ def fault_title(told: Told) -> str:
     return f'fault {told.number} {told.name}'.rstrip()
 
 
-def failure_lines(told: Told, file: str) -> List[str]:
-    """What is said where the program could not do its work: files, memory, words, or an answer of no known form."""
+def failure_lines(told: Told, file: str, *others: Optional[str]) -> List[str]:
+    """What is said where the program could not do its work: files, memory, words, or an answer of no known form. `others` are the
+    files that it reads besides this one."""
+    if told.kind == 'read' and told.file in others:
+        return failure_lines(told, shown(told.file))
     if told.kind == 'read' and os.path.isdir(file):
         return [f'{file}: cannot read it: it is a folder']
     if told.kind in ('read', 'write'):
-        return [f'{file}: cannot {told.kind} it: {told.why or "failed"}']
+        meant = meant_by(file) if told.why == 'missing' else ''
+        return [f'{file}: cannot {told.kind} it: {told.why or "failed"}{meant}']
     if told.kind == 'memory':
         return [f'{file}: the program answered with status 7: there was not enough memory']
     if told.kind == 'words':

@@ -98,7 +98,7 @@ def said(program: Program, wanted: Wanted, told: Told) -> List[str]:
     if told.kind == 'bound':
         return [f'{shown(wanted.source)}: it had not ended after {wanted.steps:,} steps',
                 f'A larger bound is --steps {max(1000, 10 * wanted.steps)}; `rpp debug {shown(wanted.source)}` shows what it does.']
-    return failure_lines(told, shown(wanted.source))
+    return failure_lines(told, shown(wanted.source), wanted.inputs)
 
 
 def bounds_refused(wanted: Wanted, told: Told) -> List[str]:

@@ -15,22 +15,19 @@ The moves (step, back, next, previous, finish, leave_back, until, run_on, run_ba
 Its reason is `step`, `break`, `change`, `end`, `fault`, `start`, `memory` (the program answered with status 7 to a move beyond) or
 `interrupted`. For `break`, `by` is the number of the breakpoint; for `change`, the detail is a sentence on it.
 """
-import re
 from typing import Callable, List, NamedTuple, Optional, Tuple
 
 from .changes import computed, value_of
 from .formulas import BadFormula, Formula
 from .outline import Call, Outline
 from .program import Closing, Interrupted, Program
-from .tokens import NAME
-from .trace import FAR, Moment, Point, Refused, SourceRun, cells_lines
+from .trace import FAR, HeapState, Moment, Point, Refused, SourceRun, cells_lines, lines_of
 
 FIRST_BOUND = 100_000
 WINDOW_SECONDS = 1.0
 MOST_ROUNDS = 200
 # the names of objects that are shown with each hit
 MOST_SHOWN = 200
-CELL_PATH = re.compile(rf'#(\d+)(?:\.{NAME}|\[\d+\])')
 
 
 class Breakpoint(NamedTuple):
@@ -194,7 +191,16 @@ class Session(Closing):
 
     def value(self, path: str) -> Optional[str]:
         """The value of NAME, #K, NAME.FIELD or NAME[2], as printed; None where there is no such thing here."""
-        return value_of(self.moment, path)
+        told = self.run.value(self.position, path) if not self.run.is_read(self.position) else None
+        return value_of(self.moment, path) if told is None else told or None
+
+    def heap(self) -> Optional[HeapState]:
+        """The orders and blocks of the heap here; None if no session says them."""
+        return self.run.heap(self.position)
+
+    def cost(self) -> Optional[int]:
+        """What the run has cost up to here, in the units of `explain`; None if no session says it."""
+        return self.run.cost(self.position)
 
     def opener(self, position: int) -> Optional[Point]:
         """The call statement that opened the call in which this position is; None for `main`."""
@@ -538,14 +544,6 @@ class Session(Closing):
         fields = [label for label, _ in thing.cells] if thing else []
         names = [each for each, _ in self.moment.variables]
         return number if name in fields and names.count(name) == 1 else None
-
-
-def lines_of(path: str) -> List[str]:
-    """The lines of a script that show all that a path needs: a variable, or a cell of an object. Others lead from one object to another."""
-    if re.fullmatch(NAME, path):
-        return ['regs']
-    found = CELL_PATH.fullmatch(path)
-    return [f'cells {found[1]} 1'] if found else []
 
 
 def position_of(point: Point) -> int:

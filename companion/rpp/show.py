@@ -1,16 +1,17 @@
 """What the prompt shows: a stop with its source line, the stack, objects, listings. Only texts, with no terminal."""
 from typing import List, Optional
 
-from .changes import PATH, changes, computed, thing_of, value_of
+from .changes import PATH, changes, computed, no_value, thing_of, value_of
 from .explain import of_fault
 from .fault_slots import Where
 from .faults import Failing
 from .formulas import BadFormula, Formula
+from .outline import Outline
 from .reading import title
 from .report import caret_lines, message_lines, test_lines
 from .screen import columns, cut, paint
 from .session import Breakpoint, Frame, Session, Stop
-from .trace import Moment, Thing
+from .trace import HeapState, Moment, Thing
 
 ENDINGS = {
     'start': 'this is the start',
@@ -20,6 +21,7 @@ ENDINGS = {
 }
 MOST_FRAMES = 20
 MOST_CHANGES = 30
+MOST_NEAR = 5
 
 
 def place_line(session: Session, frame: Optional[Frame]) -> str:
@@ -98,6 +100,15 @@ def breakpoint_title(each: Breakpoint) -> str:
     return f'breakpoint {each.number} {at}' + (f' if {each.condition.text}' if each.condition else '')
 
 
+def no_method(outline: Outline, name: str) -> str:
+    """What is said of a breakpoint in a method that is not there."""
+    near = [f'`{each}`' for each in outline.methods_near(name)[:MOST_NEAR]]
+    if not near:
+        return f'there is no method {name} with a statement; break takes a line, or a method as Node.append or append'
+    meant = ' or '.join(filter(None, [', '.join(near[:-1]), near[-1]]))
+    return f'there is no method {name}; did you mean {meant}?'
+
+
 def stack_lines(session: Session) -> List[str]:
     """The active calls, the innermost first."""
     frames = session.stack()
@@ -128,7 +139,7 @@ def value_lines(moment: Moment, text: str) -> List[str]:
         return expression_lines(moment, text)
     value = value_of(moment, path)
     if value is None:
-        return [f'there is no {path} here']
+        return [no_value(moment, path)]
     lines = [] if path.startswith('#') and path == value else [f'{path} = {value}']
     thing = thing_of(moment, value)
     return lines + (thing_lines(thing) if thing else [] if lines else [f'there is no object {path} here'])
@@ -158,6 +169,14 @@ def thing_lines(thing: Thing) -> List[str]:
 
 def object_lines(moment: Moment) -> List[str]:
     return [line for number in sorted(moment.objects) for line in thing_lines(moment.objects[number])]
+
+
+def heap_lines(state: HeapState) -> List[str]:
+    """The heap in words: its size, what lives, and its free blocks from the smallest."""
+    size, free = 1 << state.order, sum(count << order for order, count in state.free)
+    blocks = [f'{count:,} of {1 << order:,}' for order, count in state.free]
+    return [f'heap of order {state.order}: {size:,} words', f'living objects: {state.living:,}, with main; the next one is #{state.next}',
+            f'free blocks, in words: {", ".join(blocks)}; {free:,} in all' if blocks else 'no block is free']
 
 
 def listing_lines(session: Session, line: int, around: int = 5) -> List[str]:

@@ -10,6 +10,7 @@ from .program import Program, keep_apart
 from .reading import is_kept, readable, shown
 from .report import failure_lines
 from .screen import say
+from .spelling import similar
 from .tokens import NAME
 
 HEADER = struct.Struct('<4sI32iI')
@@ -59,7 +60,9 @@ def with_numbers(state: bytes, cells: Dict[str, int], numbers: Dict[str, int]) -
     changed = bytearray(state)
     for name, number in numbers.items():
         if name not in cells:
-            raise Unfit(f'the image names no int field {name}; it has {", ".join(sorted(cells)) or "none"}')
+            near = similar(name, cells)
+            meant = f'; did you mean `{near}`?' if near else ''
+            raise Unfit(f'the image names no int field {name}{meant or "; it has " + (", ".join(sorted(cells)) or "none")}')
         struct.pack_into('<i', changed, HEADER.size + 4 * cells[name], number)
     return bytes(changed)
 

@@ -21,7 +21,7 @@ from .judging_assembly import AssemblyJudge
 from .messages import placed
 from .options import SOURCES, Parser, Unfit, refuse_sources
 from .program import OverSource, Program, keep_apart
-from .reading import readable, shown
+from .reading import meant_by, readable, shown
 from .screen import columns, say
 
 MOST_BYTES = 262_144
@@ -84,7 +84,7 @@ def read_plain(path: str, is_named: bool) -> bytes:
         with open(os.open(path, os.O_RDONLY | os.O_NONBLOCK | (0 if is_named else os.O_NOFOLLOW)), 'rb') as file:
             content = file.read(MOST_BYTES + 1)
     except OSError as wrong:
-        raise Trouble(f'it cannot be read: {wrong.strerror}') from None
+        raise Trouble(f'it cannot be read: {wrong.strerror}{meant_by(path)}') from None
     if len(content) > MOST_BYTES:
         raise Trouble('it is longer than 256 KiB')
     return content

@@ -39,6 +39,10 @@ AT_IMAGE = re.compile(r'^at (\d+) pc (-?\d+) br (-?\d+) dir (-?1)(?: (start|end 
 VARIABLE = re.compile(rf'^({NAME}) = (.+)$')
 OBJECT = re.compile(r'^#(\d+) (\S+) count (\d+)$')
 CELL = re.compile(r'^  (\S+) = (.+)$')
+CELL_PATH = re.compile(rf'#(\d+)(?:\.{NAME}|\[\d+\])')
+COST = re.compile(r'cost (\d+)')
+HEAP_STATE = re.compile(r'order (\d+)\nlive (\d+)\nnext #(\d+)(?:\n|$)')
+FREE = re.compile(r'free (\d+) (\d+)')
 ACTIVE = re.compile(r'^depth (\d+) (?:place (\d+)|end) object #(\d+) dir (-?1)$')
 
 
@@ -118,6 +122,15 @@ class Active(NamedTuple):
     place: Optional[int]
     number: int
     is_back: bool
+
+
+class HeapState(NamedTuple):
+    """The heap as a session prints it: it has 2^order words. `living` is how many objects and arrays live, `next` the number that the
+    next one gets, and `free` has for each order of free blocks how many there are."""
+    order: int
+    living: int
+    next: int
+    free: Tuple[Tuple[int, int], ...]
 
 
 class SourceRun(Closing):
@@ -213,6 +226,29 @@ class SourceRun(Closing):
             found = [ACTIVE.fullmatch(line) for line in reply.lines] if reply is not None and reply.end == 'done' else []
             return [Active(int(each[1]), int(each[2]) if each[2] else None, int(each[3]), each[4] == '-1') for each in found if each] or None
         return self._asked_at(position, question)
+
+    def value(self, position: int, path: str) -> Optional[str]:
+        """The value of a variable or of a cell of an object at a position, '' if there is none; None if no session can be asked."""
+        return self._asked_at(position, lambda live: live.value(path, self.patience)) if lines_of(path) else None
+
+    def heap(self, position: int) -> Optional[HeapState]:
+        """The heap at a position; None if no session can be asked."""
+        def question(live: Live) -> Optional[HeapState]:
+            reply = live.served('heap', self.patience)
+            return read_heap(reply.lines) if reply is not None else None
+        return self._asked_at(position, question)
+
+    def cost(self, position: int) -> Optional[int]:
+        """What the run has cost up to a position, in the units of `explain`; None if no session can be asked."""
+        def question(live: Live) -> Optional[int]:
+            reply = live.served('spend', self.patience)
+            found = COST.fullmatch(reply.lines[0]) if reply is not None and reply.lines else None
+            return int(found[1]) if found else None
+        return self._asked_at(position, question)
+
+    def is_read(self, position: int) -> bool:
+        """Whether the state at a position was read before."""
+        return position in self._moments
 
     def failure(self) -> Optional[Failure]:
         """What a session says of the fault at the end of the run; None if it cannot be asked."""
@@ -500,6 +536,23 @@ def read_moments(lines: List[str]) -> List[Moment]:
             for point, variables, things in read]
 
 
+def lines_of(path: str) -> List[str]:
+    """The lines of a script that show all that a path needs: a variable, or a cell of an object. Others lead from one object to another."""
+    if re.fullmatch(NAME, path):
+        return ['regs']
+    found = CELL_PATH.fullmatch(path)
+    return [f'cells {found[1]} 1'] if found else []
+
+
+def read_heap(lines: List[str]) -> Optional[HeapState]:
+    """The reply to `heap`; None if it has another form."""
+    found = HEAP_STATE.match('\n'.join(lines))
+    free = [FREE.fullmatch(line) for line in lines[3:]]
+    if not found or not all(free):
+        return None
+    return HeapState(int(found[1]), int(found[2]), int(found[3]), tuple((int(each[1]), int(each[2])) for each in free if each))
+
+
 def read_failure(lines: List[str]) -> Optional[Failure]:
     """The reply to `fault`; None if it has another form."""
     end = next((number for number, line in enumerate(lines) if line.startswith('depth ')), 0)
@@ -526,6 +579,10 @@ class Standing(NamedTuple):
     note: str
 
 
+def standing_of(at) -> Standing:
+    return Standing(int(at[1]), int(at[2]), int(at[3]), int(at[4]), at[5] or '')
+
+
 class MachineRun(Closing):
     """The run of an image from the loaded memory: of a live session, or read through `debug`."""
 
@@ -543,13 +600,34 @@ class MachineRun(Closing):
         if self._live:
             self._live.close()
 
+    def search(self, position: int, line: str) -> Optional[Tuple[Standing, str]]:
+        """Where a request that not every session has leads from a position, and how it ends; None if it cannot be asked."""
+        if self._live is None:
+            return None
+        self.walk([f'step {position}'])
+        try:
+            reply = self._live.served(line) if self._live else None
+        except Lost:
+            self._live = None
+            return None
+        except BaseException:
+            # (^C ends the session; the next question begins another at the start of the run)
+            self._live, self._at = Live.begun_image(self.program, self.image, *self.bounds), 0
+            raise
+        found = [AT_IMAGE.match(each) for each in reply.lines] if reply is not None else []
+        standings = [standing_of(at) for at in found if at]
+        if not standings:
+            return None
+        self._at = standings[-1].position
+        return standings[-1], reply.end
+
     def walk(self, lines: List[str]) -> Tuple[List[Standing], str]:
         """Carries the lines out from the start: where the machine was after each move, and all the text."""
         output = self._asked(lines)
         if output is None:
             output = self._called(lines)
         found = [AT_IMAGE.match(line) for line in output.split('\n')]
-        standings = [Standing(int(at[1]), int(at[2]), int(at[3]), int(at[4]), at[5] or '') for at in found if at]
+        standings = [standing_of(at) for at in found if at]
         self._at = standings[-1].position if standings else self._at
         return standings, output
 

@@ -46,6 +46,75 @@ def terminal_of_tests(case):
     return typed
 
 
+class Near(Case):
+    """What may be meant by the name of a file, an option, a field or a word that is not there."""
+
+    def setUp(self):
+        super().setUp()
+        os.mkdir(os.path.join(self.folder, 'programs'))
+        self.write(os.path.join('programs', 'counter.rpp'), 'class Counter int count int before method main() before += count count += 3\n')
+        self.write('counter.input', 'count = 4\n')
+
+    def said(self, status, *words):
+        done = self.rpp(*words)
+        self.assertEqual(done.returncode, status, done)
+        return done.stdout + done.stderr
+
+    def test_files(self):
+        near = '; did you mean `programs/counter.rpp`?\n'
+        missing, none = 'cannot read it: missing', 'No such file or directory'
+        for words, said in (
+                (['run', 'porgrams/counter.rpp'], f'porgrams/counter.rpp: {missing}{near}'),
+                (['run', 'programs/counter.rp'], f'programs/counter.rp: {missing}{near}'),
+                (['check', 'programs/contuer.rpp', 'programs/counter.rpp'],
+                 f'programs/contuer.rpp: {missing}{near}programs/counter.rpp: accepted\n'),
+                (['stat', 'program/counter', 'count=1..3'], f'program/counter: {missing}{near}'),
+                (['fmt', 'programs/Counter.rpp'], f'rpp: programs/Counter.rpp: {none}{near}'),
+                (['film', 'program/counter.rpp', '-o', 'a.html'], f'rpp: program/counter.rpp: {none}{near}'),
+                (['list', 'elsewhere/first.rpp'], f'rpp: elsewhere/first.rpp: {none}\n'),
+                (['run', 'program'], f'program: {missing}\n'),
+                # (of a file and a folder that are written none is near)
+                (['film', 'programs/counter.rpp', '-o', 'program/a.html'], f'rpp: program/a.html: {none}\n')):
+            with self.subTest(words=words):
+                self.assertEqual(self.said(2, *words), said)
+        found = os.path.join(self.folder, 'programs', 'counter.rpp')
+        self.assertIn(f'did you mean `{found}`?', self.said(2, 'run', found.replace('counter', 'cuonter')))
+        self.assertIn(f'it cannot be read: {none}{near}', self.said(1, 'test', 'programs/conter.rpp'))
+
+    def test_which_of_two_files_is_missing(self):
+        self.assertEqual(self.said(2, 'run', 'programs/counter.rpp', '--input', 'nothing'), 'nothing: cannot read it: missing\n')
+        self.assertEqual(self.said(2, 'run', 'programs/counter.rpp', '--input', 'conter.input'),
+                         'conter.input: cannot read it: missing; did you mean `counter.input`?\n')
+        self.assertEqual(self.said(2, 'run', 'program/counter.rpp', '--input', 'counter.input'),
+                         'program/counter.rpp: cannot read it: missing; did you mean `programs/counter.rpp`?\n')
+
+    def test_options(self):
+        for words, said in ((['--jsno'], '--jsno; did you mean `--json`?'), (['--setps=5'], '--setps; did you mean `--steps`?'),
+                            (['--colour', 'never'], '--colour; did you mean `--color`?'), (['--zzz'], '--zzz')):
+            with self.subTest(words=words):
+                self.assertTrue(self.said(1, 'run', 'programs/counter.rpp', *words).startswith(f'rpp: there is no option {said}\nusage: rpp run '))
+
+    def test_fields_of_an_input(self):
+        source, known = 'programs/counter.rpp', 'The main object has the int fields count, before, and a line names each at most once.'
+        for status, words in ((8, ['run', source, 'cuont=3']), (8, ['debug', source, 'cuont=3']), (8, ['stat', source, 'cuont=1..3']),
+                              (1, ['heap', source, 'cuont=3']), (8, ['film', source, 'cuont=3', '-o', 'a.html'])):
+            with self.subTest(words=words):
+                said = ' '.join(self.said(status, *words).split())
+                self.assertIn(f'There is no int field cuont; did you mean `count`? {known}', said)
+        said = ' '.join(self.said(8, 'run', source, 'zzz=3').split())
+        self.assertIn(f'zzz = 3 {known}', said)
+        self.assertIn('there is no field cont; did you mean `count`?\n', self.said(1, 'stat', source, 'count=1..3', '--results', 'cont'))
+        self.program.call('compile', os.path.join(self.folder, source), os.path.join(self.folder, 'c.img'))
+        self.assertEqual(self.said(1, 'state', 'c.img', 'cuont=4', '-o', 's'), 'rpp: the image names no int field cuont; did you mean `count`?\n')
+        self.assertEqual(self.said(1, 'state', 'c.img', 'zzz=4', '-o', 's'), 'rpp: the image names no int field zzz; it has before, count\n')
+
+    def test_words_of_help(self):
+        for word, near in (('chek', 'check'), ('uncal', 'uncall'), ('BadBite', 'BadByte'), ('zzzz', '')):
+            with self.subTest(word=word):
+                meant = f'; did you mean `{near}`?' if near else ''
+                self.assertTrue(self.said(1, 'help', word).endswith(f' of a refusal or fault{meant}\n'))
+
+
 class Layout(Case):
     def test_in_place(self):
         source = self.write('a.rpp', LOOSE)
@@ -283,7 +352,7 @@ class Completion(Case):
         self.complete_by(shells_of_program('rooplpp-live'), [
             (['s'], ['source']), (['source', 'count'], ['counter.rpp']), (['source', 'counter.rpp', 'count'], []),
             (['source', 'counter.rpp', '1', '1', 'count'], ['counter.rpp']), (['source', 'counter.rpp', '1', '1', 'in', 'count'], []),
-            (['nothing', 'count'], [])])
+            (['image', 'first.img', '1', '1', 'count'], ['counter.rpp']), (['nothing', 'count'], [])])
 
     def test_typed_at_a_terminal(self):
         """What is there after tabs, of files too: with spaces, below a home, and with a sign that some shells read as the end of a word."""

@@ -136,11 +136,24 @@ class Scripts(Case):
         self.assertIn('x +: a value is missing at the end\n', printed)
         self.assertIn('breakpoint 1: its condition has no value here: there is no zz here\n', printed)
 
+    def test_a_method_that_is_not_there(self):
+        """The nearest one is named: one of the same name in another class, or one that is spelled so."""
+        for asked, near in (('Nod.ad', '`Node.add`'), ('ad', '`Node.add`'), ('List.add', '`Node.add`'), ('Node::hagn', '`Node.hang`'),
+                            ('List.putt', '`List.put`'), ('MAIN', '`List.main`'), ('Nod.e', '`Node.fill`, `Node.hang` or `Node.add`'),
+                            ('Node', '`Node.fill`, `Node.hang` or `Node.add`'), ('Stack.qqq', ''), ('qqq', '')):
+            with self.subTest(asked=asked):
+                done = self.rpp('debug', os.path.join(EXAMPLES, 'list.rpp'), '-c', f'break {asked}')
+                said = f'; did you mean {near}?' if near else ' with a statement; break takes a line, or a method as Node.append or append'
+                self.assertIn(f'there is no method {asked}{said}\n', done.stdout)
+                self.assertEqual(done.returncode, 1)
+        text = 'class P int x method main() x += 1 method grow() x += 1 class Q int y method grow() y += 1'
+        self.assertIn('there is no method gorw; did you mean `P.grow` or `Q.grow`?\n', self.debug(text, 'break gorw'))
+
     def test_expressions_and_what_is_displayed(self):
         printed = self.debug(GROWING, 'display box.held - x', 'break 9', 'c', 'c', 'display x', 'print x * 2 - #2.held', 'print box',
                              'p x + q', 'undisplay 1', 'display', 'undisplay 7', 'undisplay', 'display', 'step')
         # (held is 1 after the first call, and 3 after the second)
-        for line in ('1: box.held - x: there is no box.held here', '1: box.held - x = 1', '1: box.held - x = 2', '2: x = 1',
+        for line in ('1: box.held - x: there is no box.held here: box is nil', '1: box.held - x = 1', '1: box.held - x = 2', '2: x = 1',
                      'x * 2 - #2.held = -1', 'x + q: there is no q here', 'there is no display 7', 'nothing is displayed'):
             self.assertIn(f'\n{line}\n', printed)
         self.assertIn('(rpp) print box\nbox = #2\n#2 Box count 1\n  held = 3\n', printed)
@@ -168,6 +181,52 @@ class Scripts(Case):
         self.assertIn('changed: n: 6 -> 3\n', printed)
         self.assertIn('the call that has n has ended\n', printed)
         self.assertIn('there is no zz here\n', printed)
+
+    def test_a_value_that_is_not_there(self):
+        """The nearest one is named, or the part at which its path ends."""
+        text = '''class P
+  Cell first
+  int count
+  int[] row
+method main()
+  new Cell first
+  new int[3] row
+  call first::grow()
+class Cell
+  int data
+  Cell next
+method grow()
+  new Cell next
+  data += 7
+'''
+        def near(path):
+            return f'; did you mean `{path}`?'
+        for commands, name, said in (
+                (['step 2'], 'cuont', near('count')), (['step 2'], 'frist.dtaa', near('first.data')), (['step 2'], '#2.nxt', near('#2.next')),
+                (['step 2'], 'Row[2]', near('row[2]')), (['step 2'], 'first.next.data', ': first.next is nil'),
+                (['step 2'], 'count.x', ': count is a number'), (['step 2'], 'row[3]', ': the length of row is 3'),
+                (['step 2'], '#9.data', ': #9 is no live object'), (['step 2'], 'first.zzzz', ''), (['step 2'], 'zzzz.data', ''),
+                ([], 'first.data', ': first is nil'), ([], 'firts.data', ''), (['step 4'], 'dta', near('data'))):
+            with self.subTest(name=name):
+                printed = self.debug(text, *commands, f'print {name}', f'display {name} + 1', f'watch {name}')
+                for line in (f'there is no {name} here{said}', f'1: {name} + 1: there is no {name} here{said}'):
+                    self.assertIn(f'\n{line}\n', printed)
+                self.assertTrue(printed.endswith(f'(rpp) watch {name}\nthere is no {name} here{said}\n'), printed)
+        printed = self.debug(text, 'break 14 if dat = 7', 'continue')
+        self.assertIn('breakpoint 1: its condition has no value here: there is no dat here; did you mean `data`?\n', printed)
+
+    def test_lines_with_their_file(self):
+        """As messages name them, with a column or without it."""
+        source = self.write('a.rpp', GROWING)
+        for asked, said in (('break a.rpp:9', 'breakpoint 1 at line 9: x += 1'), (f'break {source}:9:5', 'breakpoint 1 at line 9: x += 1'),
+                            ('break a.rpp:20 if n = 30', 'breakpoint 1 at line 20 if n = 30: held += 1'),
+                            ('break a.rpp:17', 'no statement begins at line 17; the next one with a statement is 19'),
+                            ('until a.rpp:9', '[5] a.rpp:9:5 in P.main'), ('list a.rpp:20', '     20 |   held += 1'),
+                            ('break b.rpp:9', 'the run is of a.rpp, not of b.rpp; `break 9` names its line 9'),
+                            ('until b.rpp:9', 'the run is of a.rpp, not of b.rpp; `until 9` names its line 9'),
+                            ('break 9x', 'a number is needed here, not 9x')):
+            with self.subTest(asked=asked):
+                self.assertIn(f'\n{said}\n', self.rpp('debug', source, '-c', asked).stdout)
 
     def test_objects_and_calls_on_elements(self):
         printed = self.debug(BOXES, 'break 14', 'c', 'where', 'print', 'print #3',

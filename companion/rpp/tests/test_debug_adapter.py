@@ -231,9 +231,10 @@ class Session(Case):
     def test_breakpoints_in_methods(self):
         client = self.client
         client.begin(self.written(GROWING))
-        wanted = [{'name': 'Box.put', 'condition': 'n = 7'}, {'name': 'twice'}, {'name': 'nothing'}]
+        wanted = [{'name': 'Box.put', 'condition': 'n = 7'}, {'name': 'twice'}, {'name': 'nothing'}, {'name': 'twic'}]
         found = client.ask('setFunctionBreakpoints', breakpoints=wanted)['breakpoints']
-        self.assertEqual([(each['verified'], each.get('line')) for each in found], [(True, 18), (True, 13), (False, None)])
+        self.assertEqual([(each['verified'], each.get('line')) for each in found], [(True, 18), (True, 13), (False, None), (False, None)])
+        self.assertEqual(found[3]['message'], 'there is no method twic; did you mean `P.twice`?')
         client.ask('setBreakpoints', source={'path': self.written(GROWING)}, breakpoints=[{'line': 8, 'condition': 'x = 39'}])
         stop = client.moved('continue')
         self.assertEqual((stop['reason'], stop['hitBreakpointIds'], client.line()), ('function breakpoint', [found[0]['id']], 18))

@@ -1,7 +1,10 @@
 """Sessions that are held open: the client over a mock, which needs no program, and the program, if there is one. A session of
 random moves gives what `trace` gives, and stays one session."""
+import contextlib
+import io
 import os
 import random
+import re
 import signal
 import subprocess
 import sys
@@ -11,11 +14,12 @@ import unittest
 from itertools import zip_longest
 
 from rpp import live as live_module
+from rpp.debug import SourcePrompt
 from rpp.formulas import Formula
 from rpp.live import BATCH, Live, Lost, Reply, batches, path_of
 from rpp.program import Interrupted, OutOfTime, Program
 from rpp.session import Session
-from rpp.trace import FAR, Failure, Fault, MachineRun, SourceRun, read_failure
+from rpp.trace import FAR, Failure, Fault, HeapState, MachineRun, SourceRun, read_failure, read_heap
 
 from .base import COMMAND, EXAMPLES, HANGS, Case
 
@@ -33,6 +37,16 @@ for line in sys.stdin:
     elif word == 'end':
         print('half a reply', flush=True)
         break
+    elif word == 'value':
+        print({'x': 'value 5\n. done', '#2.next': 'value nil\n. done', 'none': '. none'}.get(rest, '. bad'), flush=True)
+    elif word == 'limit':
+        print('. done', flush=True)
+    elif word == 'step' or word == 'back' and rest.isdigit():
+        print('at 0 place 27 depth 1\n. done', flush=True)
+    elif word == 'heap':
+        print('order 12\nlive 3\nnext #5\nfree 2 1\nfree 3 2\nfree 11 1\n. done', flush=True)
+    elif word == 'spend':
+        print('cost 12345\n. done', flush=True)
     elif word in ('memory', 'long'):
         print(f'. {word}', flush=True)
     else:
@@ -123,6 +137,14 @@ class Client(unittest.TestCase):
         self.assertIsNone(held.served('any 1 2 3'), 'it is asked for once')
         self.assertIsNone(held.served('echo ' + '1 ' * 3000), 'no line is longer than a session reads')
 
+    def test_values_and_limits(self):
+        held = self.begun()
+        self.assertEqual([held.value(each) for each in ('x', '#2.next', 'none')], ['5', 'nil', ''])
+        self.assertTrue(held.limit(100))
+        old = self.begun()
+        old.served = lambda line, seconds=None: None
+        self.assertEqual((old.value('x'), old.limit(100)), (None, False))
+
     def test_ends(self):
         for word in ('end', 'memory', 'long'):
             with self.assertRaises(Lost):
@@ -161,6 +183,53 @@ class ReplyToFault(unittest.TestCase):
             self.assertEqual((said.found, said.wanted, said.depth, said.variables), (found, wanted, 1, ()))
         for wrong in ([], ['depth 2'], ['fault 3', 'depth 2'], ['fault 3 Delocal', 'test fi', 'depth 2'], lines[:2]):
             self.assertIsNone(read_failure(wrong), wrong)
+
+
+class HeapAndCost(Case):
+    """What the prompt shows of the replies to `heap` and `spend`, and of a session that has neither."""
+
+    SOURCE = 'class P int x method main() x += 5\n'
+
+    def printed(self, stand_in, *commands):
+        session = Session.begun(Program.found(), self.write('a.rpp', self.SOURCE), is_held=True)
+        self.addCleanup(session.close)
+        session.run._end_session()
+        session.run._live = Live(session.run.program, [sys.executable, '-c', stand_in])
+        session.run._live.ask([], replies=1)
+        with contextlib.redirect_stdout(io.StringIO()) as out:
+            SourcePrompt(session, echo=True).obey(list(commands))
+        return out.getvalue()
+
+    def test_replies(self):
+        # (4 + 2 * 8 + 2048 words are free)
+        self.assertEqual(self.printed(STAND_IN, 'heap', 'cost'), '(rpp) heap\nheap of order 12: 4,096 words\n'
+                         'living objects: 3, with main; the next one is #5\nfree blocks, in words: 1 of 4, 2 of 8, 1 of 2,048; 2,068 in all\n'
+                         '(rpp) cost\ncost 12,345 up to position 0\n')
+        self.assertEqual(read_heap(['order 4', 'live 2', 'next #3']), HeapState(4, 2, 3, ()))
+        for wrong in ([], ['order 4'], ['order 4', 'live 2', 'next 3'], ['order 4', 'live 2', 'next #3', 'free 1']):
+            self.assertIsNone(read_heap(wrong), wrong)
+
+    def test_a_session_that_has_them_not(self):
+        older = STAND_IN.replace("'heap'", "'no heap'").replace("'spend'", "'no spend'")
+        self.assertEqual(self.printed(older, 'heap', 'cost'), '(rpp) heap\nno session of rooplpp-live says the heap here; `rpp heap` shows the '
+                         'memory\n(rpp) cost\nno session of rooplpp-live says the cost here; `rooplpp explain` prints that of a whole run\n')
+        done = self.rpp('debug', self.write('a.rpp', self.SOURCE), '-c', 'heap', '-c', 'help cost', env={'ROOPLPP_LIVE': ''})
+        self.assertIn('no session of rooplpp-live says the heap here', done.stdout)
+        self.assertIn('cost: what the run has cost up to here, in the units of `explain`\n', done.stdout)
+
+    @unittest.skipUnless(HAS_LIVE, 'there is no rooplpp-live')
+    def test_of_a_run(self):
+        """A cell of 3 words takes a block of 4 of the 16, and another one of 4 and one of 8 are left."""
+        source = self.write('b.rpp', 'class P Cell c\nmethod main()\n  new Cell c\nclass Cell int v method f() skip\n')
+        done = self.rpp('debug', source, '--heap', '4', *[word for each in ('heap', 'step', 'heap', 'cost', 'back', 'heap') for word in ('-c', each)])
+        if 'no session' in done.stdout:
+            self.skipTest('this rooplpp-live has no `heap`')
+        whole = 'heap of order 4: 16 words\nliving objects: 1, with main; the next one is #2\nfree blocks, in words: 1 of 16; 16 in all\n'
+        self.assertEqual(done.stdout.count(f'(rpp) heap\n{whole}'), 2)
+        self.assertIn('(rpp) heap\nheap of order 4: 16 words\nliving objects: 2, with main; the next one is #3\n'
+                      'free blocks, in words: 1 of 4, 1 of 8; 12 in all\n', done.stdout)
+        cost = re.search(r'^cost (\d+)$', self.program.call('explain', source, '4', '31', '1000').output, re.M)[1]
+        self.assertIn(f'(rpp) cost\ncost {int(cost):,} up to position 1\n', done.stdout)
 
 
 class Without(Case):
@@ -327,6 +396,37 @@ class Held(Case):
 @unittest.skipUnless(HAS_LIVE, 'there is no rooplpp-live')
 class Images(Case):
     """A run of an image in a session is that of `debug`."""
+
+    def test_breakpoints_and_watches(self):
+        """The prompt shows the same with a session, by its searches or by single moves if it has none, as without it."""
+        counter, sub = os.path.join(EXAMPLES, 'counter.rpp'), os.path.join(EXAMPLES, 'subroutine.pisa')
+        images = [os.path.join(self.folder, name) for name in ('c.img', 's.img')]
+        self.program.call('compile', counter, images[0])
+        self.program.call('asm', sub, images[1])
+        scripts = (['watch count', 'watch count', 'watch back before', 'watch back $3', 'watch $6', 'break 135', 'break 139', *['c'] * 4,
+                    *['rc'] * 4, 'until 20', 'watch $45', 'watch 999999'],
+                   ['step 10', 'until 4', 'break 3', 'rc', 'rc', 'watch $4', 'break 4', 'c', 'c', 'watch back $4', 'watch 2'])
+        for image, script in zip(images, scripts):
+            said = [self.rpp('debug', image, *[word for each in script for word in ('-c', each)], env=env)
+                    for env in ({}, {'ROOPLPP_LIVE': ''})]
+            self.assertEqual(said[0].stdout, said[1].stdout, image)
+            self.assertEqual([each.returncode for each in said], [0, 0])
+
+    def test_a_search_that_is_interrupted(self):
+        """The session is ended, and the next question begins another."""
+        image = os.path.join(self.folder, 'c.img')
+        self.program.call('compile', os.path.join(EXAMPLES, 'counter.rpp'), image)
+        sleeping = STAND_IN.replace('place 27 depth 1', 'pc 0 br 0 dir 1').replace("'sleep'", "'any'")
+        with MachineRun(self.program, image) as held:
+            held._live.close()
+            held._live = Live(self.program, [sys.executable, '-c', sleeping])
+            held._live.ask([], replies=1)
+            stops = threading.Timer(0.3, self.program.stop)
+            stops.start()
+            with self.assertRaises(Interrupted):
+                held.search(0, 'any 9 3')
+            self.assertEqual([each.position for each in held.walk(['step 5', 'step 2'])[0]], [5, 7])
+            self.assertIsNotNone(held._live)
 
     def test_walks(self):
         image = os.path.join(self.folder, 'c.img')
