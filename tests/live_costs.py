@@ -115,7 +115,7 @@ class Reader:
 
     def statement(self):
         word, at = self.tokens[self.here]
-        forms = {'if': self.choice, 'from': self.loop, 'local': self.local, 'construct': self.construct, 'new': self.made, 'delete': self.made,
+        forms = {'if': self.branches, 'from': self.branches, 'local': self.local, 'construct': self.construct, 'new': self.made, 'delete': self.made,
                  'copy': self.copied, 'uncopy': self.copied, 'call': self.call, 'uncall': self.call}
         if word == 'skip':
             self.take()
@@ -132,23 +132,16 @@ class Reader:
         reads = target.reads() + value.elements if target.index else 0
         return Statement(word, at, target.nodes() + value.nodes + reads)
 
-    def choice(self, word, at):
-        test = self.value()
-        self.take('then')
-        yes = self.block()
-        self.take('else')
-        no = self.block()
-        self.take('fi')
-        return Statement(word, at, values=(test, self.value()), blocks=(yes, no))
-
-    def loop(self, word, at):
-        entry = self.value()
-        self.take('do')
-        first = self.block()
-        self.take('loop')
-        again = self.block()
-        self.take('until')
-        return Statement(word, at, values=(entry, self.value()), blocks=(first, again))
+    def branches(self, word, at):
+        """A choice or a loop: a value, two blocks and another value, with a word before all but the first."""
+        before_one, before_other, before_end = ('then', 'else', 'fi') if word == 'if' else ('do', 'loop', 'until')
+        begin = self.value()
+        self.take(before_one)
+        one = self.block()
+        self.take(before_other)
+        other = self.block()
+        self.take(before_end)
+        return Statement(word, at, values=(begin, self.value()), blocks=(one, other))
 
     def kind(self):
         """The type in a declaration, or what is made; the length that `new` and `delete` give."""
