@@ -2,14 +2,9 @@
 //! prints the rows that differ and how many rows there were. tests/README.md describes a row.
 #![tactic(auto)]
 
-mod answers;
-mod fault;
-mod files;
-mod names;
-mod printed;
+mod answering;
 mod row;
 mod tables;
-mod texts;
 
 use crate::tables::Tables;
 use anyhow::Context;

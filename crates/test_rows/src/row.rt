@@ -1,9 +1,6 @@
 // A row: files, commands, and what they print, answer and leave.
-use crate::answers::Answer;
-use crate::fault::{Fault, ensure};
-use crate::files;
-use crate::printed::Numbers;
-use crate::texts::{is_word, words};
+use crate::answering::respond;
+use row_parts::{Answer, Fault, Numbers, ensure, files, holds, is_word, words};
 use rpp_ports::MemoryShelf;
 use std::alloc::Global;
 
@@ -90,12 +87,15 @@ impl Row {
     // Runs a command.
     fn run(&mut self, text: &str, has_words: bool) -> Result<(), Fault> {
         self.settle()?;
-        let text = self.with_numbers(text)?;
+        let text = self.numbers.filled(text)?;
         let mut words = words(self.alloc, text.as_str())?;
         if !has_words {
             words.clear();
         }
-        self.answer = Some(Answer::new(self.alloc, &words, &mut self.shelf)?);
+        let Ok((status, said)) = respond(self.alloc, &words, &mut self.shelf) else {
+            return Err(Fault::NoMemory);
+        };
+        self.answer = Some(Answer::new(self.alloc, status, said)?);
         self.has_run = true;
         Ok(())
     }
@@ -122,60 +122,12 @@ impl Row {
         }
     }
 
-    // The text with its <NAME>s, <NAME+1>s and <NAME-1>s.
-    fn with_numbers(&self, text: &str) -> Result<String, Fault> {
-        let mut made = String::new(self.alloc);
-        for (at, piece) in text.split('<').enumerate() {
-            if at == 0 {
-                made.push_str(piece)?;
-                continue;
-            }
-            self.add_number(&mut made, piece)?;
-        }
-        Ok(made)
-    }
-
-    // Adds the piece after a <.
-    fn add_number(&self, made: &mut String, piece: &str) -> Result<(), Fault> {
-        match piece.split_once('>') {
-            Some((name, rest)) => {
-                let Some(value) = self.numbers.value(name) else {
-                    return Err(Fault::Differs("a number was not printed"));
-                };
-                write!(made, "{value}{rest}")?;
-            }
-            None => write!(made, "<{piece}")?,
-        }
-        Ok(())
-    }
-
     // Compares sums of numbers that were printed.
     fn compare_numbers(&self, text: &str) -> Result<(), Fault> {
-        let text = self.with_numbers(text)?;
+        let text = self.numbers.filled(text)?;
         ensure(
             holds(text.as_str()) == Some(true),
             "a relation does not hold",
         )
     }
-}
-
-// Whether a relation of two sums holds, if it is one.
-fn holds(text: &str) -> Option<bool> {
-    if let Some((left, right)) = text.split_once(" = ") {
-        return Some(sum(left)? == sum(right)?);
-    }
-    if let Some((left, right)) = text.split_once(" <= ") {
-        return Some(sum(left)? <= sum(right)?);
-    }
-    let (left, right) = text.split_once(" < ")?;
-    Some(sum(left)? < sum(right)?)
-}
-
-// The sum of numbers with + between them.
-fn sum(text: &str) -> Option<i64> {
-    let mut sum: i64 = 0;
-    for number in text.split(" + ") {
-        sum = sum.checked_add(number.parse::<i64>().ok()?)?;
-    }
-    Some(sum)
 }

@@ -1,6 +1,6 @@
 // The rows of files: paragraphs, and tables of rows.
-use crate::names::Names;
 use crate::row::run_row;
+use row_parts::{Names, filled};
 use std::alloc::{AllocError, Global};
 
 // The line of rows that need files on a disk: folders in the place of files, or a long run.
@@ -152,28 +152,6 @@ impl Tables {
         }
         Ok(())
     }
-}
-
-// The lines of a row with their names filled. The lines `| text` go to the line before them.
-fn filled(alloc: Global, lines: &[&str], names: &Names) -> Result<Vec<String>, AllocError> {
-    let mut made: Vec<String> = Vec::new(alloc);
-    for line in lines {
-        let text = names.filled(line)?;
-        match made.last_mut() {
-            Some(last) if line.starts_with('|') => add_line(last, text.as_str())?,
-            _ => made.push(text)?,
-        }
-    }
-    Ok(made)
-}
-
-// Adds the text of a line `| text` to the line of its file.
-fn add_line(last: &mut String, line: &str) -> Result<(), AllocError> {
-    let text = line.strip_prefix("| ").unwrap_or("");
-    if last.as_str().ends_with(':') {
-        last.push(' ')?;
-    }
-    write!(last, "{text}\n")
 }
 
 // The numbers of 2..5.

@@ -2,14 +2,7 @@
 use crate::fault::{Fault, ensure};
 use crate::printed::Numbers;
 use crate::texts::plain;
-use rpp_command::rooplpp;
-use rpp_ports::{MemoryShelf, MemorySink};
-use rpp_probes::{Coverage, DeepestPlace, Probe, StepTally};
-use rpp_words::NoMemory;
 use std::alloc::{AllocError, Global};
-
-// The number of steps after which the probe of places ends, as in the program.
-const MOST_COVERED: u64 = 1_000_000;
 
 /// A command that has ended, and what is expected of its result.
 #[derive(Drop)]
@@ -25,11 +18,8 @@ pub struct Answer {
 }
 
 impl Answer {
-    /// What the program answers to these words, with the probes of the program itself.
-    pub fn new(alloc: Global, words: &[String], shelf: &mut MemoryShelf) -> Result<Self, Fault> {
-        let Ok((status, said)) = respond(alloc, words, shelf) else {
-            return Err(Fault::NoMemory);
-        };
+    /// A status and what was printed. Nothing printed and the status 0 are expected at first.
+    pub fn new(alloc: Global, status: u8, said: Vec<u8>) -> Result<Self, AllocError> {
         Ok(Answer {
             said,
             status,
@@ -94,19 +84,4 @@ impl Answer {
         }
         true
     }
-}
-
-// The status of a command and what it prints.
-fn respond(
-    alloc: Global,
-    words: &[String],
-    shelf: &mut MemoryShelf,
-) -> Result<(u8, Vec<u8>), NoMemory> {
-    let mut probes: Vec<Box<dyn Probe>> = Vec::new(alloc);
-    probes.push(Box::new(alloc, StepTally::new())?)?;
-    probes.push(Box::new(alloc, Coverage::new(alloc, MOST_COVERED)?)?)?;
-    probes.push(Box::new(alloc, DeepestPlace::new())?)?;
-    let mut out = MemorySink::new(alloc, Vec::new(alloc));
-    let status = rooplpp(alloc, words, shelf, &mut out, &mut probes);
-    Ok((status, out.bytes().to_vec(alloc)?))
 }

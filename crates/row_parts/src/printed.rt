@@ -1,4 +1,5 @@
 // What is printed, compared with the expected text.
+use crate::fault::Fault;
 use crate::texts::{is_word, plain};
 use std::alloc::{AllocError, Global};
 
@@ -24,6 +25,7 @@ enum Part {
 }
 
 impl Numbers {
+    /// No numbers.
     pub fn new(alloc: Global) -> Self {
         Numbers {
             alloc,
@@ -47,8 +49,35 @@ impl Numbers {
         Ok(())
     }
 
-    /// The number of NAME, NAME+1 or NAME-1, if it was printed.
-    pub fn value(&self, text: &str) -> Option<i64> {
+    /// The text with its <NAME>s, <NAME+1>s and <NAME-1>s.
+    pub fn filled(&self, text: &str) -> Result<String, Fault> {
+        let mut made = String::new(self.alloc);
+        for (at, piece) in text.split('<').enumerate() {
+            if at == 0 {
+                made.push_str(piece)?;
+                continue;
+            }
+            self.add_number(&mut made, piece)?;
+        }
+        Ok(made)
+    }
+
+    // Adds the piece after a <.
+    fn add_number(&self, made: &mut String, piece: &str) -> Result<(), Fault> {
+        match piece.split_once('>') {
+            Some((name, rest)) => {
+                let Some(value) = self.value(name) else {
+                    return Err(Fault::Differs("a number was not printed"));
+                };
+                write!(made, "{value}{rest}")?;
+            }
+            None => write!(made, "<{piece}")?,
+        }
+        Ok(())
+    }
+
+    // The number of NAME, NAME+1 or NAME-1, if it was printed.
+    fn value(&self, text: &str) -> Option<i64> {
         if let Some((name, more)) = text.split_once('+') {
             return self.printed(name)?.checked_add(more.parse::<i64>().ok()?);
         }

@@ -1,5 +1,5 @@
 use Rattle.std.proofs.Common.{length}
-use Rattle.test_rows.proofs.printed.Numbers.+fit_parts.Given as goal
+use Rattle.row_parts.proofs.printed.Numbers.+fit_parts.Given as goal
 
 abbrev pub decreases-fit_parts : goal.decreases-fit_parts
 decreases-fit_parts l = length l.parts.now

@@ -28,6 +28,7 @@ impl Names {
         Ok(names)
     }
 
+    /// Puts a text with its name last.
     pub fn add(&mut self, name: &str, text: &str) -> Result<(), AllocError> {
         let name = String::from_str(self.alloc, name)?;
         let text = String::from_str(self.alloc, text)?;
@@ -35,6 +36,7 @@ impl Names {
         Ok(())
     }
 
+    /// How many there are.
     pub fn len(&self) -> usize {
         self.list.len()
     }
@@ -130,4 +132,26 @@ fn add_copies(made: &mut String, text: &str, count: u32) -> Result<(), AllocErro
         }
     }
     Ok(())
+}
+
+/// The lines of a row with their names filled. The lines `| text` go to the line before them.
+pub fn filled(alloc: Global, lines: &[&str], names: &Names) -> Result<Vec<String>, AllocError> {
+    let mut made: Vec<String> = Vec::new(alloc);
+    for line in lines {
+        let text = names.filled(line)?;
+        match made.last_mut() {
+            Some(last) if line.starts_with('|') => add_line(last, text.as_str())?,
+            _ => made.push(text)?,
+        }
+    }
+    Ok(made)
+}
+
+// Adds the text of a line `| text` to the line of its file.
+fn add_line(last: &mut String, line: &str) -> Result<(), AllocError> {
+    let text = line.strip_prefix("| ").unwrap_or("");
+    if last.as_str().ends_with(':') {
+        last.push(' ')?;
+    }
+    write!(last, "{text}\n")
 }
