@@ -15,6 +15,7 @@ ghost use Rattle.rpp_command.specs.Places.{placed};
 ghost use Rattle.plan_serving.specs.Held.{held_texts};
 ghost use Rattle.rpp_command.specs.Told.{CarriesOutTold, AnswersTold, EndsEarly};
 
+use crate::going::{go_line, turn_line};
 use crate::reading::wanted_files;
 use cluster_commands::cluster;
 use command_line::{Line, read_words};
@@ -23,7 +24,7 @@ use explain_commands::explain;
 use image_commands::{asm, debug, flip, list, run};
 use pisa_machine::Steps;
 use plan_serving::{HeldShelf, fetch, finish, place_images, place_input, place_states, say};
-use program_commands::{check, compile_file, go, profile, turn};
+use program_commands::{check, compile_file, profile};
 use rpp_ports::{Shelf, Sink};
 use rpp_probes::Probes;
 use std::alloc::Global;
@@ -314,35 +315,21 @@ fn plan_line<S: Shelf, P: Probes, L: Ledger>(
             deep,
             steps,
             input,
-        } => {
-            let input = place_input(alloc, input, "a")?;
-            go(
-                alloc,
-                shelf,
-                "",
-                &input,
-                sizes(*heap, *deep, *steps),
-                counter,
-            )
-        }
+        } => go_line(alloc, shelf, input, sizes(*heap, *deep, *steps), counter),
         Line::Turn {
             file: _,
             heap,
             deep,
             steps,
             input,
-        } => {
-            let input = place_input(alloc, input, "a")?;
-            turn(
-                alloc,
-                shelf,
-                "",
-                &input,
-                sizes(*heap, *deep, *steps),
-                probes,
-                counter,
-            )
-        }
+        } => turn_line(
+            alloc,
+            shelf,
+            input,
+            sizes(*heap, *deep, *steps),
+            probes,
+            counter,
+        ),
         Line::Profile {
             file: _,
             heap,
