@@ -2,22 +2,24 @@
 use Rattle.std.proofs.Common.{◌≡◌, ◌≢◌, ℕ, List, length, refl, Some, Err}
 use Rattle.std.specs.Prelude.{Option}
 use Rattle.rpp_tree.specs.declared.limits.LimitKind.{LimitKind}
-use Rattle.rpp_tree.specs.declared.limits.LimitKind.TheVariants.{Tokens}
 use Rattle.rpp_tree.specs.Tree.{Source}
-use Rattle.roopl_parser.specs.roopl_lexer.declared.token.Token.{Token}
-use Rattle.roopl_parser.specs.roopl_lexer.declared.error.LexError.{LexError}
-use Rattle.roopl_parser.specs.roopl_lexer.Tokens.{IsCutting, IsFirstRefusal}
-use Rattle.roopl_parser.specs.declared.error.ParseError.{ParseError}
-use Rattle.roopl_parser.specs.Viable.{IsWrongAt, IsReached, first_limit}
+use Rattle.roopl_lexer.specs.declared.token.Token.{Token}
+use Rattle.roopl_lexer.specs.declared.error.LexError.{LexError}
+use Rattle.roopl_lexer.specs.Tokens.{IsCutting, IsFirstRefusal}
+use Rattle.token_limits.specs.roopl_parser.declared.error.ParseError.{ParseError}
+use Rattle.token_limits.specs.roopl_parser.Viable.{IsWrongAt}
+use Rattle.token_limits.specs.roopl_parser.Viable.{first_limit as limit_read}
+use Rattle.token_limits.specs.Limits.{first_limit}
+use Rattle.token_limits.proofs.Limited.{wrong_limit, limit_begun, none_for}
 use Rattle.class_table.specs.class_rules.declared.error.ClassError.{ClassError}
 use Rattle.class_table.specs.class_rules.Rules.{IsFirst}
 use Rattle.class_table.specs.class_rules.Program.{check_program}
 use Rattle.class_table.specs.class_rules.Refusal.{Refusal, refused}
 use Rattle.class_table.specs.class_rules.Table.{HasClassTable, first_class_refusal}
 use Rattle.roopl_judge.specs.Errors.{lex_refusal, parse_refusal, class_refusal, error_of, IfRefused}
-use Rattle.roopl_judge.specs.Judged.{IsTree, IsJudged, no_tokens, no_tree, no_table, no_types}
-use Rattle.roopl_parser.specs.roopl_lexer.declared.error.LexError.TheVariants as lex
-use Rattle.roopl_parser.specs.declared.error.ParseError.TheVariants as parse
+use Rattle.roopl_judge.specs.Judged.{IsTree, IsJudged, bad_byte, too_large, wrong_token, limit_passed, no_table, no_types}
+use Rattle.roopl_lexer.specs.declared.error.LexError.TheVariants as lex
+use Rattle.token_limits.specs.roopl_parser.declared.error.ParseError.TheVariants as parse
 use Rattle.class_table.specs.class_rules.declared.error.ClassError.TheVariants as class
 
 abbrev pub IsRefusal : List ℕ → Refusal → Type 0
@@ -26,20 +28,24 @@ IsRefusal text refusal = IsJudged text (Err refusal)
 pub by_lexer : (text : List ℕ) (error : LexError) → (error ≢ lex.NoMemory → IsFirstRefusal text error)
     → IfRefused (IsRefusal text) (error_of (lex_refusal error))
 by_lexer text (lex.BadByte at) first = let cut = first (λ e. cc) in
-    no_tokens cut.0 (lex.BadByte at) (refused 1 at) cut.1 refl
+    bad_byte cut.0 at cut.1
 by_lexer text (lex.NumberTooLarge at) first = let cut = first (λ e. cc) in
-    no_tokens cut.0 (lex.NumberTooLarge at) (refused 2 at) cut.1 refl
+    too_large cut.0 at cut.1
 by_lexer text lex.NoMemory first = tt
 
 pub by_parser : (text : List ℕ) (tokens : List Token) (error : ParseError) → IsCutting text tokens
-    → ((at : ℕ) → error ≡ parse.Syntax at → IsWrongAt (length text) tokens at × (first_limit tokens ≡ Option.None))
+    → ((at : ℕ) → error ≡ parse.Syntax at → IsWrongAt (length text) tokens at × (limit_read tokens ≡ Option.None))
     → ((which : LimitKind) (at : ℕ) → error ≡ parse.Limit which at
-    → (first_limit tokens ≡ Some (parse.Limit which at)) × (which ≢ Tokens → IsReached tokens at))
+    → limit_read tokens ≡ Some (parse.Limit which at))
     → IfRefused (IsRefusal text) (error_of (parse_refusal error))
 by_parser text tokens (parse.Syntax at) cutting syntax limit =
-    no_tree tokens (parse.Syntax at) (refused 3 at) cutting (syntax at refl) refl
+    let found = syntax at refl in
+    wrong_token tokens at cutting found.0
+    (none_for (limit_read tokens) (first_limit tokens found.0.front) (wrong_limit (length text) tokens at found.0)
+    found.1)
 by_parser text tokens (parse.Limit which at) cutting syntax limit =
-    no_tree tokens (parse.Limit which at) (refused 4 at) cutting (limit which at refl) refl
+    let found = limit_begun tokens which at (limit which at refl) in
+    limit_passed tokens at cutting found.0 found.1
 by_parser text tokens parse.NoMemory cutting syntax limit = tt
 
 pub by_class_table : (text : List ℕ) (program : Source) (error : ClassError) → IsTree text program

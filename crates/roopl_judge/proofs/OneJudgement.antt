@@ -2,28 +2,33 @@
 use Rattle.std.proofs.Common.{◌≡◌, ◌∙◌, sym, ap, subst, ℕ, List, length, refl, Some, None, Ok, Err}
 use Rattle.std.specs.Prelude.{Result}
 use Rattle.rpp_tree.specs.Tree.{Source}
-use Rattle.roopl_parser.specs.roopl_lexer.declared.token.Token.{Token}
-use Rattle.roopl_parser.specs.roopl_lexer.declared.error.LexError.{LexError}
-use Rattle.roopl_parser.specs.roopl_lexer.Tokens.{Cut}
-use Rattle.roopl_parser.proofs.roopl_lexer_laws.Unique.{one_cut}
-use Rattle.roopl_parser.specs.declared.error.ParseError.{ParseError}
-use Rattle.roopl_parser.specs.declared.error.ParseError.TheVariants.{Syntax, Limit, NoMemory}
-use Rattle.roopl_parser.specs.Grammar.{Derives}
-use Rattle.roopl_parser.specs.Viable.{first_limit, reading}
-use Rattle.roopl_parser.proofs.Exact.{one_tree, read_all, wrong_read, passed_read}
+use Rattle.roopl_lexer.specs.declared.token.Token.{Token}
+use Rattle.roopl_lexer.specs.declared.error.LexError.{LexError}
+use Rattle.roopl_lexer.specs.declared.error.LexError.TheVariants.{BadByte, NumberTooLarge}
+use Rattle.roopl_lexer.specs.Tokens.{Cut}
+use Rattle.roopl_lexer.proofs.Unique.{one_cut}
+use Rattle.rpp_tree.specs.declared.limits.LimitKind.{LimitKind}
+use Rattle.token_limits.specs.roopl_parser.declared.error.ParseError.TheVariants.{Syntax, Limit}
+use Rattle.token_limits.specs.roopl_parser.Grammar.{Derives}
+use Rattle.token_limits.specs.roopl_parser.Viable.{reading}
+use Rattle.token_limits.specs.roopl_parser.Viable.{first_limit as limit_read}
+use Rattle.token_limits.specs.Limits.{first_limit}
+use Rattle.token_limits.proofs.Limited.{derived_limit, wrong_limit, begun_limit, none_by}
+use Rattle.token_limits.proofs.roopl_parser_laws.Exact.{one_tree, read_all, wrong_read, passed_read}
 use Rattle.class_table.specs.class_rules.declared.error.ClassError.{ClassError}
-use Rattle.class_table.specs.class_rules.Program.{IsAccepted, check_program}
-use Rattle.class_table.specs.class_rules.Refusal.{Refusal}
+use Rattle.class_table.specs.class_rules.Program.{check_program}
+use Rattle.class_table.specs.class_rules.Refusal.{Refusal, refused}
+use Rattle.class_table.specs.class_rules.Statements.{passed}
 use Rattle.class_table.specs.class_rules.Table.{HasClassTable, first_class_refusal}
-use Rattle.roopl_judge.specs.Errors.{lex_refusal, parse_refusal, class_refusal}
-use Rattle.roopl_judge.specs.Judged.{IsTreeRefusal, IsJudged, no_tokens, no_tree, no_table, no_types, accepted}
+use Rattle.roopl_judge.specs.Errors.{lex_refusal, class_refusal}
+use Rattle.roopl_judge.specs.Judged.{HasTree, IsJudged, bad_byte, too_large, wrong_token, limit_passed}
+use Rattle.roopl_judge.specs.Judged.{no_table, no_types, accepted}
 
 -- what reading the tokens gives, if they are refused
-refusal_read : (tokens : List Token) (end : ℕ) (e : ParseError) → IsTreeRefusal tokens end e
-    → reading end tokens ≡ Err e
-refusal_read tokens end (Syntax at) h = wrong_read end tokens at h.0 h.1
-refusal_read tokens end (Limit which at) h = passed_read end tokens (Limit which at) h.0
-refusal_read tokens end NoMemory h = absurd h
+data IsRead (tokens : List Token) (end : ℕ) : Refusal → Type 0 where
+  as_wrong : (at : ℕ) → reading end tokens ≡ Err (Syntax at) → IsRead tokens end (refused 3 at)
+  as_passed : (which : LimitKind) (at : ℕ) → reading end tokens ≡ Err (Limit which at)
+      → IsRead tokens end (refused 4 at)
 
 -- ---- the check in layers
 
@@ -32,7 +37,7 @@ data OfTable (text : List ℕ) (program : Source) : Result Source Refusal → Ty
       → class_refusal error ≡ Some refusal → OfTable text program (Err refusal)
   types_refused : (refusal : Refusal) → HasClassTable program → check_program program ≡ Err refusal
       → OfTable text program (Err refusal)
-  taken : IsAccepted program → OfTable text program (Ok program)
+  taken : HasClassTable program → check_program program ≡ passed → OfTable text program (Ok program)
 
 some_same : {A : Type 0} (a b : A) → Some a ≡ Some b → a ≡ b
 some_same a b e = cc
@@ -47,46 +52,45 @@ one_table text program _ _ (table_refused e r first is) (table_refused e' r' fir
     ap (λ x. Err x) (table_errors r r' e e' (some_same e e' (sym first ∙ first')) is is')
 one_table text program _ _ (table_refused e r first is) (types_refused r' has bad) = let none =
     has.none (length text) in absurd (cc)
-one_table text program _ _ (table_refused e r first is) (taken all) = let none = all.classes.none (length text) in
+one_table text program _ _ (table_refused e r first is) (taken has good) = let none = has.none (length text) in
     absurd (cc)
 one_table text program _ _ (types_refused r has bad) (table_refused e' r' first' is') = let none =
     has.none (length text) in absurd (cc)
 one_table text program _ _ (types_refused r has bad) (types_refused r' has' bad') = let same : r ≡ r' = cc in
     ap (λ x. Err x) same
-one_table text program _ _ (types_refused r has bad) (taken all) = let types = all.types in absurd (cc)
-one_table text program _ _ (taken all) (table_refused e' r' first' is') = let none = all.classes.none (length text) in
+one_table text program _ _ (types_refused r has bad) (taken has' good) = absurd (cc)
+one_table text program _ _ (taken has good) (table_refused e' r' first' is') = let none = has.none (length text) in
     absurd (cc)
-one_table text program _ _ (taken all) (types_refused r' has bad) = let types = all.types in absurd (cc)
-one_table text program _ _ (taken all) (taken all') = refl
+one_table text program _ _ (taken has good) (types_refused r' has' bad) = absurd (cc)
+one_table text program _ _ (taken has good) (taken has' good') = refl
 
 data OfTokens (text : List ℕ) (tokens : List Token) : Result Source Refusal → Type 0 where
-  tree_refused : (error : ParseError) (refusal : Refusal) → IsTreeRefusal tokens (length text) error
-      → parse_refusal error ≡ Some refusal → OfTokens text tokens (Err refusal)
-  tree : (program : Source) (a : Result Source Refusal) → Derives tokens program → first_limit tokens ≡ None
+  tree_refused : (refusal : Refusal) → IsRead tokens (length text) refusal → OfTokens text tokens (Err refusal)
+  tree : (program : Source) (a : Result Source Refusal) → Derives tokens program → limit_read tokens ≡ None
       → OfTable text program a → OfTokens text tokens a
 
-one_refusal : (tokens : List Token) (end : ℕ) (e e' : ParseError) (r r' : Refusal) → IsTreeRefusal tokens end e
-    → IsTreeRefusal tokens end e' → parse_refusal e ≡ Some r → parse_refusal e' ≡ Some r' → r ≡ r'
-one_refusal tokens end e e' r r' h h' is is' =
-    let chain = sym (refusal_read tokens end e h) ∙ refusal_read tokens end e' h' in
-    let same : e ≡ e' = cc in
-    some_same r r' (sym is ∙ ap parse_refusal same ∙ is')
+one_refusal : (tokens : List Token) (end : ℕ) (r r' : Refusal) → IsRead tokens end r → IsRead tokens end r' → r ≡ r'
+one_refusal tokens end _ _ (as_wrong at h) (as_wrong to h') = let same : at ≡ to = cc in ap (refused 3) same
+one_refusal tokens end _ _ (as_wrong at h) (as_passed which to h') = absurd (cc)
+one_refusal tokens end _ _ (as_passed which at h) (as_wrong to h') = absurd (cc)
+one_refusal tokens end _ _ (as_passed which at h) (as_passed other to h') = let same : at ≡ to = cc in
+    ap (refused 4) same
 
-no_refusal : (tokens : List Token) (end : ℕ) (e : ParseError) (program : Source) → IsTreeRefusal tokens end e
-    → Derives tokens program → first_limit tokens ≡ None → ⊥
-no_refusal tokens end e program h derives none =
-    let refused = refusal_read tokens end e h in
+no_refusal : (tokens : List Token) (end : ℕ) (r : Refusal) (program : Source) → IsRead tokens end r
+    → Derives tokens program → limit_read tokens ≡ None → ⊥
+no_refusal tokens end _ program (as_wrong at h) derives none = let read = read_all end tokens program derives none in cc
+no_refusal tokens end _ program (as_passed which at h) derives none =
     let read = read_all end tokens program derives none in
     cc
 
 one_of_tokens : (text : List ℕ) (tokens : List Token) (a b : Result Source Refusal) → OfTokens text tokens a
     → OfTokens text tokens b → a ≡ b
-one_of_tokens text tokens _ _ (tree_refused e r h is) (tree_refused e' r' h' is') =
-    ap (λ x. Err x) (one_refusal tokens (length text) e e' r r' h h' is is')
-one_of_tokens text tokens _ b (tree_refused e r h is) (tree program _ derives none of) =
-    absurd (no_refusal tokens (length text) e program h derives none)
-one_of_tokens text tokens a _ (tree program _ derives none of) (tree_refused e r h is) =
-    absurd (no_refusal tokens (length text) e program h derives none)
+one_of_tokens text tokens _ _ (tree_refused r h) (tree_refused r' h') =
+    ap (λ x. Err x) (one_refusal tokens (length text) r r' h h')
+one_of_tokens text tokens _ b (tree_refused r h) (tree program _ derives none of) =
+    absurd (no_refusal tokens (length text) r program h derives none)
+one_of_tokens text tokens a _ (tree program _ derives none of) (tree_refused r h) =
+    absurd (no_refusal tokens (length text) r program h derives none)
 one_of_tokens text tokens a b (tree program _ derives none of) (tree program' _ derives' none' of') =
     one_table text program' a b (subst (λ p. OfTable text p a) (one_tree tokens program program' derives derives') of)
     of'
@@ -109,18 +113,30 @@ one_of_text text a b (cut ts _ c of) (cut ts' _ c' of') =
     one_of_tokens text ts' a b (subst (λ tokens. OfTokens text tokens a) (one_cut 0 text ts None ts' None c c').0 of)
     of'
 
+passes_none : (text : List ℕ) (tokens : List Token) (program : Source) → HasTree text tokens program
+    → limit_read tokens ≡ None
+passes_none text tokens program has =
+    none_by (limit_read tokens) (first_limit tokens tokens) (derived_limit tokens program has.derives) has.no_limit
+
 layered : (text : List ℕ) (a : Result Source Refusal) → IsJudged text a → OfText text a
-layered text _ (no_tokens tokens error refusal c is) = tokens_refused tokens error refusal c is
-layered text _ (no_tree tokens error refusal cutting h is) =
-    cut tokens (Err refusal) cutting (tree_refused error refusal h is)
+layered text _ (bad_byte tokens at c) = tokens_refused tokens (BadByte at) (refused 1 at) c refl
+layered text _ (too_large tokens at c) = tokens_refused tokens (NumberTooLarge at) (refused 2 at) c refl
+layered text _ (wrong_token tokens at cutting wrong none) =
+    cut tokens (Err (refused 3 at)) cutting (tree_refused (refused 3 at) (as_wrong at
+    (wrong_read (length text) tokens at wrong (none_by (limit_read tokens) (first_limit tokens wrong.front)
+    (wrong_limit (length text) tokens at wrong) none))))
+layered text _ (limit_passed tokens at cutting begun full) =
+    let read = begun_limit tokens begun at full in
+    cut tokens (Err (refused 4 at)) cutting (tree_refused (refused 4 at) (as_passed read.0 at
+    (passed_read (length text) tokens (Limit read.0 at) read.1)))
 layered text _ (no_table tokens program error refusal has first is) =
-    cut tokens (Err refusal) has.cutting (tree program (Err refusal) has.derives has.no_limit
+    cut tokens (Err refusal) has.cutting (tree program (Err refusal) has.derives (passes_none text tokens program has)
     (table_refused error refusal first is))
 layered text _ (no_types tokens program refusal has classes bad) =
-    cut tokens (Err refusal) has.cutting (tree program (Err refusal) has.derives has.no_limit
+    cut tokens (Err refusal) has.cutting (tree program (Err refusal) has.derives (passes_none text tokens program has)
     (types_refused refusal classes bad))
-layered text _ (accepted tokens program has all) = cut tokens (Ok program) has.cutting
-    (tree program (Ok program) has.derives has.no_limit (taken all))
+layered text _ (accepted tokens program has classes good) = cut tokens (Ok program) has.cutting
+    (tree program (Ok program) has.derives (passes_none text tokens program has) (taken classes good))
 
 pub one_judgement_of : (text : List ℕ) (a b : Result Source Refusal) → IsJudged text a → IsJudged text b → a ≡ b
 one_judgement_of text a b x y = one_of_text text a b (layered text a x) (layered text b y)

@@ -3,11 +3,11 @@ use Rattle.std.specs.Prelude.{⊤, Option, Some, None}
 use Rattle.class_table.specs.class_rules.Refusal.{Refusal, refused}
 use Rattle.roopl_judge.specs.declared.error.SourceError.{SourceError}
 use Rattle.roopl_judge.specs.declared.error.SourceError.TheVariants.{Refused, NoMemory}
-use Rattle.roopl_parser.specs.roopl_lexer.declared.error.LexError.{LexError}
-use Rattle.roopl_parser.specs.declared.error.ParseError.{ParseError}
+use Rattle.roopl_lexer.specs.declared.error.LexError.{LexError}
+use Rattle.token_limits.specs.roopl_parser.declared.error.ParseError.{ParseError}
 use Rattle.class_table.specs.class_rules.declared.error.ClassError.{ClassError}
-use Rattle.roopl_parser.specs.roopl_lexer.declared.error.LexError.TheVariants as lex
-use Rattle.roopl_parser.specs.declared.error.ParseError.TheVariants as parse
+use Rattle.roopl_lexer.specs.declared.error.LexError.TheVariants as lex
+use Rattle.token_limits.specs.roopl_parser.declared.error.ParseError.TheVariants as parse
 use Rattle.class_table.specs.class_rules.declared.error.ClassError.TheVariants as class
 
 -- the refusal that an error is; `NoMemory` is none

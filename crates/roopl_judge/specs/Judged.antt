@@ -1,52 +1,51 @@
 -- How a text is checked: it is a program that every rule accepts, or it has a first refusal.
-use Rattle.std.specs.Prelude.{◌≡◌, ◌≢◌, ℕ, List, length, Some, None, Result, Ok, Err}
-use Rattle.rpp_tree.specs.declared.limits.LimitKind.TheVariants.{Tokens}
+use Rattle.std.specs.Prelude.{◌≡◌, ℕ, List, length, Some, None, Result, Ok, Err}
 use Rattle.rpp_tree.specs.Limits.{IsWithinLimits}
 use Rattle.rpp_tree.specs.Tree.{Source}
-use Rattle.roopl_parser.specs.roopl_lexer.declared.token.Token.{Token}
-use Rattle.roopl_parser.specs.roopl_lexer.declared.error.LexError.{LexError}
-use Rattle.roopl_parser.specs.roopl_lexer.Tokens.{Cut, IsCutting}
-use Rattle.roopl_parser.specs.declared.error.ParseError.{ParseError}
-use Rattle.roopl_parser.specs.declared.error.ParseError.TheVariants.{Syntax, Limit, NoMemory}
-use Rattle.roopl_parser.specs.Grammar.{Derives}
-use Rattle.roopl_parser.specs.Viable.{IsWrongAt, IsReached, first_limit}
+use Rattle.roopl_lexer.specs.declared.token.Token.{Token}
+use Rattle.roopl_lexer.specs.declared.error.LexError.TheVariants.{BadByte}
+use Rattle.roopl_lexer.specs.declared.error.LexError.TheVariants.{NumberTooLarge}
+use Rattle.roopl_lexer.specs.Tokens.{Cut, IsCutting}
+use Rattle.token_limits.specs.roopl_parser.Grammar.{Derives}
+use Rattle.token_limits.specs.roopl_parser.Viable.{IsWrongAt}
+use Rattle.token_limits.specs.Limits.{Begins, first_limit}
 use Rattle.class_table.specs.class_rules.declared.error.ClassError.{ClassError}
-use Rattle.class_table.specs.class_rules.Program.{IsAccepted, check_program}
-use Rattle.class_table.specs.class_rules.Refusal.{Refusal}
+use Rattle.class_table.specs.class_rules.Program.{check_program}
+use Rattle.class_table.specs.class_rules.Refusal.{Refusal, refused}
+use Rattle.class_table.specs.class_rules.Statements.{passed}
 use Rattle.class_table.specs.class_rules.Table.{HasClassTable, first_class_refusal}
-use Rattle.roopl_judge.specs.Errors.{lex_refusal, parse_refusal, class_refusal}
-
--- the first refusal of tokens: one of them is wrong and none before it passes a limit, or one
--- passes a limit
-abbrev pub IsTreeRefusal : List Token → ℕ → ParseError → Type 0
-IsTreeRefusal tokens end (Syntax at) = IsWrongAt end tokens at × (first_limit tokens ≡ None)
-IsTreeRefusal tokens end (Limit which at) = (first_limit tokens ≡ Some (Limit which at))
-    × (which ≢ Tokens → IsReached tokens at)
-IsTreeRefusal tokens end NoMemory = ⊥
+use Rattle.roopl_judge.specs.Errors.{class_refusal}
 
 -- the syntax tree of a text within the limits
 pub record HasTree (text : List ℕ) (tokens : List Token) (program : Source) : Type 0 where
   pub cutting : IsCutting text tokens
   pub derives : Derives tokens program
-  pub no_limit : first_limit tokens ≡ None
-  pub within : IsWithinLimits program
+  pub no_limit : first_limit tokens tokens ≡ None
 
--- a text's syntax tree, whatever its tokens are
+-- a text's syntax tree, whatever its tokens are, with the limits that it keeps
 pub record IsTree (text : List ℕ) (program : Source) : Type 0 where
   pub tokens : List Token
   pub tree : HasTree text tokens program
+  pub within : IsWithinLimits program
 
 -- the lexer comes first, then the grammar with its limits, then the class table, then the types
 pub data IsJudged (text : List ℕ) : Result Source Refusal → Type 0 where
-  no_tokens : (tokens : List Token) (error : LexError) (refusal : Refusal)
-      → Cut 0 text tokens (Some error)
-      → lex_refusal error ≡ Some refusal
-      → IsJudged text (Err refusal)
-  no_tree : (tokens : List Token) (error : ParseError) (refusal : Refusal)
+  bad_byte : (tokens : List Token) (at : ℕ)
+      → Cut 0 text tokens (Some (BadByte at))
+      → IsJudged text (Err (refused 1 at))
+  too_large : (tokens : List Token) (at : ℕ)
+      → Cut 0 text tokens (Some (NumberTooLarge at))
+      → IsJudged text (Err (refused 2 at))
+  wrong_token : (tokens : List Token) (at : ℕ)
       → IsCutting text tokens
-      → IsTreeRefusal tokens (length text) error
-      → parse_refusal error ≡ Some refusal
-      → IsJudged text (Err refusal)
+      → (wrong : IsWrongAt (length text) tokens at)
+      → first_limit tokens wrong.front ≡ None
+      → IsJudged text (Err (refused 3 at))
+  limit_passed : (tokens : List Token) (at : ℕ)
+      → IsCutting text tokens
+      → (begun : Begins tokens)
+      → first_limit tokens begun.front ≡ Some at
+      → IsJudged text (Err (refused 4 at))
   no_table : (tokens : List Token) (program : Source) (error : ClassError) (refusal : Refusal)
       → HasTree text tokens program
       → first_class_refusal program (length text) ≡ Some error
@@ -59,5 +58,6 @@ pub data IsJudged (text : List ℕ) : Result Source Refusal → Type 0 where
       → IsJudged text (Err refusal)
   accepted : (tokens : List Token) (program : Source)
       → HasTree text tokens program
-      → IsAccepted program
+      → HasClassTable program
+      → check_program program ≡ passed
       → IsJudged text (Ok program)

@@ -7,8 +7,8 @@ ghost use Rattle.roopl_judge.specs.declared.error.SourceError.TheVariants.{NoMem
 use class_table::ClassError;
 use reversible_types::TypeError;
 use roopl_lexer::LexError;
-use roopl_parser::ParseError;
 use std::alloc::{AllocError, AllocFailed};
+use token_limits::ParseError;
 
 /// Why a source is no program.
 #[derive(Debug, Drop)]

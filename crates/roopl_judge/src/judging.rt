@@ -3,8 +3,8 @@ ghost use Rattle.std.specs.Prelude.{◌≡◌, ◌≤◌, length, IfOk, IfErr, O
 ghost use Rattle.rpp_tree.specs.declared.limits.TheConstants.{MOST_BYTES};
 ghost use Rattle.rpp_tree.specs.Views.{source_of};
 ghost use Rattle.class_table.specs.class_rules.Table.{table_of, HasClassTable};
-ghost use Rattle.roopl_parser.specs.roopl_lexer.Readable.{AreReadable};
-ghost use Rattle.roopl_parser.specs.roopl_lexer.Tokens.{IsCutting};
+ghost use Rattle.roopl_lexer.specs.Readable.{AreReadable};
+ghost use Rattle.roopl_lexer.specs.Tokens.{IsCutting};
 ghost use Rattle.roopl_judge.specs.Errors.{IfRefused};
 ghost use Rattle.roopl_judge.specs.Judged.{IsTree, IsJudged};
 
@@ -12,9 +12,9 @@ use crate::error::{SourceError, of_class_table, of_lexer, of_parser, of_types};
 use class_table::{Checked, ClassTable};
 use reversible_types::check;
 use roopl_lexer::{Token, lex};
-use roopl_parser::parse;
 use rpp_tree::tree::Program;
 use std::alloc::Global;
+use token_limits::parse;
 
 /// The program of a text, or its first refusal.
 pub fn judge(alloc: Global, text: &[u8]) -> Result<Checked, SourceError>

@@ -1,5 +1,5 @@
 //! The check of a source: lexer, parser, class table and types in their order. The layer above may
-//! use `judge` and the law `one_judgement`.
+//! use `judge` and the laws `one_judgement` and `judged_is_accepted`.
 #![tactic(auto)]
 
 mod error;
@@ -8,4 +8,4 @@ mod laws;
 
 pub use error::SourceError;
 pub use judging::judge;
-pub use laws::one_judgement;
+pub use laws::{judged_is_accepted, one_judgement};

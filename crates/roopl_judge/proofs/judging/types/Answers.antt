@@ -10,7 +10,8 @@ use Rattle.roopl_judge.proofs.judging.types.Goals as goal
 pub returns-in-Ok-clause-accepted : goal.returns-in-Ok-clause-accepted
 returns-in-Ok-clause-accepted c =
     subst (λ (p : Program). IsJudged c.args._text.now (Ok (source_of p))) (sym c.in-Ok.ensures.checked)
-    (accepted c.requires.tree.tokens (source_of c.args.program) c.requires.tree.tree c.in-Ok.ensures.accepted)
+    (accepted c.requires.tree.tokens (source_of c.args.program) c.requires.tree.tree c.requires.classes
+    c.in-Ok.ensures.accepted.types)
 
 pub returns-in-Err-clause-refused : goal.returns-in-Err-clause-refused
 returns-in-Err-clause-refused c =

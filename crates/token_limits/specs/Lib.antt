@@ -1,0 +1,3 @@
+pub use Rattle.roopl_parser.specs as roopl_parser
+pub mod Limits
+pub mod Laws
