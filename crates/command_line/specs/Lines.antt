@@ -3,6 +3,7 @@ use Rattle.std.specs.Prelude.{ℕ, ◌^◌, ◌<◌, List, [], ◌∷◌, length
 use Rattle.std.specs.Prelude.{None, Some, option_map, if◌then◌else◌, nat_le, nat_lt, ◌&&◌}
 use Rattle.std.specs.Prelude.{string_bytes, codes, ◌≤◌, map}
 use Rattle.std.specs.declared.option.Option.{Option}
+use Rattle.std.specs.Option.{option_and_then}
 use Rattle.std.specs.Str.{bytes_eq}
 use Rattle.command_line.specs.declared.line.Line.{Line}
 use Rattle.command_line.specs.declared.line.FilesCommand.{FilesCommand}
@@ -84,34 +85,24 @@ up_to most None = None
 up_to most (Some n) = if nat_lt 0 n && nat_le n most then Some n else None
 
 -- the sizes of a memory that two words are: the order of the heap, and the depth of the stack
-abbrev pub room_with : (heap deep : Option ℕ) → Option Room
-room_with (Some heap) (Some deep) = Some (record { heap = heap; deep = deep })
-room_with _ _ = None
-
 abbrev pub room_of : (heap deep : List ℕ) → Option Room
-room_of heap deep = room_with (number_of heap) (number_of deep)
+room_of heap deep =
+    option_and_then (λ heap. option_map (λ deep. record { heap = heap; deep = deep })
+    (number_of deep)) (number_of heap)
 
 -- the sizes of a run that three words are: those of its memory, and the number of steps
-abbrev pub sizes_with : Option Room → (steps : Option ℕ) → Option Sizes
-sizes_with (Some room) (Some steps) = Some (record { room = room; bound = steps })
-sizes_with _ _ = None
-
 abbrev pub sizes_of : (heap deep steps : List ℕ) → Option Sizes
-sizes_of heap deep steps = sizes_with (room_of heap deep) (number_of steps)
+sizes_of heap deep steps =
+    option_and_then (λ room. option_map (λ steps. record { room = room; bound = steps })
+    (number_of steps)) (room_of heap deep)
 
 -- a file, the sizes of a run, and the file of an input, if there is one
-abbrev pub program_with : (List ℕ → Sizes → Option (List ℕ) → Asked)
-    → List ℕ → Option Sizes → Option (List ℕ) → Option Asked
-program_with make file (Some sizes) input =
-    Some (make file sizes input)
-program_with make file None input = None
-
 abbrev pub program_line_of : (List ℕ → Sizes → Option (List ℕ) → Asked)
     → List (List ℕ) → Option Asked
 program_line_of make (file ∷ heap ∷ deep ∷ steps ∷ []) =
-    program_with make file (sizes_of heap deep steps) None
+    option_map (λ sizes. make file sizes None) (sizes_of heap deep steps)
 program_line_of make (file ∷ heap ∷ deep ∷ steps ∷ input ∷ []) =
-    program_with make file (sizes_of heap deep steps) (Some input)
+    option_map (λ sizes. make file sizes (Some input)) (sizes_of heap deep steps)
 program_line_of make _ = None
 
 -- the line of each command of these words
@@ -122,82 +113,56 @@ line_of_program program.Turn = Turn
 line_of_program program.Explain = Explain
 
 -- a file, and the sizes of a run
-abbrev pub profile_with : List ℕ → Option Sizes → Option Asked
-profile_with file (Some sizes) = Some (Profile file sizes)
-profile_with file None = None
-
 abbrev pub profile_line_of : List (List ℕ) → Option Asked
-profile_line_of (file ∷ heap ∷ deep ∷ steps ∷ []) = profile_with file (sizes_of heap deep steps)
+profile_line_of (file ∷ heap ∷ deep ∷ steps ∷ []) =
+    option_map (Profile file) (sizes_of heap deep steps)
 profile_line_of _ = None
 
 -- a file, the sizes of a run, the names of results, and the file of an input, if there is one
-abbrev pub wrap_with : List ℕ → Option Sizes → (names : List ℕ) → Option (List ℕ) → Option Asked
-wrap_with file (Some sizes) names input =
-    Some (Wrap file sizes names input)
-wrap_with file None names input = None
-
 abbrev pub wrap_line_of : List (List ℕ) → Option Asked
 wrap_line_of (file ∷ heap ∷ deep ∷ steps ∷ names ∷ []) =
-    wrap_with file (sizes_of heap deep steps) names None
+    option_map (λ sizes. Wrap file sizes names None) (sizes_of heap deep steps)
 wrap_line_of (file ∷ heap ∷ deep ∷ steps ∷ names ∷ input ∷ []) =
-    wrap_with file (sizes_of heap deep steps) names (Some input)
+    option_map (λ sizes. Wrap file sizes names (Some input)) (sizes_of heap deep steps)
 wrap_line_of _ = None
 
 -- an image, the sizes of a run, and the files of two states, if there are such
-abbrev pub run_with : List ℕ → Option Sizes → (state save : Option (List ℕ)) → Option Asked
-run_with image (Some sizes) state save =
-    Some (RunImage image sizes state save)
-run_with image None state save = None
-
 abbrev pub run_line_of : List (List ℕ) → Option Asked
 run_line_of (image ∷ heap ∷ deep ∷ steps ∷ []) =
-    run_with image (sizes_of heap deep steps) None None
+    option_map (λ sizes. RunImage image sizes None None) (sizes_of heap deep steps)
 run_line_of (image ∷ heap ∷ deep ∷ steps ∷ state ∷ save ∷ []) =
-    run_with image (sizes_of heap deep steps) (state_named state) (Some save)
+    option_map (λ sizes. RunImage image sizes (state_named state) (Some save))
+    (sizes_of heap deep steps)
 run_line_of _ = None
 
 -- a seed, a number of items, and a file
-abbrev pub generate_with : Option ℕ → Option ℕ → List ℕ → Option Asked
-generate_with (Some seed) (Some size) out = Some (Generate seed size out)
-generate_with _ _ out = None
-
 abbrev pub generate_line_of : List (List ℕ) → Option Asked
-generate_line_of (seed ∷ size ∷ out ∷ []) = generate_with (number_of seed)
-    (up_to MOST_ITEMS (number_of size)) out
+generate_line_of (seed ∷ size ∷ out ∷ []) =
+    option_and_then (λ seed. option_map (λ size. Generate seed size out)
+    (up_to MOST_ITEMS (number_of size))) (number_of seed)
 generate_line_of _ = None
 
 -- a script, a number of cells that processors have in common, and images, of which there are one
 -- to eight
-abbrev pub cluster_with : List ℕ → Option ℕ → List (List ℕ) → Option Asked
-cluster_with script (Some cells) images =
-    if nat_lt 0 (length images) && nat_le (length images) MOST_PROCESSORS
-    then Some (Cluster script cells images) else None
-cluster_with script None images = None
-
 abbrev pub cluster_line_of : List (List ℕ) → Option Asked
 cluster_line_of (script ∷ cells ∷ images) =
-    cluster_with script (up_to MOST_COMMON (number_of cells)) images
+    option_and_then (λ cells. if nat_lt 0 (length images)
+    && nat_le (length images) MOST_PROCESSORS then Some (Cluster script cells images) else None)
+    (up_to MOST_COMMON (number_of cells))
 cluster_line_of _ = None
 
 -- an image, the sizes of a memory, and the file of a script
-abbrev pub debug_with : List ℕ → Option Room → List ℕ → Option Asked
-debug_with image (Some room) script = Some (Debug image room script)
-debug_with image None script = None
-
 abbrev pub debug_line_of : List (List ℕ) → Option Asked
-debug_line_of (image ∷ heap ∷ deep ∷ script ∷ []) = debug_with image (room_of heap deep) script
+debug_line_of (image ∷ heap ∷ deep ∷ script ∷ []) =
+    option_map (λ room. Debug image room script) (room_of heap deep)
 debug_line_of _ = None
 
 -- a program, the sizes of a memory, the file of a script, and that of an input, if there is one
-abbrev pub trace_with : List ℕ → Option Room → (script : List ℕ) → Option (List ℕ) → Option Asked
-trace_with file (Some room) script input = Some (Trace file room script input)
-trace_with file None script input = None
-
 abbrev pub trace_line_of : List (List ℕ) → Option Asked
 trace_line_of (file ∷ heap ∷ deep ∷ script ∷ []) =
-    trace_with file (room_of heap deep) script None
+    option_map (λ room. Trace file room script None) (room_of heap deep)
 trace_line_of (file ∷ heap ∷ deep ∷ script ∷ input ∷ []) =
-    trace_with file (room_of heap deep) script (Some input)
+    option_map (λ room. Trace file room script (Some input)) (room_of heap deep)
 trace_line_of _ = None
 
 abbrev pub check_line_of : List (List ℕ) → Option Asked

@@ -1,6 +1,6 @@
 // What the words ask for.
 ghost use Rattle.std.specs.Prelude.{◌≡◌, ◌<◌, ◌≤◌, ◌^◌, map, option_map, IfOk, IfSome, string_bytes};
-ghost use Rattle.command_line.specs.Lines.{asked, line_of, source_line_of, check_line_of, files_line_of, line_of_files, generate_line_of, cluster_line_of, run_line_of, run_with as run_asked, debug_line_of, trace_line_of, trace_with as trace_asked, program_with as program_asked, program_line_of, line_of_program, profile_line_of, wrap_line_of, wrap_with as wrap_asked, room_of, sizes_of, up_to, number_of, HasShortRoom, HasShortSizes, HasShortNumbers};
+ghost use Rattle.command_line.specs.Lines.{Trace, RunImage, Wrap, asked, line_of, source_line_of, check_line_of, files_line_of, line_of_files, generate_line_of, cluster_line_of, run_line_of, debug_line_of, trace_line_of, program_line_of, line_of_program, profile_line_of, wrap_line_of, room_of, sizes_of, up_to, number_of, HasShortRoom, HasShortSizes, HasShortNumbers};
 ghost use Rattle.command_line.specs.declared.line.TheConstants.{MOST_ITEMS, MOST_COMMON};
 ghost use Rattle.command_plan.specs.Files.{state_of_names, save_of_names};
 
@@ -313,7 +313,8 @@ fn run_with(
 ) -> Result<Option<Line>, NoMemory>
     requires { IfSome sizes HasShortSizes }
     ensures line { IfOk result (λ line. option_map asked line
-        ≡ run_asked (string_bytes image.now) sizes (state_of_names states) (save_of_names states)) }
+        ≡ option_map (λ sizes. RunImage (string_bytes image.now) sizes (state_of_names states)
+        (save_of_names states)) sizes) }
     ensures numbers { IfOk result (λ line. IfSome line (λ line. HasShortNumbers (asked line))) }
 {
     let Some(sizes) = sizes else {
@@ -381,8 +382,8 @@ fn program_with(
 ) -> Result<Option<Line>, NoMemory>
     requires { IfSome sizes HasShortSizes }
     ensures line { IfOk result (λ line. option_map asked line
-        ≡ program_asked (line_of_program command) (string_bytes file.now) sizes
-        (option_map string_bytes input)) }
+        ≡ option_map (λ sizes. line_of_program command (string_bytes file.now) sizes
+        (option_map string_bytes input)) sizes) }
     ensures numbers { IfOk result (λ line. IfSome line (λ line. HasShortNumbers (asked line))) }
 {
     let Some(sizes) = sizes else {
@@ -471,8 +472,8 @@ fn wrap_with(
 ) -> Result<Option<Line>, NoMemory>
     requires { IfSome sizes HasShortSizes }
     ensures line { IfOk result (λ line. option_map asked line
-        ≡ wrap_asked (string_bytes file.now) sizes (string_bytes names.now)
-        (option_map string_bytes input)) }
+        ≡ option_map (λ sizes. Wrap (string_bytes file.now) sizes (string_bytes names.now)
+        (option_map string_bytes input)) sizes) }
     ensures numbers { IfOk result (λ line. IfSome line (λ line. HasShortNumbers (asked line))) }
 {
     let Some(sizes) = sizes else {
@@ -510,8 +511,8 @@ fn trace_with(
 ) -> Result<Option<Line>, NoMemory>
     requires { IfSome room HasShortRoom }
     ensures line { IfOk result (λ line. option_map asked line
-        ≡ trace_asked (string_bytes file.now) room (string_bytes script.now)
-        (option_map string_bytes input)) }
+        ≡ option_map (λ room. Trace (string_bytes file.now) room (string_bytes script.now)
+        (option_map string_bytes input)) room) }
     ensures numbers { IfOk result (λ line. IfSome line (λ line. HasShortNumbers (asked line))) }
 {
     let Some(room) = room else {
