@@ -1,8 +1,8 @@
 -- The positions of names in two lists, one after the other.
-use Rattle.std.proofs.Common.{◌≡◌, ◌<◌, ◌≤◌, ℕ, suc, ◌+◌, refl, sym, ap, ◌∙◌, arith, List, [], ◌∷◌, ◌++◌, length}
-use Rattle.std.proofs.Common.{Bool, true, false, Some, None}
+use Rattle.std.proofs.Common.{◌≡◌, ◌<◌, ◌≤◌, ℕ, suc, ◌+◌, refl, sym, ap, subst, ◌∙◌, arith, List, [], ◌∷◌, ◌++◌, length}
+use Rattle.std.proofs.Common.{Bool, true, false, Some, None, map}
 use Rattle.std.proofs.lemmas.Bool.{ltb-true, ltb-false, lt-ltb, le-ltb}
-use Rattle.std.specs.Prelude.{Option, position, nat_lt, not, cond}
+use Rattle.std.specs.Prelude.{Option, IfSome, position, nat_lt, not, cond}
 use Rattle.std.specs.List.{position_or_len}
 use Rattle.std.specs.Option.{option_map}
 
@@ -55,6 +55,25 @@ position_both p [] ys = none_more (position p ys)
 position_both p (x ∷ xs) ys = position_cons p x (xs ++ ys) ∙ ap (after_first (p x)) (position_both p xs ys)
     ∙ one_more (p x) (length xs) (position p xs) (position p ys)
     ∙ ap (λ r. or_later (suc (length xs)) r (position p ys)) (sym (position_cons p x xs))
+
+-- a position is below the length
+pub position_within : {A : Type 0} (p : A → Bool) (xs : List A) (r : Option ℕ) → r ≡ position p xs
+    → IfSome r (λ at. at < length xs)
+position_within p xs r e = by (nat_lt (position_or_len p xs) (length xs)) refl
+  where
+    by : (t : Bool) → nat_lt (position_or_len p xs) (length xs) ≡ t → IfSome r (λ at. at < length xs)
+    by true h = subst (λ r. IfSome r (λ at. at < length xs))
+        (sym (e ∙ ap (λ b. cond b (Some (position_or_len p xs)) None) h))
+        (ltb-true (position_or_len p xs) (length xs) h)
+    by false h = subst (λ r. IfSome r (λ at. at < length xs))
+        (sym (e ∙ ap (λ b. cond b (Some (position_or_len p xs)) None) h)) tt
+
+-- the position among the images of elements
+pub position_in_map : {A B : Type 0} (p : B → Bool) (f : A → B) (xs : List A)
+    → position (λ x. p (f x)) xs ≡ position p (map f xs)
+position_in_map p f [] = refl
+position_in_map p f (x ∷ xs) = position_cons (λ x. p (f x)) x xs
+    ∙ ap (after_first (p (f x))) (position_in_map p f xs) ∙ sym (position_cons p (f x) (map f xs))
 
 module _ {A : Type 0} (p : A → Bool) (xs ys : List A) where
   pub position_front : (i : ℕ) → Some i ≡ position p xs → Some i ≡ position p (xs ++ ys)

@@ -5,12 +5,14 @@ ghost use Rattle.source_store.specs.class_rules.Classes.{class_fields};
 ghost use Rattle.source_store.specs.roopl_semantics.Store.{Nil, class_of_head, object_at};
 ghost use Rattle.source_store.specs.roopl_semantics.Value.{read, written, cell_named, value_at, variable_value};
 ghost use Rattle.source_store.specs.class_rules.Members.{field_of};
+ghost use Rattle.source_store.specs.class_rules.Table.{field_in as field_in_table};
 ghost use Rattle.source_store.specs.ValueView.{value_of, values_of};
 ghost use Rattle.source_steps.specs.CellView.{cell_of};
 ghost use Rattle.source_steps.specs.StateView.{IsFramed, names_of, frame_of, state_of, setting_of};
 
 use crate::expressions::Setting;
-use crate::scope::{Scope, slot};
+use crate::scope::{Scope, slot, var_slot};
+use class_table::ClassTable;
 use rpp_tree::Text;
 use source_store::{Heap, Value};
 
@@ -68,19 +70,33 @@ pub fn read_cell(
     }
 }
 
+/// If a class has no more fields than this, each is compared: that takes less time than a map.
+const FEW_FIELDS: usize = 8;
+
+/// The number of the field of this name.
+fn field_in(table: &ClassTable, class: u32, name: &Text) -> Option<usize>
+    ensures { result ≡ field_in_table table.now class name.now }
+{
+    let fields = table.fields(class);
+    if fields.len() <= FEW_FIELDS {
+        return var_slot(fields, name);
+    }
+    match table.field_of(class, name) {
+        None => None,
+        Some(number) => Some(number as usize),
+    }
+}
+
 /// The number of a field of the current object.
 fn field_number(setting: &Setting, heap: &Heap, name: &Text) -> usize
     ensures { result ≡ unwrap_or
         (field_of (class_fields (setting_of setting.now).program
         (class_of_head (object_at (heap.now.store) setting.now.object).head)) name.now) 0 }
 {
-    match setting
-        .checked
-        .table()
-        .field_of(heap.class_of(setting.object), name)
-    {
+    let class = heap.class_of(setting.object);
+    match field_in(setting.checked.table(), class, name) {
         None => 0,
-        Some(number) => number as usize,
+        Some(number) => number,
     }
 }
 

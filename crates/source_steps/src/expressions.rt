@@ -1,5 +1,5 @@
 // The values of expressions and places.
-ghost use Rattle.std.specs.Prelude.{◌≡◌, ◌<◌, ◌≤◌, Result, Ok, IfSome};
+ghost use Rattle.std.specs.Prelude.{◌≡◌, ◌<◌, ◌≤◌, Ok, IfSome, true};
 ghost use Rattle.rpp_tree.specs.Tree.{nodes, index_nodes};
 ghost use Rattle.rpp_tree.specs.Views.{expression_of, lvalue_of};
 ghost use Rattle.source_store.specs.roopl_semantics.Operators.{truth_word, operated};
@@ -10,7 +10,7 @@ ghost use Rattle.source_steps.specs.CellView.{cell_of};
 ghost use Rattle.source_steps.specs.Metered.{left_of};
 ghost use Rattle.source_steps.specs.StateView.{IsFramed, element_in, state_of, setting_of, seen};
 
-use crate::cell::{Cell, cell_of_name, read_cell};
+use crate::cell::{Cell, cell_of_name, read_cell, variable};
 use crate::scope::Scope;
 use class_table::Checked;
 use rpp_tree::tree::{BinOp, Expr, Place};
@@ -29,12 +29,34 @@ pub struct Setting<'a> {
     pub depth: u32,
 }
 
+/// Fuel after a cost, if there is enough.
+fn less_by(fuel: u64, cost: u64) -> Option<u64>
+    requires { 0 < cost }
+    ensures left { result ≡ left_of fuel cost }
+    ensures less { IfSome result (λ left. left < fuel) }
+{
+    if fuel < cost { None } else { Some(fuel - cost) }
+}
+
 /// Fuel after one more cost, if there is enough.
 pub fn one_less(fuel: u64) -> Option<u64>
     ensures left { result ≡ left_of fuel 1 }
     ensures less { IfSome result (λ left. left < fuel) }
 {
     if fuel == 0 { None } else { Some(fuel - 1) }
+}
+
+/// Whether an expression is a literal or a variable, which has one node.
+#[inline(always)]
+fn is_leaf(e: &Expr) -> bool
+    ensures { result ≡ true → nodes (expression_of e.now) ≡ 1 }
+{
+    match e {
+        Expr::Number { .. } => true,
+        Expr::Nil { .. } => true,
+        Expr::Read(place) => place.index.is_none(),
+        Expr::Binary { .. } => false,
+    }
 }
 
 /// Fuel after the nodes of an expression.
@@ -50,13 +72,18 @@ pub fn pay(fuel: u64, e: &Expr) -> Option<u64>
             None => None,
             Some(left) => pay_place(left, place),
         },
-        Expr::Binary { left, right, .. } => match one_less(fuel) {
-            None => None,
-            Some(fuel) => match pay(fuel, left) {
+        Expr::Binary { left, right, .. } => {
+            if is_leaf(left) && is_leaf(right) {
+                return less_by(fuel, 3);
+            }
+            match one_less(fuel) {
                 None => None,
-                Some(fuel) => pay(fuel, right),
-            },
-        },
+                Some(fuel) => match pay(fuel, left) {
+                    None => None,
+                    Some(fuel) => pay(fuel, right),
+                },
+            }
+        }
     }
 }
 
@@ -129,6 +156,43 @@ fn element(heap: &Heap, array: Value, index: u32) -> Result<Cell, u32>
     }
 }
 
+/// The value of a literal or a variable; nothing of another expression.
+#[inline(always)]
+pub fn leaf(
+    setting: &Setting,
+    scope: &Scope,
+    heap: &Heap,
+    values: &[Value],
+    e: &Expr,
+) -> Option<Value>
+    requires { IsFramed setting.now scope.now heap.now values.now }
+    ensures one { IfSome result (λ _. nodes (expression_of e.now) ≡ 1) }
+    ensures value { IfSome result (λ found. Ok (value_of found)
+        ≡ value_in (setting_of setting.now).program
+        (state_of setting.now scope.now heap.now values.now) (expression_of e.now)) }
+{
+    match e {
+        Expr::Number { word, .. } => Some(Value::Word(*word)),
+        Expr::Nil { .. } => Some(Value::Nil),
+        Expr::Read(place) => match &place.index {
+            None => Some(variable(setting, scope, heap, values, &place.name.text)),
+            Some(_index) => None,
+        },
+        Expr::Binary { .. } => None,
+    }
+}
+
+/// An operator on a value and the value of the second operand, or the fault of that.
+fn combined_with(op: BinOp, first: Value, second: Result<Value, u32>) -> Result<Value, u32>
+    ensures { seen value_of result
+        ≡ combined op (Ok (value_of first)) (seen value_of second) }
+{
+    match second {
+        Ok(second) => Ok(combine(op, first, second)),
+        Err(fault) => Err(fault),
+    }
+}
+
 /// The value of an expression, or the fault that its evaluation meets first.
 #[cycle(values)]
 pub fn value(
@@ -154,11 +218,25 @@ pub fn value(
             left,
             right,
             ..
-        } => {
-            let first = value(setting, scope, heap, values, left)?;
-            let second = value(setting, scope, heap, values, right)?;
-            Ok(combine(*op, first, second))
-        }
+        } => match leaf(setting, scope, heap, values, left) {
+            None => match value(setting, scope, heap, values, left) {
+                Err(fault) => Err(fault),
+                Ok(first) => match leaf(setting, scope, heap, values, right) {
+                    None => {
+                        let second = value(setting, scope, heap, values, right);
+                        combined_with(*op, first, second)
+                    }
+                    Some(second) => Ok(combine(*op, first, second)),
+                },
+            },
+            Some(first) => match leaf(setting, scope, heap, values, right) {
+                None => {
+                    let second = value(setting, scope, heap, values, right);
+                    combined_with(*op, first, second)
+                }
+                Some(second) => Ok(combine(*op, first, second)),
+            },
+        },
     }
 }
 

@@ -17,42 +17,48 @@ pub struct Scope<'a> {
     pub params: &'a [Var],
 }
 
+/// Whether a local has this name.
+fn is_local(own: &[u8], name: &Text) -> bool
+    ensures { result ≡ bytes_eq name.now own.now }
+{
+    name.bytes() == own
+}
+
+/// Whether a field or parameter has this name.
+fn is_var(var: &Var, name: &Text) -> bool
+    ensures { result ≡ bytes_eq name.now var.now.name.text }
+{
+    *name == var.name.text
+}
+
+/// The place of the first local of this name.
+fn first_local(locals: &[&[u8]], name: &Text) -> Option<usize>
+    ensures { result ≡ position (λ own. bytes_eq name.now own.now) locals.now }
+{
+    locals.iter().position(|own| is_local(own, name))
+}
+
+/// The place of the first field or parameter of this name.
+fn first_var(vars: &[Var], name: &Text) -> Option<usize>
+    ensures { result ≡ position (λ var. bytes_eq name.now var.name.text) vars.now }
+{
+    vars.iter().position(|var| is_var(var, name))
+}
+
 /// The place of the local of this name.
 fn local_slot(locals: &[&[u8]], name: &Text) -> Option<usize>
     ensures place { result ≡ position (bytes_eq name.now) (map (λ own. own.now) locals.now) }
     ensures within { IfSome result (λ at. at < length locals.now) }
 {
-    match locals {
-        [] => None,
-        [own, rest @ ..] => {
-            if name.bytes() == *own {
-                return Some(0);
-            }
-            match local_slot(rest, name) {
-                None => None,
-                Some(at) => Some(at + 1),
-            }
-        }
-    }
+    first_local(locals, name)
 }
 
-/// The place of the parameter of this name.
-fn param_slot(params: &[Var], name: &Text) -> Option<usize>
-    ensures place { result ≡ position (bytes_eq name.now) (map (λ var. var.name.text) params.now) }
-    ensures within { IfSome result (λ at. at < length params.now) }
+/// The place of the field or parameter of this name.
+pub(crate) fn var_slot(vars: &[Var], name: &Text) -> Option<usize>
+    ensures place { result ≡ position (bytes_eq name.now) (map (λ var. var.name.text) vars.now) }
+    ensures within { IfSome result (λ at. at < length vars.now) }
 {
-    match params {
-        [] => None,
-        [var, rest @ ..] => {
-            if *name == var.name.text {
-                return Some(0);
-            }
-            match param_slot(rest, name) {
-                None => None,
-                Some(at) => Some(at + 1),
-            }
-        }
-    }
+    first_var(vars, name)
 }
 
 /// The place of the innermost variable of this name.
@@ -64,7 +70,7 @@ pub fn slot(scope: &Scope, values: &[Value], name: &Text) -> Option<usize>
 {
     match local_slot(scope.locals, name) {
         Some(at) => Some(at),
-        None => match param_slot(scope.params, name) {
+        None => match var_slot(scope.params, name) {
             None => None,
             Some(at) => Some(scope.locals.len() + at),
         },

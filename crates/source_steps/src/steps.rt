@@ -9,8 +9,8 @@ ghost use Rattle.source_steps.specs.CellView.{cell_of};
 ghost use Rattle.source_steps.specs.Metered.{Gives, metered, IsOwn};
 ghost use Rattle.source_steps.specs.StateView.{IsFramed, state_of, setting_of};
 
-use crate::cell::Cell;
-use crate::expressions::{Setting, find, pay, pay_place, value};
+use crate::cell::{Cell, cell_of_name};
+use crate::expressions::{Setting, find, leaf, one_less, pay, pay_place, value};
 use crate::scope::Scope;
 use crate::stop::Stop;
 use rpp_tree::tree::{Expr, Place};
@@ -42,8 +42,8 @@ pub fn refuse(fuel: &mut u64, code: u32, test: bool) -> Result<(), Stop>
     Ok(())
 }
 
-/// The value of an expression, after the cost of its nodes.
-pub fn evaluate(
+/// The value of an expression that is no literal or variable, after the cost of its nodes.
+fn evaluate_whole(
     setting: &Setting,
     scope: &Scope,
     heap: &Heap,
@@ -71,8 +71,37 @@ pub fn evaluate(
     }
 }
 
-/// The cell of a place, after the cost of its index.
-pub fn locate(
+/// The value of an expression, after the cost of its nodes.
+pub fn evaluate(
+    setting: &Setting,
+    scope: &Scope,
+    heap: &Heap,
+    values: &Vec<Value>,
+    fuel: &mut u64,
+    e: &Expr,
+) -> Result<Value, Stop>
+    requires { IsFramed setting.now scope.now heap.now values.now.items }
+    ensures gives { Gives value_of result fuel.new
+        (metered fuel.old (evaluated_in (setting_of setting.now).program (expression_of e.now)
+        (state_of setting.now scope.now heap.now values.now.items))) }
+    ensures less { fuel.new ≤ fuel.old }
+    ensures some { IfOk result (λ value. fuel.new < fuel.old) }
+    ensures own { IfErr result IsOwn }
+{
+    match leaf(setting, scope, heap, values, e) {
+        None => evaluate_whole(setting, scope, heap, values, fuel, e),
+        Some(value) => match one_less(*fuel) {
+            None => Err(Stop::More),
+            Some(left) => {
+                *fuel = left;
+                Ok(value)
+            }
+        },
+    }
+}
+
+/// The cell of an element, after the cost of its index.
+fn locate_element(
     setting: &Setting,
     scope: &Scope,
     heap: &Heap,
@@ -96,6 +125,28 @@ pub fn locate(
                 Err(fault) => Err(Stop::Fault(fault)),
             }
         }
+    }
+}
+
+/// The cell of a place, after the cost of its index.
+pub fn locate(
+    setting: &Setting,
+    scope: &Scope,
+    heap: &Heap,
+    values: &Vec<Value>,
+    fuel: &mut u64,
+    place: &Place,
+) -> Result<Cell, Stop>
+    requires { IsFramed setting.now scope.now heap.now values.now.items }
+    ensures gives { Gives cell_of result fuel.new
+        (metered fuel.old (found_in (setting_of setting.now).program (lvalue_of place.now)
+        (state_of setting.now scope.now heap.now values.now.items))) }
+    ensures less { fuel.new ≤ fuel.old }
+    ensures own { IfErr result IsOwn }
+{
+    match &place.index {
+        None => Ok(cell_of_name(setting, scope, heap, values, &place.name.text)),
+        Some(_index) => locate_element(setting, scope, heap, values, fuel, place),
     }
 }
 
