@@ -30,7 +30,7 @@ pub struct Setting<'a> {
 }
 
 /// Fuel after a cost, if there is enough.
-fn less_by(fuel: u64, cost: u64) -> Option<u64>
+pub fn less_by(fuel: u64, cost: u64) -> Option<u64>
     requires { 0 < cost }
     ensures left { result ≡ left_of fuel cost }
     ensures less { IfSome result (λ left. left < fuel) }
@@ -128,7 +128,7 @@ fn word_of(op: BinOp, a: u32, b: u32) -> u32
 }
 
 /// An operator on two values.
-fn combine(op: BinOp, left: Value, right: Value) -> Value
+pub fn combine(op: BinOp, left: Value, right: Value) -> Value
     ensures { value_of result
         ≡ Word (operated op (number_of (value_of left)) (number_of (value_of right))) }
 {

@@ -10,7 +10,7 @@ ghost use Rattle.source_steps.specs.Metered.{Gives, metered, IsOwn};
 ghost use Rattle.source_steps.specs.StateView.{IsFramed, state_of, setting_of};
 
 use crate::cell::{Cell, cell_of_name};
-use crate::expressions::{Setting, find, leaf, one_less, pay, pay_place, value};
+use crate::expressions::{Setting, combine, find, leaf, less_by, one_less, pay, pay_place, value};
 use crate::scope::Scope;
 use crate::stop::Stop;
 use rpp_tree::tree::{Expr, Place};
@@ -42,8 +42,8 @@ pub fn refuse(fuel: &mut u64, code: u32, test: bool) -> Result<(), Stop>
     Ok(())
 }
 
-/// The value of an expression that is no literal or variable, after the cost of its nodes.
-fn evaluate_whole(
+/// The value of an expression of any form, after the cost of its nodes.
+fn evaluate_tree(
     setting: &Setting,
     scope: &Scope,
     heap: &Heap,
@@ -68,6 +68,48 @@ fn evaluate_whole(
                 Err(fault) => Err(Stop::Fault(fault)),
             }
         }
+    }
+}
+
+/// The same of one that is no literal or variable. An operator on two of these is done at once.
+fn evaluate_whole(
+    setting: &Setting,
+    scope: &Scope,
+    heap: &Heap,
+    values: &Vec<Value>,
+    fuel: &mut u64,
+    e: &Expr,
+) -> Result<Value, Stop>
+    requires { IsFramed setting.now scope.now heap.now values.now.items }
+    ensures gives { Gives value_of result fuel.new
+        (metered fuel.old (evaluated_in (setting_of setting.now).program (expression_of e.now)
+        (state_of setting.now scope.now heap.now values.now.items))) }
+    ensures less { fuel.new ≤ fuel.old }
+    ensures some { IfOk result (λ value. fuel.new < fuel.old) }
+    ensures own { IfErr result IsOwn }
+{
+    match e {
+        Expr::Binary {
+            op,
+            left,
+            right,
+            ..
+        } => match leaf(setting, scope, heap, values, left) {
+            None => evaluate_tree(setting, scope, heap, values, fuel, e),
+            Some(first) => match leaf(setting, scope, heap, values, right) {
+                None => evaluate_tree(setting, scope, heap, values, fuel, e),
+                Some(second) => match less_by(*fuel, 3) {
+                    None => Err(Stop::More),
+                    Some(rest) => {
+                        *fuel = rest;
+                        Ok(combine(*op, first, second))
+                    }
+                },
+            },
+        },
+        Expr::Number { .. } => evaluate_tree(setting, scope, heap, values, fuel, e),
+        Expr::Nil { .. } => evaluate_tree(setting, scope, heap, values, fuel, e),
+        Expr::Read(_place) => evaluate_tree(setting, scope, heap, values, fuel, e),
     }
 }
 
