@@ -1,7 +1,8 @@
 -- Blocks that are opened and closed, as the machine sees them.
-use Rattle.std.proofs.Common.{◌≡◌, ◌<◌, ℕ, suc, ◌+◌, refl, sym, ap, subst, ◌∙◌, arith, List, [], ◌∷◌, ◌++◌, map}
+use Rattle.std.proofs.Common.{◌≡◌, ◌<◌, ℕ, zero, suc, ◌+◌, refl, sym, ap, subst, ◌∙◌, arith, List, [], ◌∷◌, ◌++◌, map}
 use Rattle.std.proofs.Common.{reverse, length, All, Some}
-use Rattle.std.proofs.lemmas.List.{reverse-append, length-map, length-reverse}
+use Rattle.std.proofs.lemmas.List.{reverse-append, length-append, length-map, length-reverse}
+use Rattle.std.specs.Prelude.{slice_get, slice_set}
 use Rattle.std.proofs.lemmas.List.Elements.{All-push, All-pop}
 use Rattle.rpp_tree.specs.Tree.{End}
 use Rattle.source_steps.specs.meaning_machine.Machine.{Config, Open, Part as Runs, past_it, inside}
@@ -110,6 +111,48 @@ module _ (run new : Run) (frame next : Frame) (front : List Frame) (f : run.fram
         opens = subst (All IsOpen) (sym g) (All-push IsOpen front next all o);
         within = omega arith;
       })
+
+-- ---- lists of which the last is read and changed
+
+last_read : {A : Type 0} (front : List A) (x y : A) (n : ℕ) → n ≡ length front
+    → slice_get (front ++ x ∷ []) n ≡ Some y → x ≡ y
+last_read [] x y zero e h = cc
+last_read [] x y (suc n) e h = absurd (omega arith)
+last_read (z ∷ front) x y zero e h = absurd (omega arith)
+last_read (z ∷ front) x y (suc n) e h = last_read front x y n (omega arith) h
+
+last_changed : {A : Type 0} (front : List A) (x y : A) (n : ℕ) → n ≡ length front
+    → slice_set (front ++ x ∷ []) n y ≡ front ++ y ∷ []
+last_changed [] x y zero e = refl
+last_changed [] x y (suc n) e = absurd (omega arith)
+last_changed (z ∷ front) x y zero e = absurd (omega arith)
+last_changed (z ∷ front) x y (suc n) e = ap (λ l. z ∷ l) (last_changed front x y n (omega arith))
+
+-- the last of a list, and those before it
+pub record Ends {A : Type 0} (xs : List A) : Type 0 where
+  pub front : List A
+  pub last : A
+  pub is : xs ≡ front ++ last ∷ []
+
+pub some_last : {A : Type 0} (xs : List A) → 0 < length xs → Ends xs
+some_last [] h = absurd (omega arith)
+some_last (x ∷ []) h = record { front = []; last = x; is = refl }
+some_last (x ∷ (y ∷ xs)) h =
+    let rest : Ends (y ∷ xs) = some_last (y ∷ xs) (omega arith) in
+    record { front = x ∷ rest.front; last = rest.last; is = ap (λ l. x ∷ l) rest.is }
+
+-- the last of the open statements runs in another part
+pub part_set : (items front : List Frame) (frame old next : Frame) (part : Part) (last : ℕ)
+    → items ≡ front ++ frame ∷ [] → length items ≡ suc last → slice_get items last ≡ Some old
+    → next ≡ record old { part = part } → slice_set items last next ≡ front ++ record frame { part = part } ∷ []
+part_set items front frame old next part last f l g n =
+    let many : length items ≡ length front + 1 =
+    ap (λ (l : List Frame). length l) f ∙ length-append front (frame ∷ []) in
+    let at : last ≡ length front = omega arith in
+    let same : frame ≡ old =
+    last_read front frame old last at (sym (ap (λ (l : List Frame). slice_get l last) f) ∙ g) in
+    ap (λ (l : List Frame). slice_set l last next) f ∙ last_changed front frame next last at
+    ∙ ap (λ (k : Frame). front ++ k ∷ []) (n ∙ ap (λ (o : Frame). record o { part = part }) (sym same))
 
 -- the part of the innermost open statement
 abbrev pub in_front : (run : Run) (front : List Frame) (frame : Frame) → run.frames.items ≡ front ++ frame ∷ []

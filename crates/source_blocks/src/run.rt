@@ -1,11 +1,12 @@
 // The position of a run, and its moves between blocks.
-ghost use Rattle.std.specs.Prelude.{◌≡◌, ◌+◌, ◌<◌, ◌≤◌, ◌^◌, ◌∷◌, ◌++◌, [], suc, map, length, OnOk, OnErr, IfErr, MatchResult};
+ghost use Rattle.std.specs.Prelude.{◌≡◌, ◌+◌, ◌<◌, ◌≤◌, ◌^◌, List, ◌∷◌, ◌++◌, [], suc, map, length, OnOk, OnErr, IfErr, MatchResult};
 ghost use Rattle.source_steps.specs.meaning_machine.Machine.{past_it, inside, turned_to};
 ghost use Rattle.source_steps.specs.meaning_machine.Turned.{turn as turned_round};
 ghost use Rattle.source_steps.specs.StateView.{names_of};
 ghost use Rattle.source_blocks.specs.Blocks.{count_of};
 ghost use Rattle.source_blocks.specs.Tasks.{task_of};
 ghost use Rattle.source_blocks.specs.Opens.{part_of, IsCaller};
+ghost use Rattle.source_blocks.specs.declared.frames.Frame.{Frame};
 ghost use Rattle.source_blocks.specs.Runs.{IsSound, config_of, state_in, here_in, rest_in, leaving, going_on};
 
 use crate::frames::{Frame, Part, turn_frames};
@@ -89,7 +90,25 @@ pub fn close_block(run: &mut Run)
     }
 }
 
+/// An open statement runs in this part.
+fn put_part<'a>(frame: &mut Frame<'a>, part: Part<'a>)
+    ensures { frame.new ≡ record frame.old { part = part.entry } }
+{
+    frame.part = part;
+}
+
+/// The last of these open statements runs in this part.
+fn set_part<'a>(frames: &mut Vec<Frame<'a>>, last: usize, part: Part<'a>)
+    requires { length frames.old.items ≡ suc last }
+    ensures part { (front : List Frame) (frame : Frame) → frames.old.items ≡ front ++ frame ∷ []
+        → frames.new.items ≡ front ++ record frame { part = part.entry } ∷ [] }
+    ensures many { length frames.new.items ≡ length frames.old.items }
+{
+    put_part(&mut frames[last], part);
+}
+
 /// The innermost open statement goes on in this part.
+#[inline(always)]
 pub fn turn_to<'a>(run: &mut Run<'a>, part: Part<'a>, task: Task<'a>)
     requires sound { IsSound run.old }
     requires part { IsCaller part }
@@ -99,17 +118,11 @@ pub fn turn_to<'a>(run: &mut Run<'a>, part: Part<'a>, task: Task<'a>)
     ensures opens { length run.new.frames.items ≡ length run.old.frames.items }
     ensures setting { run.new.setting ≡ run.old.setting }
 {
-    match run.frames.pop() {
-        None => {}
-        Some(frame) => {
-            run.frames.push_reserved(Frame {
-                task: frame.task,
-                at: frame.at,
-                part,
-            });
-            run.task = task;
-            run.at = 0;
-        }
+    let count = run.frames.len();
+    if 0 < count {
+        set_part(&mut run.frames, count - 1, part);
+        run.task = task;
+        run.at = 0;
     }
 }
 
