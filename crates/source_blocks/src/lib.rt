@@ -15,6 +15,6 @@ mod values;
 pub use frames::{Caller, Closing, Frame, Local, Loop, Part, Receiver};
 pub use requests::{is_request, take_line_back};
 pub use run::{Run, close_block, open_block, pass, scope_of, turn, turn_to};
-pub use simple::carry_line;
-pub use task::{Calls, Construct, Line, Task, line_at};
+pub use simple::{carry_line, carry_out};
+pub use task::{Calls, Construct, Line, Task, line_at, statement_in};
 pub use values::{closing_value, value_in};

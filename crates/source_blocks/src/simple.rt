@@ -149,7 +149,7 @@ fn undo_statement(
 }
 
 /// A simple statement of the text, as it stands or undone.
-fn carry_out(run: &mut Run, fuel: &mut u64, s: &Stmt, back: bool) -> Result<(), Stop>
+pub fn carry_out(run: &mut Run, fuel: &mut u64, s: &Stmt, back: bool) -> Result<(), Stop>
     requires sound { IsSound run.old }
     requires simple { IsSimple (turned back (statement_of s.now)) }
     ensures gives { Gives (λ u. state_in run.new) result fuel.new

@@ -62,9 +62,10 @@ pub enum Line<'a> {
     Call(Calls<'a>),
 }
 
-/// The statement after so many of a block, in the direction that it runs.
+/// The statement after so many of a block of the text, in the direction that it runs.
 #[tactic(auto, using(crate::proofs::Blocks::block_count, crate::proofs::Blocks::line_forward, crate::proofs::Blocks::line_backward))]
-fn statement_in<'a>(block: &'a Block, back: bool, at: usize) -> Option<&'a Stmt>
+#[inline(always)]
+pub fn statement_in<'a>(block: &'a Block, back: bool, at: usize) -> Option<&'a Stmt>
     ensures past { IfNone result (count_of (in_direction back (block_of block.now)) ≤ at) }
     ensures within { IfSome result (λ s. at < count_of (in_direction back (block_of block.now))) }
     ensures statement { IfSome result (λ s. turned back (statement_of s.now)

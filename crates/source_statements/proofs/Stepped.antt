@@ -1,5 +1,6 @@
 -- A step of a run.
-use Rattle.std.proofs.Common.{◌≡◌, ◌<◌, ◌≤◌, ◌+◌, ◌*◌, ℕ, sym, ap, subst, arith, Bool, true, false}
+use Rattle.std.proofs.Common.{◌≡◌, ◌<◌, ◌≤◌, ◌+◌, ◌*◌, ◌∙◌, ℕ, sym, ap, subst, arith, Bool, true, false}
+use Rattle.rpp_tree.specs.Tree.{Statement, Statements}
 use Rattle.std.specs.Prelude.{Result, Ok, Err, OnOk}
 use Rattle.source_blocks.specs.roopl_semantics.Run.{◌>>=◌, spend}
 use Rattle.source_blocks.specs.roopl_semantics.Execution.{Setting}
@@ -10,7 +11,7 @@ use Rattle.source_blocks.specs.source_steps.Metered.{Went, metered, Failed, Give
 use Rattle.source_blocks.specs.source_steps.StateView.{setting_of}
 use Rattle.source_blocks.proofs.source_steps_laws.Fuelled.{goes, fails}
 use Rattle.source_blocks.specs.declared.run.Run.{Run}
-use Rattle.source_blocks.specs.Blocks.{count_of}
+use Rattle.source_blocks.specs.Blocks.{count_of, statement_at}
 use Rattle.source_blocks.specs.Tasks.{task_of}
 use Rattle.source_blocks.specs.Runs.{config_of, here_in, rest_in}
 use Rattle.source_blocks.proofs.Blocks.{rest_here, rest_end}
@@ -60,6 +61,17 @@ module _ (run : Run) where
   begins_falls (Ok u) after first h l =
       subst (λ body. FallsBehind body place.around after first) (sym (rest_here run.at (task_of run.task) h)) l
   begins_falls (Err why) after first h l = tt
+
+-- facts about the block of the text that runs
+module _ (run : Run) (block : Statements) (text : task_of run.task ≡ block) where
+  pub past_of : count_of block ≤ run.at → count_of (task_of run.task) ≤ run.at
+  past_of h = subst (λ b. count_of b ≤ run.at) (sym text) h
+
+  pub within_of : run.at < count_of block → run.at < count_of (task_of run.task)
+  within_of h = subst (λ b. run.at < count_of b) (sym text) h
+
+  pub here_of : (s : Statement) → s ≡ statement_at run.at block → here_in run ≡ s
+  here_of s h = ap (statement_at run.at) text ∙ sym h
 
 -- what falls at an end
 pub end_falls : {E : Type 0} (run : Run) (result : Result E Stop) (after first : ℕ)

@@ -17,8 +17,8 @@ ghost use Rattle.source_blocks.specs.Stops.{MayStop};
 use crate::calls::{call, call_on};
 use rpp_tree::tree::{Block, Expr, Stmt};
 use source_blocks::{
-    Calls, Closing, Construct, Line, Local, Loop, Part, Run, Task, carry_line, closing_value,
-    open_block, pass, value_in,
+    Calls, Closing, Construct, Line, Local, Loop, Part, Run, Task, carry_line, carry_out,
+    closing_value, open_block, pass, value_in,
 };
 use source_steps::{Stop, element_place, is_true, refuse, turned_call};
 use source_store::{Lack, Value};
@@ -210,8 +210,33 @@ fn begin_simple<'a>(run: &mut Run<'a>, fuel: &mut u64, line: &Line<'a>) -> Resul
     }
 }
 
+/// A simple statement of the text begins, and is past.
+pub fn begin_plain(run: &mut Run, fuel: &mut u64, s: &Stmt, back: bool) -> Result<(), Stop>
+    requires sound { IsSound run.old }
+    requires within { run.old.at < count_of (task_of run.old.task) }
+    requires here { here_in run.old ≡ turned back (statement_of s.now) }
+    requires simple { IsSimple (turned back (statement_of s.now)) }
+    ensures gives { Gives (λ u. config_of run.new) result fuel.new
+        (metered fuel.old (begun (setting_of run.old.setting) (config_of run.old)
+        (here_in run.old) (rest_in run.old))) }
+    ensures sound { OnOk result (IsSound run.new) }
+    ensures opens { OnOk result (length run.new.frames.items ≤ 1 + length run.old.frames.items) }
+    ensures setting { setting_of run.new.setting ≡ setting_of run.old.setting }
+    ensures stays { OnFault result (run.new ≡ run.old) }
+    ensures less { fuel.new ≤ fuel.old }
+    ensures stops { IfErr result (λ why. MayStop (turned back (statement_of s.now)) why) }
+{
+    match carry_out(run, fuel, s, back) {
+        Err(why) => Err(why),
+        Ok(()) => {
+            pass(run);
+            Ok(())
+        }
+    }
+}
+
 /// A statement of the text begins, as it stands.
-fn begin_forward<'a>(run: &mut Run<'a>, fuel: &mut u64, s: &'a Stmt) -> Result<(), Stop>
+pub fn begin_forward<'a>(run: &mut Run<'a>, fuel: &mut u64, s: &'a Stmt) -> Result<(), Stop>
     requires sound { IsSound run.old }
     requires within { run.old.at < count_of (task_of run.old.task) }
     requires here { here_in run.old ≡ statement_of s.now }
@@ -336,7 +361,7 @@ fn begin_forward<'a>(run: &mut Run<'a>, fuel: &mut u64, s: &'a Stmt) -> Result<(
 }
 
 /// A statement of the text begins, undone.
-fn begin_backward<'a>(run: &mut Run<'a>, fuel: &mut u64, s: &'a Stmt) -> Result<(), Stop>
+pub fn begin_backward<'a>(run: &mut Run<'a>, fuel: &mut u64, s: &'a Stmt) -> Result<(), Stop>
     requires sound { IsSound run.old }
     requires within { run.old.at < count_of (task_of run.old.task) }
     requires here { here_in run.old ≡ turned true (statement_of s.now) }
