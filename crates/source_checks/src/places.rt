@@ -1,14 +1,15 @@
 // The places of statements and expressions in the text.
-ghost use Rattle.std.specs.Prelude.{◌≡◌};
+ghost use Rattle.std.specs.Prelude.{◌≡◌, ◌<◌, ◌≤◌, IfNone, IfSome};
 ghost use Rattle.rpp_tree.specs.Places.{statement_place};
 ghost use Rattle.rpp_tree.specs.Views.{expression_of};
 ghost use Rattle.source_statements.specs.source_blocks.Opens.{closing_of};
-ghost use Rattle.source_statements.specs.source_blocks.Tasks.{line_of};
+ghost use Rattle.source_statements.specs.source_blocks.Blocks.{count_of, statement_at};
+ghost use Rattle.source_statements.specs.source_blocks.Tasks.{line_of, task_of};
 ghost use Rattle.source_checks.specs.Failures.{first_place as first_place_of};
 
 use rpp_tree::place_of;
 use rpp_tree::tree::Expr;
-use source_blocks::{Closing, Line};
+use source_blocks::{Closing, Line, Task, line_at, statement_in};
 
 /// The offset of a statement that runs: inverted, it has the offset that it had.
 #[tactic(auto, using(crate::proofs::Undone::place_turned))]
@@ -20,6 +21,37 @@ pub fn line_place(line: &Line) -> u32
         Line::Make(made) | Line::Delete(made) => made.at,
         Line::Exchange { at, .. } => *at,
         Line::Call(calls) => calls.at,
+    }
+}
+
+// The offset of the statement after so many of a block that is no block of the text.
+fn line_place_at(task: &Task, at: usize) -> Option<u32>
+    ensures past { IfNone result (count_of (task_of task.now) ≤ at) }
+    ensures within { IfSome result (λ place. at < count_of (task_of task.now)) }
+    ensures place { IfSome result (λ place. place
+        ≡ statement_place (statement_at at (task_of task.now))) }
+{
+    match line_at(task, at) {
+        None => None,
+        Some(line) => Some(line_place(&line)),
+    }
+}
+
+/// The offset of the statement of a block that runs after so many, if there is one.
+pub fn place_at(task: &Task, at: usize) -> Option<u32>
+    ensures past { IfNone result (count_of (task_of task.now) ≤ at) }
+    ensures within { IfSome result (λ place. at < count_of (task_of task.now)) }
+    ensures place { IfSome result (λ place. place
+        ≡ statement_place (statement_at at (task_of task.now))) }
+{
+    match task {
+        Task::Text { block, back } => match statement_in(block, *back, at) {
+            None => None,
+            Some(s) => Some(place_of(s)),
+        },
+        Task::Nothing => line_place_at(task, at),
+        Task::Made(_made) => line_place_at(task, at),
+        Task::Exchange { .. } => line_place_at(task, at),
     }
 }
 

@@ -1,5 +1,4 @@
 use Rattle.std.proofs.Common.{◌∙◌, ℕ, Some, sym, ap}
-use Rattle.rpp_tree.specs.Places.{statement_place}
 use Rattle.source_checks.specs.source_blocks.Tasks.{task_of}
 use Rattle.source_execution.specs.Standing.{next_place}
 use Rattle.source_checks.proofs.source_blocks_laws.Blocks.{rest_here, rest_end}
@@ -11,5 +10,5 @@ returns-in-None c =
 
 pub returns-in-Some : goal.returns-in-Some
 returns-in-Some c =
-    ap (λ (n : ℕ). Some n) (c.line_place.ensures ∙ ap statement_place c.in-Some.ensures.statement)
+    ap (λ (n : ℕ). Some n) c.in-Some.ensures.place
     ∙ sym (ap next_place (rest_here c.args.run.now.at (task_of c.args.run.now.task) c.in-Some.ensures.within))

@@ -1,0 +1,15 @@
+use Rattle.std.proofs.Common.{◌∙◌, ap, subst, sym, ◌≤◌, ◌<◌}
+use Rattle.rpp_tree.specs.Places.{statement_place}
+use Rattle.rpp_tree.specs.Tree.{Statements}
+use Rattle.rpp_tree.specs.Views.{statement_of}
+use Rattle.source_statements.specs.source_blocks.declared.task.Task.{Task}
+use Rattle.source_statements.specs.source_blocks.Blocks.{count_of, statement_at}
+use Rattle.source_statements.specs.source_blocks.Tasks.{task_of}
+use Rattle.source_checks.proofs.Undone.{place_turned}
+use Rattle.source_checks.proofs.places.place_at.Goals as goal
+
+pub returns-in-Some-clause-place : goal.returns-in-Some-clause-place
+returns-in-Some-clause-place c =
+    c.place_of.ensures ∙ place_turned c.in-Text.back (statement_of c.in-Some.s.now)
+    ∙ ap statement_place (c.in-Some.ensures.statement
+    ∙ ap (λ (t : Task). statement_at c.args.at (task_of t)) (sym c.in-Text.is))
