@@ -202,6 +202,7 @@ impl<'a> Execution<'a> {
     }
 
     // A step, reversed or not. An error aborts the run, unless it is a fault.
+    #[inline(always)]
     fn go(&mut self, fuel: &mut u64, back: bool) -> Result<(), Stop>
         requires whole { self.old.broken ≡ false }
         ensures gives { Gives (λ u. config_at self.new) result fuel.new

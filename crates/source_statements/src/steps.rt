@@ -212,6 +212,7 @@ fn step_line<'a>(run: &mut Run<'a>, fuel: &mut u64, back: bool) -> Result<(), St
 }
 
 /// A step of a run, reversed or not.
+#[inline(always)]
 pub fn step<'a>(run: &mut Run<'a>, fuel: &mut u64, back: bool) -> Result<(), Stop>
     requires sound { IsSound run.old }
     ensures gives { Gives (λ u. config_of run.new) result fuel.new

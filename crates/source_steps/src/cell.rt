@@ -74,6 +74,7 @@ pub fn read_cell(
 const FEW_FIELDS: usize = 8;
 
 /// The number of the field of this name.
+#[inline(always)]
 fn field_in(table: &ClassTable, class: u32, name: &Text) -> Option<usize>
     ensures { result ≡ field_in_table table.now class name.now }
 {
@@ -88,6 +89,7 @@ fn field_in(table: &ClassTable, class: u32, name: &Text) -> Option<usize>
 }
 
 /// The number of a field of the current object.
+#[inline(always)]
 fn field_number(setting: &Setting, heap: &Heap, name: &Text) -> usize
     ensures { result ≡ unwrap_or
         (field_of (class_fields (setting_of setting.now).program
@@ -101,6 +103,7 @@ fn field_number(setting: &Setting, heap: &Heap, name: &Text) -> usize
 }
 
 /// What a name means: the innermost variable of that name, else a field.
+#[inline(always)]
 pub fn cell_of_name(
     setting: &Setting,
     scope: &Scope,
@@ -143,6 +146,7 @@ pub fn write_cell(
 }
 
 /// The value of what a name means.
+#[inline(never)]
 pub fn variable(
     setting: &Setting,
     scope: &Scope,

@@ -18,6 +18,7 @@ pub struct Scope<'a> {
 }
 
 /// Whether a local has this name.
+#[inline(always)]
 fn is_local(own: &[u8], name: &Text) -> bool
     ensures { result ≡ bytes_eq name.now own.now }
 {
@@ -25,6 +26,7 @@ fn is_local(own: &[u8], name: &Text) -> bool
 }
 
 /// Whether a field or parameter has this name.
+#[inline(always)]
 fn is_var(var: &Var, name: &Text) -> bool
     ensures { result ≡ bytes_eq name.now var.now.name.text }
 {
@@ -32,6 +34,7 @@ fn is_var(var: &Var, name: &Text) -> bool
 }
 
 /// The place of the first local of this name.
+#[inline(always)]
 fn first_local(locals: &[&[u8]], name: &Text) -> Option<usize>
     ensures { result ≡ position (λ own. bytes_eq name.now own.now) locals.now }
 {
@@ -39,6 +42,7 @@ fn first_local(locals: &[&[u8]], name: &Text) -> Option<usize>
 }
 
 /// The place of the first field or parameter of this name.
+#[inline(always)]
 fn first_var(vars: &[Var], name: &Text) -> Option<usize>
     ensures { result ≡ position (λ var. bytes_eq name.now var.name.text) vars.now }
 {
@@ -46,6 +50,7 @@ fn first_var(vars: &[Var], name: &Text) -> Option<usize>
 }
 
 /// The place of the local of this name.
+#[inline(always)]
 fn local_slot(locals: &[&[u8]], name: &Text) -> Option<usize>
     ensures place { result ≡ position (bytes_eq name.now) (map (λ own. own.now) locals.now) }
     ensures within { IfSome result (λ at. at < length locals.now) }
@@ -54,6 +59,7 @@ fn local_slot(locals: &[&[u8]], name: &Text) -> Option<usize>
 }
 
 /// The place of the field or parameter of this name.
+#[inline(always)]
 pub(crate) fn var_slot(vars: &[Var], name: &Text) -> Option<usize>
     ensures place { result ≡ position (bytes_eq name.now) (map (λ var. var.name.text) vars.now) }
     ensures within { IfSome result (λ at. at < length vars.now) }
@@ -63,6 +69,7 @@ pub(crate) fn var_slot(vars: &[Var], name: &Text) -> Option<usize>
 
 /// The place of the innermost variable of this name.
 #[tactic(auto, using(crate::proofs::Scopes::position_front, crate::proofs::Scopes::position_behind, crate::proofs::Scopes::position_nowhere))]
+#[inline(always)]
 pub fn slot(scope: &Scope, values: &[Value], name: &Text) -> Option<usize>
     requires { length values.now ≡ length (names_of scope.now) }
     ensures place { result ≡ position (bytes_eq name.now) (names_of scope.now) }
