@@ -93,7 +93,7 @@ module _ (program : Source) (pieces : List Code) (are : AreRoutines program piec
         let starts = places first (bodies (are.allocator ∷ are.methods)) in
         let has = program_images_have_routines program main.cells are.allocator.cells (bodies are.methods) image is in
         let next = first + 1 + 1 + 1 + length are.allocator.cells + 1 in
-        let r = ranges_of program image starts has 1 next (entries program) are.methods are.codes
+        let r = ranges_of program image starts is.accepted has 1 next (entries program) are.methods are.codes
         is.linked.routines_there.1 in
         let of_routines : IsPermutation (link_marks main pieces) r.ranges =
         of_all (λ ps. IsPermutation (link_marks main ps) r.ranges)

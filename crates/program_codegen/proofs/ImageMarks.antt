@@ -25,6 +25,8 @@ use Rattle.statement_codegen.proofs.Nesting.{nested_append, IsBetween, apart_by}
 use Rattle.refine_program.specs.refine_form.Form.{Open, told, one, turned}
 use Rattle.refine_program.specs.refine_form.Worlds.{Place, world_of, rates_of}
 use Rattle.refine_program.specs.paired_code.Does.{Meets}
+use Rattle.refine_program.specs.class_rules.Program.{IsAccepted}
+use Rattle.refine_program.specs.refine_calls.Laws.{IsLinked}
 use Rattle.refine_program.specs.Methods.{Entry, routine_in}
 use Rattle.refine_program.specs.Laws.{place_of, HasRoutines}
 use Rattle.program_codegen.specs.Notes.{method_rows, rows_of, WillGo, IsStatementMark}
@@ -42,12 +44,16 @@ there_in im at p i j h l stands =
     front im code_line (at + i) (take (j - i) (drop i p)) (drop (j - i) (drop i p))
     (subst (Stands im code_line (at + i)) (sym (take-append-drop (j - i) (drop i p))) moved)
 
-module _ (program : Source) (image : Segments) (starts : List ℕ) (has : HasRoutines program image starts) where
+module _ (program : Source) (image : Segments) (starts : List ℕ) (accepted : IsAccepted program)
+    (has : HasRoutines program image starts) where
   abbrev im : Image
   im = record { code = image.code; routines = starts }
 
   abbrev here : Limits → Place
   here = place_of program image starts has.bodies has.tops
+
+  linked : (limits : Limits) → IsLinked (here limits) (routine_in program)
+  linked limits = record { accepted = accepted; routed = has.linked limits }
 
   -- the law of an entry, which holds at any code address, holds for the cells under the mark: the
   -- image is linked, and there are no assumptions about its routines
@@ -69,7 +75,7 @@ module _ (program : Source) (image : Segments) (starts : List ℕ) (has : HasRou
         in_order = omega (arith, a);
         cells = λ limits. record {
           does = λ n d u st m frame.
-              let law = h.law.law (here limits) (routine_in program) (has.linked limits) refl n
+              let law = h.law.law (here limits) (routine_in program) (linked limits) refl n
               (has.owed limits (suc n)) d u in
               subst (λ e. WillGo im d (at + k.first) e m (Meets (Open (world_of (here limits)) row.scope u)
               (rates_of (here limits).setting) (suc n) 0 (told

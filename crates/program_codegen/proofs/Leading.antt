@@ -6,13 +6,13 @@ use Rattle.refine_program.specs.rpp_words.declared.input.Limits.{Limits}
 use Rattle.rpp_tree.specs.Tree.{Source}
 use Rattle.refine_program.specs.pisa_isa.Image.{Segments}
 use Rattle.refine_program.specs.paired_code.declared.part.Symbol.{Symbol}
-use Rattle.refine_program.specs.refine_calls.Laws.{IsLinked}
+use Rattle.refine_program.specs.refine_calls.Laws.{IsRouted}
 use Rattle.refine_program.specs.Methods.{routine_in}
 use Rattle.refine_program.specs.Laws.{place_of}
 use Rattle.program_codegen.specs.Subroutines.{TablesLeadToSwapbr, CallsEnterBySwapbr}
 
 linked_leads : (program : Source) (image : Segments) (starts : List ℕ) (bodies : List (List Symbol)) (tops : ℕ → ℕ)
-    (limits : Limits) → IsLinked (place_of program image starts bodies tops limits) (routine_in program)
+    (limits : Limits) → IsRouted (place_of program image starts bodies tops limits) (routine_in program)
     → TablesLeadToSwapbr program image
 linked_leads program image starts bodies tops limits linked = record {
   starts = starts;

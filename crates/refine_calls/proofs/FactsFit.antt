@@ -96,15 +96,16 @@ module _ (place : Place) (routine : ℕ → Ident → ℕ) (linked : IsLinked pl
 
   pub above_own : (s : Scope) (u : Under) (moved : List Moved) (st : State) (cells : List ℕ)
       → Stands setting statics s u moved st cells → is_or_inherits program u.class s.class ≡ true
-  above_own s u moved st cells h = class_above setting statics linked.few linked.image linked.has linked.statics_are s u
+  above_own s u moved st cells h = class_above setting statics linked.routed.few linked.routed.image linked.routed.has
+      linked.routed.statics_are s u
       moved st h.keeps
 
   abbrev pub RouteOf : ℕ → ℕ → Ident → Type 0
-  RouteOf own slot name = Route program linked.has.places routines routine own slot name
+  RouteOf own slot name = Route program linked.routed.has.places routines routine own slot name
 
   pub route_of : (s : Scope) (own class : ℕ) (name : Ident) (args : List Ident)
       → is_or_inherits program own class ≡ true → (m : HasMethod program s class name args) → RouteOf own m.slot name
-  route_of s own class name args above m = linked.routes own class m.slot name above m.inside m.is_slot
+  route_of s own class name args above m = linked.routed.routes own class m.slot name above m.inside m.is_slot
 
   -- the types of the callee's variables are those of the arguments
   pub callee_types : (s : Scope) (own class : ℕ) (name : Ident) (args : List Ident)
@@ -216,7 +217,12 @@ module _ (place : Place) (routine : ℕ → Ident → ℕ) (linked : IsLinked pl
       }
 
   image_facts : ImageFacts (world_of place)
-  image_facts = record { placed = linked.placed; tidy = linked.tidy; counts = omega arith; thousand = refl }
+  image_facts = record {
+    placed = linked.routed.placed;
+    tidy = linked.routed.tidy;
+    counts = omega arith;
+    thousand = refl;
+  }
 
   move_facts : MoveFacts (world_of place) (known_of place routine)
   move_facts = record {
@@ -236,7 +242,8 @@ module _ (place : Place) (routine : ℕ → Ident → ℕ) (linked : IsLinked pl
       let above = open_above s u st end cells name o in
       let low = (dispatched_method program linked.accepted u.class s.class m.slot name.text
       (own_range program u.class s.class above m.inside) above m.is_slot).low in
-      let t = table_read setting statics linked.few linked.image linked.has linked.statics_are (scope_of u name)
+      let t = table_read setting statics linked.routed.few linked.routed.image linked.routed.has
+      linked.routed.statics_are (scope_of u name)
       (deeper s u st) [] end cells o m.slot low in
       subst (λ z. HasPlace cells u.object z (routines.top (routine u.class name) + 1))
       (sym (ap (λ o. unwrap_or o 0) m.is_slot)) (subst (λ p. HasPlace cells u.object m.slot p) r.place_is t)
@@ -261,10 +268,11 @@ module _ (place : Place) (routine : ℕ → Ident → ℕ) (linked : IsLinked pl
 
   put_facts : PutFacts (world_of place) (known_of place routine)
   put_facts = record {
-    saves = λ s u st cells h f. saves setting statics linked.few s u st cells h f;
-    put_opens = λ s u st cells link place h f lw pw. puts setting statics linked.few s u st cells link place h f lw pw;
-    put_words = λ s u st cells link place h f. put_words setting statics linked.few s u st cells link place h;
-    put_back = λ s u st cells link place h f. puts_back setting statics linked.few s u st cells link place h f;
+    saves = λ s u st cells h f. saves setting statics linked.routed.few s u st cells h f;
+    put_opens = λ s u st cells link place h f lw pw. puts setting statics linked.routed.few s u st cells link place h f
+        lw pw;
+    put_words = λ s u st cells link place h f. put_words setting statics linked.routed.few s u st cells link place h;
+    put_back = λ s u st cells link place h f. puts_back setting statics linked.routed.few s u st cells link place h f;
     put_object = λ u link place. refl;
     put_frame = λ u link place. refl;
   }
@@ -272,8 +280,8 @@ module _ (place : Place) (routine : ℕ → Ident → ℕ) (linked : IsLinked pl
   steady : (s : Scope) (u : Under) (moved : List Moved) (st : State) (cells : List ℕ)
       → Stands setting statics s u moved st cells → IsSteady (world_of place) (known_of place routine) s u st
   steady s u moved st cells h = record {
-    object_small = object_small setting statics linked.few s u moved st cells h;
-    frame_small = frame_small setting statics linked.few s u moved st cells h;
+    object_small = object_small setting statics linked.routed.few s u moved st cells h;
+    frame_small = frame_small setting statics linked.routed.few s u moved st cells h;
     depth_is = h.frame.depth_is;
     self_is = h.frame.self_is;
     class_is = class_stays setting statics s u (moved_values setting statics moved) st cells h.frame;
@@ -285,7 +293,7 @@ module _ (place : Place) (routine : ℕ → Ident → ℕ) (linked : IsLinked pl
     image = image_facts;
     near = λ s name v. v.near;
     steady = λ s u moved st cells h. steady s u moved st cells h;
-    has_end = λ s u st cells h. frame_end setting statics linked.few s u st cells h;
+    has_end = λ s u st cells h. frame_end setting statics linked.routed.few s u st cells h;
     moves = move_facts;
     calls = own_facts;
     puts = put_facts;

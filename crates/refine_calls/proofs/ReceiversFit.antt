@@ -199,7 +199,7 @@ module _ (place : Place) (routine : ℕ → Ident → ℕ) (linked : IsLinked pl
             ∙ ap (value_word setting statics h.frame.at) e in
             let p = named_word n e in
             let l : value_word setting statics h.frame.at (Name n) < stack_base setting statics = p.1 in
-            let a = all_small setting statics linked.few h.keeps.grounded.limits in
+            let a = all_small setting statics linked.routed.few h.keeps.grounded.limits in
             omega (arith, z, l, a)
 
     pub nil_word : is_nil (read st c) ≡ true → slice_index cells at ≡ 0
@@ -336,7 +336,7 @@ module _ (place : Place) (routine : ℕ → Ident → ℕ) (linked : IsLinked pl
     abbrev s1 : Scope
     s1 = scope_on st1 n name
 
-    rt : Route program linked.has.places routines routine (own_of st1 n) r.method.slot name
+    rt : Route program linked.routed.has.places routines routine (own_of st1 n) r.method.slot name
     rt = route_of place routine linked s (own_of st1 n) r.class name args above_here r.method
 
     kinds1 : HaveKinds setting statics st1.store s u args (map local_type (shape_of program s1))
@@ -430,7 +430,8 @@ module _ (place : Place) (routine : ℕ → Ident → ℕ) (linked : IsLinked pl
     pos1 = positive s u moved1 st cells h
 
     object_word_small : u.object < 2 ^ 32
-    object_word_small = let o = Rattle.refine_calls.proofs.FramePlaces.object_small setting statics linked.few s u
+    object_word_small = let o = Rattle.refine_calls.proofs.FramePlaces.object_small setting statics linked.routed.few s
+        u
         moved1
         st cells h in omega (arith, o)
 
@@ -531,7 +532,7 @@ module _ (place : Place) (routine : ℕ → Ident → ℕ) (linked : IsLinked pl
       above2 : is_or_inherits program (own_of st2 n) r.class ≡ true
       above2 = subst (λ z. is_or_inherits program (own_of st2 n) z ≡ true) (class_is s x name args r) suits
 
-      rt2 : Route program linked.has.places routines routine (own_of st2 n) r.method.slot name
+      rt2 : Route program linked.routed.has.places routines routine (own_of st2 n) r.method.slot name
       rt2 = route_of place routine linked s (own_of st2 n) r.class name args above2 r.method
 
       params2 : length args ≡ length s2.vars
@@ -684,7 +685,8 @@ module _ (place : Place) (routine : ℕ → Ident → ℕ) (linked : IsLinked pl
           ∙ ap (λ a. slice_set (slice_set cells a 0) at2 on2.object) up_end_is
 
       word2_small : on2.object < 2 ^ 32
-      word2_small = let l = Rattle.refine_calls.proofs.FramePlaces.object_small setting statics linked.few s2 on2 [] end
+      word2_small = let l = Rattle.refine_calls.proofs.FramePlaces.object_small setting statics linked.routed.few s2 on2
+          [] end
           cells o in omega (arith, l)
 
       abbrev typed_home : Rattle.method_calls.specs.meaning_sound.Sound.Typed setting (extra u back2)
@@ -738,7 +740,8 @@ module _ (place : Place) (routine : ℕ → Ident → ℕ) (linked : IsLinked pl
       let rt = route_of place routine linked s own r.class name args above r.method in
       let low = (dispatched_method program linked.accepted own r.class r.method.slot name.text
       (own_range program own r.class above r.method.inside) above r.method.is_slot).low in
-      let t = table_read setting statics linked.few linked.image linked.has linked.statics_are (scope_on st n name)
+      let t = table_read setting statics linked.routed.few linked.routed.image linked.routed.has
+      linked.routed.statics_are (scope_on st n name)
       (deeper_on place s u st n) [] end cells o r.method.slot low in
       subst (λ z. HasPlace cells (deeper_on place s u st n).object z (routines.top (routine own name) + 1))
       (sym (slot_is s x name args r)) (subst (λ p. HasPlace cells (deeper_on place s u st n).object r.method.slot p)
@@ -782,7 +785,7 @@ module _ (place : Place) (routine : ℕ → Ident → ℕ) (linked : IsLinked pl
     pub class5 : own_of st n5 ≡ own_of caller n5
     class5 = own_same s u [] st cells h x name args r n5 named5 caller heads5
 
-    pub route5 : Route program linked.has.places routines routine (own_of caller n5) r.method.slot name
+    pub route5 : Route program linked.routed.has.places routines routine (own_of caller n5) r.method.slot name
     route5 = route_of place routine linked s (own_of caller n5) r.class name args above5 r.method
 
   abbrev Comes : Scope → Under → State → List ℕ → Ident → List Ident → ℕ → State → Type 0

@@ -45,11 +45,10 @@ pub record HasAllocator (im : Image) : Type 0 where
   pub law : AllocatorLaw body
   pub routine : Routine im 0 top body
 
--- The static cells of a code address are those of an image of its accepted program, and its
--- routines are in its code. Its class tables lead to them: for each class, and each slot that the
--- class or one that it inherits from has for a name.
-pub record IsLinked (place : Place) (routine : ℕ → Ident → ℕ) : Type 0 where
-  pub accepted : IsAccepted place.setting.program
+-- The static cells of a code address are those of an image of its program, and its routines are in
+-- its code. Its class tables lead to them: for each class, and each slot that the class or one that
+-- it inherits from has for a name.
+pub record IsRouted (place : Place) (routine : ℕ → Ident → ℕ) : Type 0 where
   pub image : Segments
   pub has : HasStatics place.setting.program image
   pub statics_are : place.statics ≡ image.statics
@@ -63,6 +62,11 @@ pub record IsLinked (place : Place) (routine : ℕ → Ident → ℕ) : Type 0 w
       → Routine place.im (place.routines.number r) (place.routines.top r) (place.routines.body r)
   pub tidy : Tidy place.im
   pub allocator : HasAllocator place.im
+
+-- the same for an accepted program
+pub record IsLinked (place : Place) (routine : ℕ → Ident → ℕ) : Type 0 where
+  pub accepted : IsAccepted place.setting.program
+  pub routed : IsRouted place routine
 
 -- a current frame has what calls take as premises
 abbrev pub FramesAreOpen : Type 0

@@ -19,7 +19,8 @@ use Rattle.object_codegen.specs.roopl_semantics.Execution.{order_of_cells}
 use Rattle.object_codegen.specs.meaning_sound.Sound.{head_of, cell_kinds, Typed}
 use Rattle.object_codegen.proofs.meaning_sound_laws.Lists.{all_length}
 use Rattle.object_codegen.proofs.meaning_sound_laws.Stores.{live_object}
-use Rattle.object_codegen.proofs.meaning_sound_laws.Regions.{BlocksDescend, EntriesAre, room_of, blocks_descend, entries_are}
+use Rattle.object_codegen.proofs.meaning_sound_laws.Regions.{BlocksDescend, EntriesAre, room_of, blocks_descend}
+use Rattle.object_codegen.proofs.meaning_sound_laws.Regions.{entries_are}
 use Rattle.object_codegen.specs.refine_frame.Open.{IsGrounded}
 use Rattle.object_codegen.proofs.refine_frame_laws.Heaps.{length_words}
 use Rattle.object_codegen.proofs.refine_frame_laws.Memory.{main_long}
@@ -52,10 +53,10 @@ module _ (p : Place) (routine : ℕ → Ident → ℕ) (linked : IsLinked p rout
   b = base p.setting p.statics
 
   pub cells_low : b + 2 ^ h + FRAME_WORDS * p.setting.limits.deep ≤ 2 ^ 23
-  cells_low = cells_small (setup p.setting p.statics) g.limits linked.few
+  cells_low = cells_small (setup p.setting p.statics) g.limits linked.routed.few
 
   base_low : b ≤ 2 ^ 21
-  base_low = Rattle.refine_objects.proofs.Bases.base_small p.setting p.statics g.limits linked.few
+  base_low = Rattle.refine_objects.proofs.Bases.base_small p.setting p.statics g.limits linked.routed.few
 
   rooms : (bound : ℕ) (rest : List (ℕ × ℕ)) → BlocksDescend bound rest → EntriesAre st.store at.blocks rest
       → HaveRoom P b st.store at.blocks rest t.placed.taken
@@ -144,7 +145,8 @@ module _ (p : Place) (routine : ℕ → Ident → ℕ) (linked : IsLinked p rout
           let f = took.fits in
           let c = cells_low in
           allocates object frame order a v sh object_small frame_small order_small place_small length_small left p.im
-          linked.allocator.top linked.allocator.body linked.allocator.law linked.allocator.routine linked.tidy from
+          linked.routed.allocator.top linked.routed.allocator.body linked.routed.allocator.law
+          linked.routed.allocator.routine linked.routed.tidy from
           P p.setting.limits p.statics st.store at t.placed.taken later_taken block after
           (record {
             takes = is;
@@ -168,7 +170,8 @@ module _ (p : Place) (routine : ℕ → Ident → ℕ) (linked : IsLinked p rout
         (memory p.setting p.statics at st.store words)
     lacking none =
         lacks object frame order a v sh object_small frame_small order_small place_small length_small left p.im
-        linked.allocator.top linked.allocator.body linked.allocator.law linked.allocator.routine linked.tidy from P
+        linked.routed.allocator.top linked.routed.allocator.body linked.routed.allocator.law
+        linked.routed.allocator.routine linked.routed.tidy from P
         p.setting.limits p.statics st.store at t.placed.taken
         (filled_to p.setting p.statics (FRAME_WORDS * p.setting.limits.deep) words) low n heap_placed none
         (subst (λ z. length z ≤ low) (sym (append-nil (before_stack p.setting p.statics at st.store))) long) inside

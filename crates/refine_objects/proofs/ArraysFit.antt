@@ -10,11 +10,13 @@ use Rattle.std.specs.Option.{option_map}
 use Rattle.object_codegen.specs.code_conventions.declared.memory.TheConstants.{HEADER_WORDS}
 use Rattle.object_codegen.specs.rpp_words.Words.{is_less}
 use Rattle.object_codegen.specs.rpp_tree.declared.tree.Ident.{Ident}
-use Rattle.object_codegen.specs.rpp_tree.Tree.{Expression, Lvalue, Whole, Item, Creation, Ints, Objects, New, Delete, Source}
+use Rattle.object_codegen.specs.rpp_tree.Tree.{Expression, Lvalue, Whole, Item, Creation, Ints, Objects, New, Delete}
+use Rattle.object_codegen.specs.rpp_tree.Tree.{Source}
 use Rattle.object_codegen.specs.class_rules.declared.kind.Kind.{Kind}
 use Rattle.object_codegen.specs.class_rules.declared.kind.Kind.TheVariants as kind
 use Rattle.object_codegen.specs.class_rules.Refusal.{not_an_array}
-use Rattle.object_codegen.specs.class_rules.Expressions.{is_int, element_kind, element_of, variable_type, first_token, index_is_int}
+use Rattle.object_codegen.specs.class_rules.Expressions.{is_int, element_kind, element_of, variable_type, first_token}
+use Rattle.object_codegen.specs.class_rules.Expressions.{index_is_int}
 use Rattle.object_codegen.specs.class_rules.Expressions.{type_of, place_type, occurs}
 use Rattle.object_codegen.specs.class_rules.Statements.{is_int_array, length_is_int}
 use Rattle.object_codegen.proofs.class_rules_laws.PassedRules.{handed_on, some_of, int_kind}
@@ -23,13 +25,15 @@ use Rattle.object_codegen.specs.pisa_isa.declared.image.TheConstants.{MOST_STATI
 use Rattle.object_codegen.specs.paired_code.declared.part.Symbol.{Symbol}
 use Rattle.object_codegen.specs.paired_code.Layout.{mirror_cells}
 use Rattle.object_codegen.specs.buddy_pisa.Promise.{most_steps}
-use Rattle.object_codegen.specs.roopl_semantics.Store.{Value, Word, Nil, Name, Head, OfInts, OfObjects, State, number_of, object_at}
+use Rattle.object_codegen.specs.roopl_semantics.Store.{Value, Word, Nil, Name, Head, OfInts, OfObjects, State}
+use Rattle.object_codegen.specs.roopl_semantics.Store.{number_of, object_at}
 use Rattle.object_codegen.specs.roopl_semantics.Value.{Cell, cell_named, read, value}
 use Rattle.object_codegen.specs.roopl_semantics.Elements.{elements}
 use Rattle.object_codegen.specs.roopl_semantics.Execution.{exec, freed, order_of_cells, all_zero}
 use Rattle.object_codegen.specs.roopl_semantics.Layout.{head_word}
 use Rattle.object_codegen.specs.meaning_sound.Plain.{HasWords}
-use Rattle.object_codegen.specs.meaning_sound.Sound.{head_of, head_named, head_fits, named_fits, fits, cell_kinds, cell_kind, Typed}
+use Rattle.object_codegen.specs.meaning_sound.Sound.{head_of, head_named, head_fits, named_fits, fits, cell_kinds}
+use Rattle.object_codegen.specs.meaning_sound.Sound.{cell_kind, Typed}
 use Rattle.object_codegen.proofs.meaning_sound_laws.Cells.{read_fits}
 use Rattle.object_codegen.proofs.meaning_sound_laws.Classes.{KnowsClasses}
 use Rattle.object_codegen.proofs.meaning_sound_laws.Stores.{live_object}
@@ -82,7 +86,7 @@ module _ (p : Place) (routine : ℕ → Ident → ℕ) (linked : IsLinked p rout
   P = p.setting.program
 
   few : length p.statics ≤ MOST_STATICS
-  few = linked.few
+  few = linked.routed.few
 
   abbrev classes : KnowsClasses p.setting.program
   classes = known_classes p.setting.program linked.accepted

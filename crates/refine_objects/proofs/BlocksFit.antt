@@ -18,14 +18,16 @@ use Rattle.object_codegen.specs.buddy_book.Book.{take, order_from, order_for}
 use Rattle.object_codegen.specs.buddy_book.Place.{Placing, block_of, count_taken, place}
 use Rattle.object_codegen.specs.buddy_pisa.Promise.{most_steps}
 use Rattle.object_codegen.specs.pisa_isa.Loaded.{statics_at}
-use Rattle.object_codegen.specs.roopl_semantics.Store.{Value, Word, Nil, Name, Head, Store, State, main_name, is_zero, object_named}
+use Rattle.object_codegen.specs.roopl_semantics.Store.{Value, Word, Nil, Name, Head, Store, State, main_name, is_zero}
+use Rattle.object_codegen.specs.roopl_semantics.Store.{object_named}
 use Rattle.object_codegen.specs.roopl_semantics.Store.{object_at}
 use Rattle.object_codegen.specs.roopl_semantics.Value.{Cell, Part, read, written}
 use Rattle.object_codegen.specs.roopl_semantics.Layout.{no_placing, head_word}
 use Rattle.object_codegen.specs.roopl_semantics.Laws.{holders_among}
 use Rattle.object_codegen.specs.roopl_semantics.Execution.{order_of_cells, all_zero, freed}
 use Rattle.object_codegen.proofs.roopl_semantics_laws.Orders.{order_from_one}
-use Rattle.object_codegen.specs.meaning_sound.Sound.{head_of, head_fits, is_live, cell_kinds, cell_kind, part_kind, AllFit, Typed}
+use Rattle.object_codegen.specs.meaning_sound.Sound.{head_of, head_fits, is_live, cell_kinds, cell_kind, part_kind}
+use Rattle.object_codegen.specs.meaning_sound.Sound.{AllFit, Typed}
 use Rattle.object_codegen.proofs.meaning_sound_laws.Classes.{KnowsClasses}
 use Rattle.object_codegen.proofs.meaning_sound_laws.Lists.{all_length}
 use Rattle.object_codegen.proofs.meaning_sound_laws.Objects.{bigger, clash}
@@ -41,7 +43,8 @@ use Rattle.object_codegen.proofs.refine_frame_laws.Memory.{base_above}
 use Rattle.object_codegen.proofs.refine_frame_laws.Tells.{IsRef, cells_small, reference_cell, read_head}
 use Rattle.object_codegen.specs.refine_frame.Open.{IsGrounded}
 use Rattle.object_codegen.specs.refine_form.Form.{Scope}
-use Rattle.object_codegen.specs.refine_form.Frames.{Under, base, stack_base, before_stack, memory, stack_words, address_of}
+use Rattle.object_codegen.specs.refine_form.Frames.{Under, base, stack_base, before_stack, memory, stack_words}
+use Rattle.object_codegen.specs.refine_form.Frames.{address_of}
 use Rattle.object_codegen.specs.refine_form.Frames.{value_word}
 use Rattle.object_codegen.specs.refine_form.Stands.{shape_of, extra, setup, HasElements, Reads, Stands}
 use Rattle.object_codegen.specs.refine_form.Worlds.{Place}
@@ -150,7 +153,7 @@ module _ (p : Place) (routine : ℕ → Ident → ℕ) (linked : IsLinked p rout
     low_is = ap (free_at free) (known p classes s u st m r)
 
     small : base p.setting p.statics + 2 ^ p.setting.limits.heap + FRAME_WORDS * p.setting.limits.deep ≤ 2 ^ 23
-    small = cells_small (setup p.setting p.statics) h.keeps.grounded.limits linked.few
+    small = cells_small (setup p.setting p.statics) h.keeps.grounded.limits linked.routed.few
 
     same : h.keeps.placed.at ≡ h.frame.at
     same = same_at p.setting p.statics s u [] st m.cells rd
@@ -165,7 +168,7 @@ module _ (p : Place) (routine : ℕ → Ident → ℕ) (linked : IsLinked p rout
 
     live_of : (c : Cell) (n : ℕ) → read st c ≡ Name n → IsLive st.store n
     live_of c n e = live_read st c n (are_live p.setting classes
-        (context p.setting p.statics linked.few s h.keeps.class_inside u st m.cells h) st t) e
+        (context p.setting p.statics linked.routed.few s h.keeps.class_inside u st m.cells h) st t) e
 
     abbrev words : List ℕ
     words = stack_words p.setting p.statics h.keeps.placed.at u st.frame []
@@ -191,10 +194,10 @@ module _ (p : Place) (routine : ℕ → Ident → ℕ) (linked : IsLinked p rout
         omega (arith, l, v, d, i, f)
 
     frame_word : F < 2 ^ 32
-    frame_word = let f = frame_small p.setting p.statics linked.few s u [] st m.cells h in omega (arith, f)
+    frame_word = let f = frame_small p.setting p.statics linked.routed.few s u [] st m.cells h in omega (arith, f)
 
     object_word : u.object < 2 ^ 32
-    object_word = let f = object_small p.setting p.statics linked.few s u [] st m.cells h in omega (arith, f)
+    object_word = let f = object_small p.setting p.statics linked.routed.few s u [] st m.cells h in omega (arith, f)
 
     -- ---- cells, and what they name
 
@@ -530,14 +533,14 @@ module _ (p : Place) (routine : ℕ → Ident → ℕ) (linked : IsLinked p rout
         given_keeps a a' k' ea ea' =
             let h' = gone.gone p.setting p.statics s u st m.cells h cell k has no_int n reads single zeros small in
             let live = live_read left_state a' k' (are_live p.setting classes
-            (context p.setting p.statics linked.few s h.keeps.class_inside u left_state
+            (context p.setting p.statics linked.routed.few s h.keeps.class_inside u left_state
             (gone.given p.setting p.statics s u st m.cells h cell k has no_int n reads single zeros) h')
             left_state (typed p.setting p.statics s u [] left_state
             (gone.given p.setting p.statics s u st m.cells h cell k has no_int n reads single zeros)
             (reads_of h'))) ea' in
             let none = gone_none st cell n (order_of_cells (length (object_at st.store n).cells))
             (drawn_of p.setting (extra u []) (shape_of P s) s.class st
-            (sound p.setting p.statics linked.few s h.keeps.class_inside u st m.cells h)) in
+            (sound p.setting p.statics linked.routed.few s h.keeps.class_inside u st m.cells h)) in
             let apart : n ≢ k' = λ e. no_object none (ap (object_named left_state.store) e ∙ live.there) in
             ap (λ o. address_of p.setting p.statics (unwrap_or o no_placing) k')
             (ap (λ (z : State). place p.setting.limits.heap z.log)

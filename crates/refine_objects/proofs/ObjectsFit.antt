@@ -138,9 +138,9 @@ module _ (p : Place) (routine : ℕ → Ident → ℕ) (linked : IsLinked p rout
     table = table_at P (class_of P class)
 
     table_word : table_at P (class_of P class) < 2 ^ 32
-    table_word = table_small P linked.image linked.has (subst (λ (l : List ℕ). length l ≤ MOST_STATICS)
-        linked.statics_are
-        linked.few) (class_of P class) (let i = number_inside in omega (arith, i))
+    table_word = table_small P linked.routed.image linked.routed.has (subst (λ (l : List ℕ). length l ≤ MOST_STATICS)
+        linked.routed.statics_are
+        linked.routed.few) (class_of P class) (let i = number_inside in omega (arith, i))
 
     abbrev order : ℕ
     order = order_for (HEADER_WORDS + fields_of P class)
@@ -212,23 +212,27 @@ module _ (p : Place) (routine : ℕ → Ident → ℕ) (linked : IsLinked p rout
       can : CanRun spot free (place_words target) (read_of target) (Null 0) m
       can = subst (λ z. CanRun spot free (place_words target) (read_of target) (Null 0) z)
           (sym (known p classes s u st m r)) (record {
-            ready = ready p linked.few classes s u st m.cells rd (place_words target) 0 0 room;
-            first = sees_place p.setting p.statics linked.few classes s u st m.cells rd target parts.type target_words
+            ready = ready p linked.routed.few classes s u st m.cells rd (place_words target) 0 0 room;
+            first = sees_place p.setting p.statics linked.routed.few classes s u st m.cells rd target parts.type
+                target_words
                 parts.is;
             second = tt;
           })
 
       means : MeansPlace (Ad st) (Sl st) P st spot (bases_of m) m.cells target
       means = subst (λ z. MeansPlace (Ad st) (Sl st) P st spot (bases_of z) z.cells target)
-          (sym (known p classes s u st m r)) (means_place p.setting p.statics linked.few classes s u st m.cells rd
+          (sym (known p classes s u st m r)) (means_place p.setting p.statics linked.routed.few classes s u st m.cells
+          rd
           target
           parts.type target_words parts.is)
 
       tells : TellsShares (Ad st) (Sl st) P st spot (bases_of m) m.cells target (index_of target) (Null 0)
       tells = subst (λ z. TellsShares (Ad st) (Sl st) P st spot (bases_of z) z.cells target (index_of target) (Null 0))
           (sym (known p classes s u st m r))
-          (tells_shares p.setting p.statics linked.few classes s u st m.cells rd target parts.type (index_of target)
-          (Null 0) parts.is (index_typed p.setting p.statics linked.few classes s u st m.cells rd target parts.type
+          (tells_shares p.setting p.statics linked.routed.few classes s u st m.cells rd target parts.type
+          (index_of target)
+          (Null 0) parts.is (index_typed p.setting p.statics linked.routed.few classes s u st m.cells rd target
+          parts.type
           parts.is) (kind.Nil, refl))
 
       module _ (cell : Cell) (nc : cell_of P st target ≡ Ok cell) where
@@ -282,8 +286,8 @@ module _ (p : Place) (routine : ℕ → Ident → ℕ) (linked : IsLinked p rout
 
         made_same : sharing st ≡ false → SameCells P st with_object target × (sharing with_object ≡ false)
         made_same unshared =
-            let C = context p.setting p.statics linked.few s h.keeps.class_inside u st m.cells h in
-            let g = good p.setting p.statics linked.few s h.keeps.class_inside u st m.cells h in (
+            let C = context p.setting p.statics linked.routed.few s h.keeps.class_inside u st m.cells h in
+            let g = good p.setting p.statics linked.routed.few s h.keeps.class_inside u st m.cells h in (
               cells_of_place P st with_object target (made_place p.setting classes C st g
                   (length (fresh_cells p.setting class)) (OfClass (class_of P class)) (fresh_cells p.setting class)
                   target parts.type cell parts.is nc parts.own (avoids_of P st target (index_elements target)
@@ -324,12 +328,13 @@ module _ (p : Place) (routine : ℕ → Ident → ℕ) (linked : IsLinked p rout
           freed_same : sharing st ≡ false → SameCells P st (freed p.setting cell name st) target
               × (sharing (freed p.setting cell name st) ≡ false)
           freed_same unshared =
-              let C = context p.setting p.statics linked.few s h.keeps.class_inside u st m.cells h in
-              let g = good p.setting p.statics linked.few s h.keeps.class_inside u st m.cells h in
+              let C = context p.setting p.statics linked.routed.few s h.keeps.class_inside u st m.cells h in
+              let g = good p.setting p.statics linked.routed.few s h.keeps.class_inside u st m.cells h in
               let b = blocks.after_given p routine linked classes s u st m r cell parts.type has no_int name reads
               single
               zeros in
-              let g' = good p.setting p.statics linked.few s h.keeps.class_inside u (freed p.setting cell name st) _
+              let g' = good p.setting p.statics linked.routed.few s h.keeps.class_inside u
+              (freed p.setting cell name st) _
               b.open_frame in (
                 cells_of_place P st (freed p.setting cell name st) target
                     (gone_place p.setting classes C st g target parts.type cell parts.is nc name

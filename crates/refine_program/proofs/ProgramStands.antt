@@ -28,7 +28,7 @@ use Rattle.static_layout.specs.roopl_semantics.StandsFor.{StandsFor, Follows}
 use Rattle.refine_calls.specs.refine_form.Form.{Routines, AllMethods}
 use Rattle.refine_calls.specs.refine_form.Worlds.{Place, world_of}
 use Rattle.refine_calls.proofs.refine_form_laws.Stated.{nothing_is_owed}
-use Rattle.refine_calls.specs.Laws.{Route, IsLinked, OpensMain}
+use Rattle.refine_calls.specs.Laws.{Route, IsLinked, IsRouted, OpensMain}
 use Rattle.refine_calls.proofs.Stated.{frames_are_open, main_is_open}
 use Rattle.refine_program.specs.Methods.{Entry, entries, routine_of, routine_in, main_routine, method_place}
 use Rattle.refine_program.specs.Methods.{slot_places}
@@ -128,9 +128,8 @@ module _ (program : Source) (main allocator : List Symbol) (bodies : List (List 
     abbrev place : Place
     place = place_of program image at bodies tops limits
 
-    linked : IsLinked place (routine_in program)
-    linked = record {
-      accepted = is.accepted;
+    routed : IsRouted place (routine_in program)
+    routed = record {
       image = image;
       has = has;
       statics_are = refl;
@@ -145,6 +144,9 @@ module _ (program : Source) (main allocator : List Symbol) (bodies : List (List 
         routine = stands_at im main all is.linked 0 some;
       };
     }
+
+    linked : IsLinked place (routine_in program)
+    linked = record { accepted = is.accepted; routed = routed }
 
     -- every routine has the law of its method
     methods : AllMethods (world_of place)
@@ -170,7 +172,7 @@ module _ (program : Source) (main allocator : List Symbol) (bodies : List (List 
     no_more = as_many_places (first_top main) all ∙ many;
     bodies = bodies;
     tops = tops;
-    linked = linked;
+    linked = routed;
     owed = λ limits fuel. nothing_is_owed (place limits) (methods limits) fuel;
   }
 

@@ -22,7 +22,7 @@ use Rattle.refine_calls.specs.buddy_pisa.Promise.{AllocatorLaw}
 use Rattle.refine_calls.specs.refine_form.Form.{Routines, MethodLaw, Owes}
 use Rattle.refine_calls.specs.refine_form.Worlds.{Place, world_of}
 use Rattle.refine_calls.specs.method_calls.Laws.{MainCode}
-use Rattle.refine_calls.specs.Laws.{IsLinked}
+use Rattle.refine_calls.specs.Laws.{IsLinked, IsRouted}
 use Rattle.refine_program.specs.Methods.{Entry, entries, entry_at, scope_at, routine_of, routine_in}
 use Rattle.refine_program.specs.Methods.{main_routine, statics_of}
 
@@ -148,7 +148,7 @@ pub record HasRoutines (program : Source) (image : Segments) (starts : List ℕ)
   pub bodies : List (List Symbol)
   pub tops : ℕ → ℕ
   pub linked : (limits : Limits)
-      → IsLinked (place_of program image starts bodies tops limits) (routine_in program)
+      → IsRouted (place_of program image starts bodies tops limits) (routine_in program)
   pub owed : (limits : Limits) (fuel : ℕ)
       → Owes (world_of (place_of program image starts bodies tops limits)) fuel
 

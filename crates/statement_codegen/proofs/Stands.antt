@@ -46,7 +46,7 @@ use Rattle.statement_codegen.specs.Laws.{LocalLaw}
 
 pub laid_out : (place : Place) (routine : ℕ → Rattle.rpp_tree.specs.declared.tree.Ident.Ident → ℕ)
     → IsLinked place routine → IsLaidOut place
-laid_out place routine linked = record { accepted = linked.accepted; few = linked.few }
+laid_out place routine linked = record { accepted = linked.accepted; few = linked.routed.few }
 
 pub names_same : (v : Visible) (place : Place) → place.setting.program ≡ source_of v.program
     → known_of place.setting.program (scope_of v) ≡ known_in v
