@@ -23,16 +23,16 @@ fn value_in<'a>(start: &[u8], line: &'a [u8], best: Option<&'a [u8]>) -> Option<
     }
 }
 
-// The value of the last of the lines that begins so, or else another one.
-fn last_value<'a>(start: &[u8], best: Option<&'a [u8]>, lines: &[&'a [u8]]) -> Option<&'a [u8]>
+// The value of the last of some lines that begins so, if one does.
+fn last_value<'a>(start: &[u8], lines: &[&'a [u8]]) -> Option<&'a [u8]>
     ensures { option_map (λ value. value.now) result
-        ≡ last_value_of start.now (option_map (λ value. value.now) best.entry)
-        (map (λ line. line.now) lines.now) }
+        ≡ last_value_of start.now None (map (λ line. line.now) lines.now) }
 {
-    match lines {
-        [] => best,
-        [line, rest @ ..] => last_value(start, value_in(start, line, best), rest),
+    let mut best = None;
+    for line in lines {
+        best = value_in(start, line, best);
     }
+    best
 }
 
 // The line on a value.
@@ -52,7 +52,7 @@ fn value_by(alloc: Global, start: &[u8], text: &[u8]) -> Result<Option<Vec<u8>>,
         ≡ value_of_start start.now text.now) }
 {
     let lines = pieces(alloc, b'\n', text)?;
-    match last_value(start, None, &lines) {
+    match last_value(start, &lines) {
         None => Ok(None),
         Some(value) => Ok(Some(value_line(alloc, value)?)),
     }
