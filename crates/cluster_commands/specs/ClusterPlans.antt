@@ -7,7 +7,7 @@ use Rattle.pisa_cluster.specs.pisa_isa.Notes.{NotedImage}
 use Rattle.command_plan.specs.pisa_image.declared.error.ImageError.{ImageError}
 use Rattle.command_plan.specs.pisa_image.Reading.{image_at}
 use Rattle.command_plan.specs.declared.reading.TheConstants.{MOST_IMAGE}
-use Rattle.command_plan.specs.declared.plan.Verdict.TheVariants.{Done, ImageRefused, InputRefused}
+use Rattle.command_plan.specs.command_ends.declared.verdict.Verdict.TheVariants.{Done, ImageRefused, InputRefused}
 use Rattle.command_plan.specs.Files.{Needed, image_file, script_file}
 use Rattle.command_plan.specs.Plans.{Planned, prints, WithText}
 use Rattle.command_plan.specs.Texts.{bad_command_line, image_line}

@@ -7,9 +7,9 @@ pub use Rattle.pisa_loader.specs.pisa_image
 pub use Rattle.pisa_asm.specs as pisa_asm
 pub use Rattle.pisa_loader.specs as pisa_loader
 pub use Rattle.pisa_scripts.specs as pisa_scripts
+pub use Rattle.command_ends.specs as command_ends
 pub mod Refusals
 pub mod Texts
 pub mod Plans
 pub mod Files
-pub mod Statuses
 pub mod Reads

@@ -5,22 +5,11 @@ use Rattle.std.specs.declared.option.Option.{Option}
 use Rattle.pisa_loader.specs.declared.input.TheConstants.{MOST_INPUT}
 use Rattle.rpp_ports.specs.Ports.{Texts, IsTextOf}
 use Rattle.command_plan.specs.declared.reading.TheConstants.{MOST_STATE}
-use Rattle.command_plan.specs.declared.plan.Verdict.{Verdict}
-use Rattle.command_plan.specs.declared.plan.Verdict.TheVariants.{Done, SourceRefused, ImageRefused}
-use Rattle.command_plan.specs.declared.plan.Verdict.TheVariants.{Trapped, Bound, InputRefused}
-use Rattle.command_plan.specs.declared.plan.Verdict.TheVariants.{Stopped}
+use Rattle.command_ends.specs.declared.verdict.Verdict.{Verdict}
+use Rattle.command_ends.specs.declared.verdict.Verdict.TheVariants.{Done}
 use Rattle.command_plan.specs.declared.plan.Writing.{Writing}
 use Rattle.command_plan.specs.declared.plan.Plan.{Plan}
 use Rattle.command_plan.specs.declared.plan.NoPlan.{NoPlan}
-
-abbrev pub code_of : Verdict → ℕ
-code_of Done = 0
-code_of SourceRefused = 3
-code_of ImageRefused = 4
-code_of Trapped = 5
-code_of Bound = 6
-code_of InputRefused = 8
-code_of Stopped = 9
 
 -- a file that is to be written
 pub record Written : Type 0 where

@@ -5,16 +5,15 @@
 
 mod plan;
 mod reading;
-mod status;
 mod texts;
 mod writing;
 
-pub use plan::{NoPlan, Plan, Room, Sizes, Verdict, Writing};
+pub use command_ends::{Broken, Verdict, status_of};
+pub use plan::{NoPlan, Plan, Room, Sizes, Writing};
 pub use reading::{
     Both, Given, Images, MOST_IMAGE, MOST_STATE, StateNames, read_both, read_file, read_given,
     read_images, read_input_file,
 };
-pub use status::{Broken, status_of};
 pub use texts::{
     asm_line, bad_command_line, fault_line, image_line, load_line, refuse_source, report_bound,
     report_fault, with_steps,

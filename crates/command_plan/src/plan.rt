@@ -1,39 +1,10 @@
 // What a command has made up its mind to do, and what stops it before.
 ghost use Rattle.std.specs.Prelude.{◌≡◌, string_bytes};
 ghost use Rattle.command_plan.specs.declared.plan.NoPlan.TheVariants.{NoMemory};
-ghost use Rattle.command_plan.specs.Plans.{code_of, planned, prints, writes};
+ghost use Rattle.command_plan.specs.Plans.{planned, prints, writes};
 
+use command_ends::Verdict;
 use std::alloc::{AllocError, AllocFailed};
-
-/// How a command ended that nothing stopped.
-#[derive(Clone, Copy, Debug, PartialEq, Eq)]
-pub enum Verdict {
-    Done,
-    SourceRefused,
-    ImageRefused,
-    Trapped,
-    Bound,
-    InputRefused,
-    /// A run of an image that ended in a way in which no compiled image ends.
-    Stopped,
-}
-
-impl Verdict {
-    /// The status of the program.
-    pub fn code(self) -> u8
-        ensures { result ≡ code_of self }
-    {
-        match self {
-            Verdict::Done => 0,
-            Verdict::SourceRefused => 3,
-            Verdict::ImageRefused => 4,
-            Verdict::Trapped => 5,
-            Verdict::Bound => 6,
-            Verdict::InputRefused => 8,
-            Verdict::Stopped => 9,
-        }
-    }
-}
 
 /// A file that is to be written.
 #[derive(Drop)]

@@ -6,7 +6,8 @@ ghost use Rattle.command_plan.specs.Refusals.{refused_line as line_of_refusal, r
 ghost use Rattle.command_plan.specs.Texts.{load_line as line_of_load, bad_command_line as line_of_bad_command, steps_line, bound_lines, asm_line as line_of_asm, image_line as line_of_image};
 ghost use Rattle.pisa_scripts.specs.Stops.{fault_line as line_of_fault};
 
-use crate::plan::{Plan, Verdict};
+use crate::plan::Plan;
+use command_ends::Verdict;
 use pisa_asm::AsmError;
 use pisa_image::ImageError;
 use pisa_isa::Stop;

@@ -9,7 +9,7 @@ use Rattle.source_meaning.specs.declared.outcome.Outcome.{Outcome}
 use Rattle.source_meaning.specs.declared.outcome.Outcome.TheVariants as outcome
 use Rattle.source_meaning.specs.Outcomes.{IsOutcome}
 use Rattle.command_plan.specs.declared.plan.Plan.{Plan}
-use Rattle.command_plan.specs.declared.plan.Verdict.TheVariants.{Done}
+use Rattle.command_plan.specs.command_ends.declared.verdict.Verdict.TheVariants.{Done}
 use Rattle.command_plan.specs.Plans.{Planned, planned, prints}
 use Rattle.explain_commands.specs.Explained.{cost_line, explained, Tells}
 

@@ -18,7 +18,7 @@ use Rattle.store_report.specs.roopl_semantics.Report.{report}
 use Rattle.source_meaning.specs.declared.outcome.Outcome.{Outcome}
 use Rattle.source_meaning.specs.declared.outcome.Outcome.TheVariants as outcome
 use Rattle.source_meaning.specs.declared.whole.TheConstants.{MOST_OPEN}
-use Rattle.command_plan.specs.declared.plan.Verdict.TheVariants.{Done, Trapped, Bound, InputRefused}
+use Rattle.command_plan.specs.command_ends.declared.verdict.Verdict.TheVariants.{Done, Trapped, Bound, InputRefused}
 use Rattle.command_plan.specs.Plans.{Planned, prints, WithText, WithInput}
 use Rattle.command_plan.specs.Texts.{load_line}
 use Rattle.command_plan.specs.pisa_scripts.Stops.{fault_line}

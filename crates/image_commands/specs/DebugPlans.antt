@@ -22,7 +22,7 @@ use Rattle.two_way_debugger.specs.declared.error.ScriptError.TheVariants.{BadCom
 use Rattle.two_way_debugger.specs.Scripts.{script_of}
 use Rattle.two_way_debugger.specs.Shown.{shown, spent_in}
 use Rattle.command_plan.specs.declared.reading.TheConstants.{MOST_IMAGE}
-use Rattle.command_plan.specs.declared.plan.Verdict.TheVariants.{Done, InputRefused}
+use Rattle.command_plan.specs.command_ends.declared.verdict.Verdict.TheVariants.{Done, InputRefused}
 use Rattle.command_plan.specs.Plans.{Planned, prints, WithText}
 use Rattle.command_plan.specs.Texts.{load_line, bad_command_line}
 use Rattle.image_commands.specs.ImagePlans.{OfRunImage}

@@ -28,9 +28,9 @@ use Rattle.command_plan.specs.pisa_loader.Limiting.{limits_refusal, memory_size}
 use Rattle.command_plan.specs.pisa_loader.States.{state_bytes, state_at, at_start, memory}
 use Rattle.command_plan.specs.pisa_loader.declared.error.LoadError.{LoadError}
 use Rattle.command_plan.specs.rpp_words.declared.input.TheConstants.{MOST_DEEP}
-use Rattle.command_plan.specs.declared.plan.Verdict.{Verdict}
-use Rattle.command_plan.specs.declared.plan.Verdict.TheVariants.{Done, ImageRefused, Trapped, Bound}
-use Rattle.command_plan.specs.declared.plan.Verdict.TheVariants.{InputRefused, Stopped}
+use Rattle.command_plan.specs.command_ends.declared.verdict.Verdict.{Verdict}
+use Rattle.command_plan.specs.command_ends.declared.verdict.Verdict.TheVariants.{Done, ImageRefused, Trapped, Bound}
+use Rattle.command_plan.specs.command_ends.declared.verdict.Verdict.TheVariants.{InputRefused, Stopped}
 use Rattle.command_plan.specs.Plans.{Planned, Written, prints, writes, WithText, WithState}
 
 -- the status of a stop

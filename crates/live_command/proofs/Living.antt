@@ -15,7 +15,8 @@ use Rattle.run_settings.specs.declared.setting.Ready.TheVariants.{Refused, Runs}
 use Rattle.run_settings.specs.declared.setting.RunSetting.{RunSetting}
 use Rattle.command_plan.specs.Files.{Needed}
 use Rattle.command_plan.specs.Reads.{Stops, StopsAt}
-use Rattle.command_plan.specs.Plans.{planned, code_of}
+use Rattle.command_plan.specs.Plans.{planned}
+use Rattle.command_plan.specs.command_ends.Statuses.{code_of}
 use Rattle.command_plan.specs.declared.plan.Room.{Room}
 use Rattle.command_plan.specs.declared.plan.Plan.{Plan}
 use Rattle.command_plan.specs.declared.plan.NoPlan.{NoPlan}

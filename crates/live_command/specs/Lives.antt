@@ -18,9 +18,10 @@ use Rattle.command_plan.specs.pisa_loader.Limiting.{limits_refusal}
 use Rattle.command_plan.specs.pisa_loader.declared.error.LoadError.{LoadError}
 use Rattle.command_plan.specs.Files.{Needed, source, input_files, image_file, state_files}
 use Rattle.command_plan.specs.Reads.{Gave, StopsAt, ReadsSome}
-use Rattle.command_plan.specs.Plans.{Planned, code_of}
+use Rattle.command_plan.specs.Plans.{Planned}
+use Rattle.command_plan.specs.command_ends.Statuses.{code_of}
 use Rattle.command_plan.specs.Texts.{image_line, load_line}
-use Rattle.command_plan.specs.declared.plan.Verdict.TheVariants.{ImageRefused, InputRefused}
+use Rattle.command_plan.specs.command_ends.declared.verdict.Verdict.TheVariants.{ImageRefused, InputRefused}
 use Rattle.plan_serving.specs.Outside.{Shelved}
 use Rattle.source_debugger.specs.Failures.{account}
 use Rattle.live_talks.specs.Talks.{Talk, Printed, Puts, Says, status_by}

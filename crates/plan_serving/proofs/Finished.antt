@@ -6,10 +6,10 @@ use Rattle.command_plan.specs.rpp_ports.Events.{Write}
 use Rattle.command_plan.specs.rpp_ports.declared.shelf.ShelfFault.{ShelfFault}
 use Rattle.command_plan.specs.rpp_ports.declared.sink.SinkFault.TheVariants as sink
 use Rattle.command_plan.specs.Plans.{written}
-use Rattle.command_plan.specs.Statuses.{broken_code}
+use Rattle.command_plan.specs.command_ends.Statuses.{broken_code}
 use Rattle.command_plan.specs.declared.plan.Writing.{Writing}
-use Rattle.command_plan.specs.declared.status.Broken.{Broken}
-use Rattle.command_plan.specs.declared.status.Broken.TheVariants.{Outside, NoMemory}
+use Rattle.command_plan.specs.command_ends.declared.status.Broken.{Broken}
+use Rattle.command_plan.specs.command_ends.declared.status.Broken.TheVariants.{Outside, NoMemory}
 use Rattle.plan_serving.specs.Outside.{Shelved, Printed, WriteLeaves, HasWritten, HasPut}
 use Rattle.plan_serving.specs.Finishes.{Puts, FailsToWrite, CannotWrite, Finishes, put_answer, ended}
 

@@ -6,9 +6,9 @@ use Rattle.command_plan.specs.rpp_ports.declared.shelf.ShelfFault.TheVariants as
 use Rattle.command_plan.specs.rpp_ports.declared.sink.SinkFault.{SinkFault}
 use Rattle.command_plan.specs.rpp_ports.declared.sink.SinkFault.TheVariants as sink
 use Rattle.command_plan.specs.Plans.{Written}
-use Rattle.command_plan.specs.Statuses.{broken_code}
-use Rattle.command_plan.specs.declared.status.Broken.{Broken}
-use Rattle.command_plan.specs.declared.status.Broken.TheVariants as broken
+use Rattle.command_plan.specs.command_ends.Statuses.{broken_code}
+use Rattle.command_plan.specs.command_ends.declared.status.Broken.{Broken}
+use Rattle.command_plan.specs.command_ends.declared.status.Broken.TheVariants as broken
 use Rattle.plan_serving.specs.Outside.{Shelved, Printed, HasWritten, HasPut}
 
 -- the line on a file that could not be written

@@ -5,8 +5,8 @@ use Rattle.std.specs.Io.KnownBytes.{Appends, Keeps}
 use Rattle.command_plan.specs.rpp_ports.Ports.{Texts, KeepsOthers, SetsText, LeavesAfter, AppendsPrefix}
 use Rattle.command_plan.specs.rpp_ports.declared.shelf.ShelfFault.TheVariants.{Failed}
 use Rattle.command_plan.specs.Plans.{Written, Planned}
-use Rattle.command_plan.specs.declared.status.Broken.{Broken}
-use Rattle.command_plan.specs.declared.status.Broken.TheVariants.{Outside, NoMemory}
+use Rattle.command_plan.specs.command_ends.declared.status.Broken.{Broken}
+use Rattle.command_plan.specs.command_ends.declared.status.Broken.TheVariants.{Outside, NoMemory}
 use Rattle.plan_serving.specs.Finishes.{unwritten}
 
 -- the file is written and other names stay, or the map is as before

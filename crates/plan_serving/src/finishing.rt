@@ -3,8 +3,8 @@ ghost use Rattle.std.specs.Prelude.{◌≡◌, ◌⊎◌, ◌≤◌, OnOk, IfOk,
 ghost use Rattle.std.specs.Io.KnownBytes.{Appends, Keeps};
 ghost use Rattle.command_plan.specs.rpp_ports.Ports.{Rose, SetsText, AppendsPrefix};
 ghost use Rattle.command_plan.specs.rpp_ports.declared.sink.SinkFault.{SinkFault};
-ghost use Rattle.command_plan.specs.Plans.{planned, written, code_of};
-ghost use Rattle.command_plan.specs.Statuses.{broken_code};
+ghost use Rattle.command_plan.specs.Plans.{planned, written};
+ghost use Rattle.command_plan.specs.command_ends.Statuses.{code_of, broken_code};
 ghost use Rattle.plan_serving.specs.Outside.{HasWritten, HasPut};
 ghost use Rattle.plan_serving.specs.Finishes.{unwritten, FailsToWrite, CannotWrite, Finishes, put_answer, ended};
 ghost use Rattle.plan_serving.specs.Left.{Leaves, Tries, LeavesUnwritten, BreaksOff, KeepsButTarget};

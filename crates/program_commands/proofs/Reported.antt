@@ -24,7 +24,7 @@ use Rattle.program_commands.specs.GoRun.{HasRun}
 use Rattle.command_plan.specs.Plans.{Planned, prints}
 use Rattle.program_runs.specs.Reports.{ReportsStore}
 use Rattle.command_plan.specs.Texts.{steps_line}
-use Rattle.command_plan.specs.declared.plan.Verdict.TheVariants.{Done}
+use Rattle.command_plan.specs.command_ends.declared.verdict.Verdict.TheVariants.{Done}
 
 module _ (program : Source) (limits : Limits) (input : List FieldWord) (bound : ℕ) (end : Position) (spent : ℕ) where
   follows : (why : Stop) → HasRun program limits input bound end why spent → Follows program end.image limits input

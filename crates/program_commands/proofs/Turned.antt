@@ -23,7 +23,7 @@ use Rattle.store_report.specs.roopl_semantics.Source.{starting}
 use Rattle.store_report.specs.roopl_semantics.Store.{State}
 use Rattle.store_report.specs.roopl_semantics.Report.{report}
 use Rattle.program_commands.proofs.Reported.{final, final_memory, soon_over}
-use Rattle.command_plan.specs.declared.plan.Verdict.TheVariants.{Done}
+use Rattle.command_plan.specs.command_ends.declared.verdict.Verdict.TheVariants.{Done}
 use Rattle.command_plan.specs.Plans.{Planned, prints}
 use Rattle.program_commands.specs.ProgramPlans.{ReportsTurn, ReportsStop, ReportsEnd, RunsImage, back_lines}
 use Rattle.program_commands.specs.ProgramPlans.{steps_back}

@@ -24,7 +24,7 @@ use Rattle.store_report.specs.roopl_semantics.Report.{report}
 use Rattle.store_report.specs.roopl_semantics.StandsFor.{StandsFor, EndsAt, run_of, enough_steps}
 use Rattle.program_runs.specs.run_settings.Runnable.{IsJudgedPlan}
 use Rattle.roopl_judge.specs.rpp_words.Texts.{line_end}
-use Rattle.command_plan.specs.declared.plan.Verdict.TheVariants.{Done}
+use Rattle.command_plan.specs.command_ends.declared.verdict.Verdict.TheVariants.{Done}
 use Rattle.command_plan.specs.Plans.{Planned, prints, writes, WithText}
 use Rattle.command_plan.specs.Texts.{steps_line, cells_line}
 use Rattle.program_runs.specs.Reports.{ReportsStore, ReportsFault, ReportsBound}

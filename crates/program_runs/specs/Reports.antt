@@ -7,7 +7,7 @@ use Rattle.run_settings.specs.roopl_semantics.Store.{State}
 use Rattle.run_settings.specs.roopl_semantics.Source.{GivesDone, GivesFault}
 use Rattle.run_settings.specs.roopl_semantics.Report.{report}
 use Rattle.run_settings.specs.roopl_semantics.StandsFor.{EndsAt, enough_steps}
-use Rattle.run_settings.specs.command_plan.declared.plan.Verdict.TheVariants.{Done, Trapped, Bound}
+use Rattle.run_settings.specs.command_plan.command_ends.declared.verdict.Verdict.TheVariants.{Done, Trapped, Bound}
 use Rattle.run_settings.specs.command_plan.Plans.{Planned, prints}
 use Rattle.run_settings.specs.command_plan.Texts.{steps_line, bound_lines}
 use Rattle.run_settings.specs.pisa_scripts.Stops.{fault_line}

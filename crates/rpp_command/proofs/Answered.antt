@@ -5,10 +5,11 @@ use Rattle.std.specs.declared.option.Option.{Option}
 use Rattle.command_line.specs.rpp_ports.Ports.{Texts}
 use Rattle.command_line.specs.rpp_ports.Events.{Event}
 use Rattle.command_line.specs.rpp_probes.Tally.{Watch}
-use Rattle.command_line.specs.command_plan.Plans.{Planned, code_of}
+use Rattle.command_line.specs.command_plan.Plans.{Planned}
+use Rattle.command_line.specs.command_plan.command_ends.Statuses.{code_of}
 use Rattle.command_line.specs.command_plan.declared.plan.NoPlan.{NoPlan}
 use Rattle.command_line.specs.command_plan.declared.plan.NoPlan.TheVariants as none
-use Rattle.command_line.specs.command_plan.declared.status.Broken.{Broken}
+use Rattle.command_line.specs.command_plan.command_ends.declared.status.Broken.{Broken}
 use Rattle.command_line.specs.Lines.{Asked}
 use Rattle.rpp_command.specs.Causes.{files_of}
 use Rattle.rpp_command.specs.GivenPlans.{IsPlanOf}

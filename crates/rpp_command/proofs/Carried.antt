@@ -5,7 +5,8 @@ use Rattle.std.specs.Io.KnownBytes.{Appends}
 use Rattle.std.specs.declared.option.Option.{Option}
 use Rattle.command_line.specs.rpp_ports.Ports.{Texts}
 use Rattle.command_line.specs.rpp_probes.Tally.{Watch}
-use Rattle.command_line.specs.command_plan.Plans.{Planned, code_of}
+use Rattle.command_line.specs.command_plan.Plans.{Planned}
+use Rattle.command_line.specs.command_plan.command_ends.Statuses.{code_of}
 use Rattle.command_line.specs.Lines.{Asked}
 use Rattle.rpp_command.specs.Plans.{IsPlan}
 use Rattle.plan_serving.specs.Left.{Leaves}

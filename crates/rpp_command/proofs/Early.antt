@@ -5,8 +5,8 @@ use Rattle.std.specs.declared.option.Option.{Option}
 use Rattle.command_line.specs.rpp_ports.Ports.{Texts, Rose}
 use Rattle.command_line.specs.rpp_probes.Tally.{Watch}
 use Rattle.command_line.specs.command_plan.Plans.{Planned, Written}
-use Rattle.command_line.specs.command_plan.declared.status.Broken.{Broken}
-use Rattle.command_line.specs.command_plan.declared.status.Broken.TheVariants.{Outside, NoMemory}
+use Rattle.command_line.specs.command_plan.command_ends.declared.status.Broken.{Broken}
+use Rattle.command_line.specs.command_plan.command_ends.declared.status.Broken.TheVariants.{Outside, NoMemory}
 use Rattle.command_line.specs.Lines.{Asked, Turn, Profile}
 use Rattle.plan_serving.proofs.Fetched.{rose_before}
 use Rattle.rpp_command.specs.Plans.{IsPlan, LeavesProbes}

@@ -6,14 +6,15 @@ use Rattle.std.specs.Io.KnownBytes.{Appends, Keeps}
 use Rattle.command_line.specs.rpp_probes.Tally.{Watch}
 use Rattle.command_line.specs.rpp_ports.Ports.{Texts, AppendsPrefix}
 use Rattle.command_line.specs.Lines.{Asked}
-use Rattle.command_line.specs.command_plan.Plans.{Planned, code_of}
+use Rattle.command_line.specs.command_plan.Plans.{Planned}
+use Rattle.command_line.specs.command_plan.command_ends.Statuses.{code_of}
 use Rattle.rpp_command.specs.Plans.{IsPlan, LeavesProbes}
 use Rattle.command_line.specs.command_plan.Files.{Needed, FirstUnread}
 use Rattle.rpp_command.specs.Causes.{files_of}
 use Rattle.rpp_command.specs.Answers.{words_refused}
 use Rattle.plan_serving.specs.Left.{Leaves, Says, BreaksOff}
-use Rattle.command_line.specs.command_plan.declared.status.Broken.{Broken}
-use Rattle.command_line.specs.command_plan.declared.status.Broken.TheVariants.{Outside, NoMemory}
+use Rattle.command_line.specs.command_plan.command_ends.declared.status.Broken.{Broken}
+use Rattle.command_line.specs.command_plan.command_ends.declared.status.Broken.TheVariants.{Outside, NoMemory}
 
 -- a plan of the line was carried out, for which so many machine steps were made
 pub record CarriesOutTold (line : Asked) (probes kept : List Watch) (told after : Option Texts)

@@ -2,8 +2,8 @@
 ghost use Rattle.std.specs.Prelude.{◌≡◌, ◌≢◌, Some, false, ◌⊎◌, ◌≤◌, ◌<◌, OnOk, map, string_bytes, IfOk, IfErr, IfSome, IsErrOf, IsTrue};
 ghost use Rattle.command_line.specs.rpp_ports.Ports.{Rose};
 ghost use Rattle.command_line.specs.Lines.{asked, line_of, room_at, sizes_at, HasShortNumbers};
-ghost use Rattle.command_line.specs.command_plan.Plans.{GivesPlan, code_of, planned};
-ghost use Rattle.command_line.specs.command_plan.Statuses.{served_status};
+ghost use Rattle.command_line.specs.command_plan.Plans.{GivesPlan, planned};
+ghost use Rattle.command_line.specs.command_plan.command_ends.Statuses.{code_of, served_status};
 ghost use Rattle.command_line.specs.command_plan.declared.plan.NoPlan.TheVariants.{NoMemory};
 ghost use Rattle.rpp_command.specs.Plans.{IsPlan, LeavesProbes};
 ghost use Rattle.command_line.specs.command_plan.Files.{OnlyReads, Unreadable, UnreadCause, LacksOne};

@@ -10,7 +10,7 @@ use Rattle.command_plan.specs.declared.plan.Room.{Room}
 use Rattle.command_plan.specs.pisa_loader.Limiting.{limits_refusal}
 use Rattle.command_plan.specs.pisa_loader.declared.error.LoadError.{LoadError}
 use Rattle.roopl_judge.specs.Judged.{IsJudged}
-use Rattle.command_plan.specs.declared.plan.Verdict.TheVariants.{SourceRefused, InputRefused}
+use Rattle.command_plan.specs.command_ends.declared.verdict.Verdict.TheVariants.{SourceRefused, InputRefused}
 use Rattle.command_plan.specs.Plans.{Planned, prints}
 use Rattle.command_plan.specs.Refusals.{refused_line}
 use Rattle.command_plan.specs.Texts.{load_line}

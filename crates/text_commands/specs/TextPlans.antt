@@ -11,7 +11,7 @@ use Rattle.roopl_judge.specs.class_rules.Refusal.{Refusal}
 use Rattle.roopl_judge.specs.Judged.{IsJudged}
 use Rattle.meaning_inverse.specs.inverse_rules.Inverse.{inverse_program}
 use Rattle.roopl_printer.specs.Spelled.{printed}
-use Rattle.command_plan.specs.declared.plan.Verdict.TheVariants.{SourceRefused}
+use Rattle.command_plan.specs.command_ends.declared.verdict.Verdict.TheVariants.{SourceRefused}
 use Rattle.command_plan.specs.Plans.{Planned, prints, writes, WithText}
 use Rattle.command_plan.specs.Refusals.{refused_line}
 

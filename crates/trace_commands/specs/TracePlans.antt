@@ -14,7 +14,7 @@ use Rattle.two_way_debugger.specs.declared.error.ScriptError.TheVariants.{BadCom
 use Rattle.two_way_debugger.specs.declared.error.ScriptError.TheVariants as script
 use Rattle.two_way_debugger.specs.Scripts.{script_of}
 use Rattle.source_debugger.specs.Shown.{told}
-use Rattle.run_settings.specs.command_plan.declared.plan.Verdict.TheVariants.{Done, InputRefused}
+use Rattle.run_settings.specs.command_plan.command_ends.declared.verdict.Verdict.TheVariants.{Done, InputRefused}
 use Rattle.run_settings.specs.command_plan.Plans.{Planned, prints, WithText, WithInput}
 use Rattle.run_settings.specs.command_plan.Texts.{bad_command_line}
 use Rattle.run_settings.specs.Runnable.{RefusesRun, RunsTo}

@@ -29,7 +29,7 @@ use Rattle.refine_wrap.specs.Programs.{EndsAsSource, EndsDone, IsStatic, field_c
 use Rattle.refine_wrap.proofs.IntFields.{int_fields}
 use Rattle.refine_wrap.proofs.Told.{wrapped_programs_follow}
 use Rattle.program_runs.proofs.run_settings_laws.ValidInput.{field_fits}
-use Rattle.command_plan.specs.declared.plan.Verdict.TheVariants.{Done}
+use Rattle.command_plan.specs.command_ends.declared.verdict.Verdict.TheVariants.{Done}
 use Rattle.command_plan.specs.Plans.{Planned, prints}
 use Rattle.command_plan.specs.Texts.{steps_line}
 use Rattle.wrap_commands.specs.WrapNames.{HasLowNumber, result_cells}

@@ -27,8 +27,8 @@ use Rattle.refine_wrap.specs.bennett_wrap.Wrapped.{Wrapped}
 use Rattle.refine_wrap.specs.Programs.{EndsDone, wrapped_run, enough_wrapped}
 use Rattle.roopl_judge.specs.Judged.{IsJudged}
 use Rattle.command_plan.specs.declared.plan.Sizes.{Sizes}
-use Rattle.command_plan.specs.declared.plan.Verdict.TheVariants.{Done, Bound}
-use Rattle.command_plan.specs.declared.plan.Verdict.TheVariants.{InputRefused}
+use Rattle.command_plan.specs.command_ends.declared.verdict.Verdict.TheVariants.{Done, Bound}
+use Rattle.command_plan.specs.command_ends.declared.verdict.Verdict.TheVariants.{InputRefused}
 use Rattle.command_plan.specs.Plans.{Planned, prints, WithText, WithInput}
 use Rattle.command_plan.specs.Texts.{load_line, steps_line, bound_lines}
 use Rattle.program_runs.specs.run_settings.Inputs.{input_fields, given_input}
