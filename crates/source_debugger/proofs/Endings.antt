@@ -7,8 +7,8 @@ use Rattle.std.proofs.lemmas.Bool.{eqb-true, eqb-false}
 use Rattle.source_meaning.specs.rpp_words.declared.input.FieldWord.{FieldWord}
 use Rattle.source_meaning.specs.rpp_words.declared.input.Limits.{Limits}
 use Rattle.source_meaning.specs.rpp_words.Limits.{IsLimits}
-use Rattle.rpp_tree.specs.Tree.{Source, Statements, End, Then}
-use Rattle.rpp_tree.specs.Places.{statement_place}
+use Rattle.source_meaning.specs.rpp_tree.Tree.{Source, Statements, End, Then}
+use Rattle.source_meaning.specs.rpp_tree.Places.{statement_place}
 use Rattle.source_meaning.specs.class_rules.Program.{IsAccepted}
 use Rattle.source_meaning.specs.roopl_semantics.Run.{Run, Done, Fault, More}
 use Rattle.source_meaning.specs.roopl_semantics.Store.{State, Store, Binding, main_name}

@@ -5,7 +5,7 @@ use Rattle.std.specs.Prelude.{slice_get, nat_eq}
 use Rattle.std.proofs.lemmas.Bool.{le-leb}
 use Rattle.source_meaning.specs.rpp_words.declared.input.FieldWord.{FieldWord}
 use Rattle.source_meaning.specs.rpp_words.declared.input.Limits.{Limits}
-use Rattle.rpp_tree.specs.Tree.{Source}
+use Rattle.source_meaning.specs.rpp_tree.Tree.{Source}
 use Rattle.source_meaning.specs.roopl_semantics.Run.{Run, Done, Fault, More}
 use Rattle.source_meaning.specs.roopl_semantics.Store.{State}
 use Rattle.source_meaning.specs.roopl_semantics.Execution.{Setting}

@@ -1,19 +1,17 @@
 -- Commands that are carried out one after the other.
-use Rattle.std.proofs.Common.{◌≡◌, ℕ, suc, ◌+◌, ◌-◌, ◌<◌, ◌≤◌, refl, sym, ap, subst, ◌∙◌, arith, append-nil}
+use Rattle.std.proofs.Common.{◌≡◌, ℕ, ◌+◌, ◌<◌, ◌≤◌, refl, sym, ap, subst, ◌∙◌, arith, append-nil}
 use Rattle.std.proofs.Common.{append_assoc, List, [], ◌∷◌, ◌++◌, length, get_or, take, Option, Some, None}
 use Rattle.std.specs.Prelude.{Result, Ok, Err, IfOk}
 use Rattle.std.proofs.lemmas.List.{take_more, take_all}
 use Rattle.source_meaning.specs.rpp_words.declared.input.FieldWord.{FieldWord}
 use Rattle.source_meaning.specs.rpp_words.declared.input.Limits.{Limits}
-use Rattle.rpp_tree.specs.declared.tree.Program.{Program}
-use Rattle.rpp_tree.specs.Tree.{Source}
-use Rattle.rpp_tree.specs.Views.{source_of}
-use Rattle.source_meaning.specs.roopl_semantics.Store.{Store, object_named}
+use Rattle.source_meaning.specs.rpp_tree.declared.tree.Program.{Program}
+use Rattle.source_meaning.specs.rpp_tree.Tree.{Source}
+use Rattle.source_meaning.specs.rpp_tree.Views.{source_of}
 use Rattle.source_meaning.specs.roopl_semantics.Report.{Text}
 use Rattle.source_meaning.specs.meaning_points.Trail.{Trail, trail}
 use Rattle.pisa_scripts.specs.declared.command.Command.{Command}
 use Rattle.source_debugger.specs.declared.running.TheConstants.{MOST_COST}
-use Rattle.source_debugger.specs.Named.{object_lines, objects_from}
 use Rattle.source_debugger.specs.Shown.{Told, told_by, behind_text, and_told, told}
 use Rattle.source_debugger.specs.Standing.{Standing, run_of, Leads, IsAlong}
 
@@ -150,21 +148,6 @@ pub followed_over : (first now : Standing) (script : List Command) (i : ℕ) (te
 followed_over first now script i text h is =
     subst (λ commands. Leads first commands now text) (take_all i script h)
     (followed_leads first now (take i script) text is)
-
--- ---- names one after the other
-
-pub objects_next : (program : Source) (store : Store) (from at count : ℕ) (before line : Text) → at < count
-    → line ≡ object_lines program (from + at) (object_named store (from + at))
-    → before ++ line ++ objects_from program store (from + (at + 1)) (count - (at + 1))
-    ≡ before ++ objects_from program store (from + at) (count - at)
-objects_next program store from at count before line h e =
-    let more : count - at ≡ suc (count - (at + 1)) = omega arith in
-    let next : from + (at + 1) ≡ suc (from + at) = omega arith in
-    append_assoc before line (objects_from program store (from + (at + 1)) (count - (at + 1)))
-    ∙ ap (λ l. before ++ (l ++ objects_from program store (from + (at + 1)) (count - (at + 1)))) e
-    ∙ ap (λ k. before ++ (object_lines program (from + at) (object_named store (from + at))
-    ++ objects_from program store k (count - (at + 1)))) next
-    ∙ ap (λ k. before ++ objects_from program store (from + at) k) (sym more)
 
 -- a result within a bound
 pub within_as : {A E : Type 0} (r : Result A E) (f : A → ℕ) (k bound : ℕ) → k ≤ bound → IfOk r (λ a. f a ≡ k)

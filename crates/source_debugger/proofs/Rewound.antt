@@ -4,7 +4,7 @@ use Rattle.std.proofs.Common.{List, [], ◌∷◌, ◌++◌, length, length-appe
 use Rattle.source_meaning.specs.rpp_words.declared.input.FieldWord.{FieldWord}
 use Rattle.source_meaning.specs.rpp_words.declared.input.Limits.{Limits}
 use Rattle.source_meaning.specs.rpp_words.Limits.{IsLimits}
-use Rattle.rpp_tree.specs.Tree.{Source, Statements, End, Then}
+use Rattle.source_meaning.specs.rpp_tree.Tree.{Source, Statements, End, Then}
 use Rattle.source_meaning.specs.class_rules.Program.{IsAccepted}
 use Rattle.source_meaning.specs.roopl_semantics.Run.{Run, Done, Fault, More, ◌>>=◌, after_cost}
 use Rattle.source_meaning.specs.roopl_semantics.Store.{State}

@@ -3,7 +3,7 @@ use Rattle.std.proofs.Common.{◌≡◌, ◌∙◌, sym, ap, subst, ℕ, List, B
 use Rattle.std.specs.Prelude.{Option, Result, Ok, Err, IfOk}
 use Rattle.source_meaning.specs.rpp_words.declared.input.FieldWord.{FieldWord}
 use Rattle.source_meaning.specs.rpp_words.declared.input.Limits.{Limits}
-use Rattle.rpp_tree.specs.Tree.{Source}
+use Rattle.source_meaning.specs.rpp_tree.Tree.{Source}
 use Rattle.source_meaning.specs.roopl_semantics.Execution.{Setting}
 use Rattle.meaning_reversed.specs.meaning_machine.SourceLaws.{set_for}
 use Rattle.source_meaning.specs.source_execution.declared.falling.Failing.{Failing}

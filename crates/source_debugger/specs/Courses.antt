@@ -2,7 +2,7 @@
 use Rattle.std.specs.Prelude.{◌≡◌, ◌≤◌, ◌+◌, ℕ, false, List, length}
 use Rattle.source_meaning.specs.rpp_words.declared.input.FieldWord.{FieldWord}
 use Rattle.source_meaning.specs.rpp_words.declared.input.Limits.{Limits}
-use Rattle.rpp_tree.specs.Tree.{Source}
+use Rattle.source_meaning.specs.rpp_tree.Tree.{Source}
 use Rattle.source_meaning.specs.roopl_semantics.Run.{Done}
 use Rattle.meaning_reversed.specs.meaning_machine.Machine.{Config, walk, seen}
 use Rattle.meaning_reversed.specs.meaning_machine.SourceLaws.{set_for, start_of}

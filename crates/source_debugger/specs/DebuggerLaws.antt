@@ -2,7 +2,7 @@
 use Rattle.std.specs.Prelude.{◌≡◌, ◌≤◌, ℕ, List, Some}
 use Rattle.source_meaning.specs.rpp_words.declared.input.FieldWord.{FieldWord}
 use Rattle.source_meaning.specs.rpp_words.declared.input.Limits.{Limits}
-use Rattle.rpp_tree.specs.Tree.{Source}
+use Rattle.source_meaning.specs.rpp_tree.Tree.{Source}
 use Rattle.source_meaning.specs.roopl_semantics.Store.{State}
 use Rattle.source_meaning.specs.roopl_semantics.Source.{GivesDone}
 use Rattle.source_meaning.specs.meaning_points.Trail.{trail}

@@ -6,8 +6,8 @@ use Rattle.source_meaning.specs.rpp_words.Texts.{line_end}
 use Rattle.source_meaning.specs.rpp_words.declared.input.FieldWord.{FieldWord}
 use Rattle.source_meaning.specs.rpp_words.declared.input.Limits.{Limits}
 use Rattle.pisa_scripts.specs.Stops.{fault_line}
-use Rattle.rpp_tree.specs.Tree.{Source}
-use Rattle.rpp_tree.specs.Views.{source_of}
+use Rattle.source_meaning.specs.rpp_tree.Tree.{Source}
+use Rattle.source_meaning.specs.rpp_tree.Views.{source_of}
 use Rattle.source_meaning.specs.roopl_semantics.Run.{Run, Done, Fault, More}
 use Rattle.source_meaning.specs.roopl_semantics.Report.{Text, head_shown}
 use Rattle.source_meaning.specs.roopl_semantics.Execution.{Setting}
@@ -26,7 +26,7 @@ use Rattle.source_debugger.specs.declared.moves.Walk.{Walk}
 use Rattle.source_debugger.specs.declared.moves.Ending.{Ending}
 use Rattle.source_debugger.specs.declared.moves.Ending.TheVariants.{Made, Start, Faulted}
 use Rattle.source_debugger.specs.declared.running.TheConstants.{MOST_COST}
-use Rattle.source_debugger.specs.Named.{value_named, objects_from}
+use Rattle.source_lines.specs.Named.{value_named, objects_from}
 use Rattle.source_debugger.specs.Shown.{state_named}
 use Rattle.source_debugger.specs.Standing.{Standing}
 use Rattle.source_debugger.specs.Walks.{forward}

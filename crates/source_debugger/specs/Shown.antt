@@ -3,7 +3,7 @@ use Rattle.std.specs.Prelude.{ℕ, List, [], ◌∷◌, ◌++◌, codes, Option,
 use Rattle.std.specs.Fmt.{decimal}
 use Rattle.source_meaning.specs.rpp_words.Texts.{line_end}
 use Rattle.pisa_scripts.specs.Stops.{fault_line}
-use Rattle.rpp_tree.specs.Tree.{Source}
+use Rattle.source_meaning.specs.rpp_tree.Tree.{Source}
 use Rattle.source_meaning.specs.class_rules.Classes.{class_fields}
 use Rattle.source_meaning.specs.roopl_semantics.Store.{State, object_at}
 use Rattle.source_meaning.specs.roopl_semantics.Value.{own_class}
@@ -16,7 +16,8 @@ use Rattle.source_debugger.specs.declared.moves.Walk.{Walk}
 use Rattle.source_debugger.specs.declared.moves.Ending.{Ending}
 use Rattle.source_debugger.specs.declared.moves.Ending.TheVariants.{Made, Start, Faulted}
 use Rattle.source_debugger.specs.Walks.{Stand, AtPoint, AtEnd, Unknown, stand_at, forward, backward}
-use Rattle.source_debugger.specs.Named.{fields_named, frame_named, objects_from}
+use Rattle.source_lines.specs.Named.{fields_named, objects_from}
+use Rattle.source_debugger.specs.Named.{frame_named}
 
 -- what the line on moves says of how they ended, with the line's end
 abbrev pub ending_shown : Ending → Text

@@ -6,7 +6,7 @@ use Rattle.source_meaning.specs.rpp_words.Texts.{line_end}
 use Rattle.source_meaning.specs.rpp_words.declared.input.FieldWord.{FieldWord}
 use Rattle.source_meaning.specs.rpp_words.declared.input.Limits.{Limits}
 use Rattle.pisa_scripts.specs.Words.{direction}
-use Rattle.rpp_tree.specs.Tree.{Source}
+use Rattle.source_meaning.specs.rpp_tree.Tree.{Source}
 use Rattle.source_meaning.specs.roopl_semantics.Run.{Done}
 use Rattle.source_meaning.specs.roopl_semantics.Report.{Text}
 use Rattle.meaning_reversed.specs.meaning_machine.Machine.{Config, walk, seen}
@@ -16,7 +16,8 @@ use Rattle.source_meaning.specs.roopl_semantics.Store.{class_of_head, object_at}
 use Rattle.source_meaning.specs.source_execution.Calls.{Active, active_calls, CallState}
 use Rattle.source_meaning.specs.source_execution.Calls.{inside_call}
 use Rattle.source_meaning.specs.source_execution.Standing.{IsOver, next_place}
-use Rattle.source_debugger.specs.Named.{fields_named, frame_named}
+use Rattle.source_lines.specs.Named.{fields_named}
+use Rattle.source_debugger.specs.Named.{frame_named}
 
 -- a statement begins, or the run is over
 abbrev pub IsPosition : Config → Type 0

@@ -2,9 +2,9 @@
 use Rattle.std.specs.Prelude.{◌≡◌, ℕ, List, Some, take}
 use Rattle.source_meaning.specs.rpp_words.declared.input.FieldWord.{FieldWord}
 use Rattle.source_meaning.specs.rpp_words.declared.input.Limits.{Limits}
-use Rattle.rpp_tree.specs.declared.tree.Program.{Program}
-use Rattle.rpp_tree.specs.Tree.{Source}
-use Rattle.rpp_tree.specs.Views.{source_of}
+use Rattle.source_meaning.specs.rpp_tree.declared.tree.Program.{Program}
+use Rattle.source_meaning.specs.rpp_tree.Tree.{Source}
+use Rattle.source_meaning.specs.rpp_tree.Views.{source_of}
 use Rattle.source_meaning.specs.rpp_words.Limits.{IsLimits}
 use Rattle.source_meaning.specs.roopl_semantics.Source.{IsValid}
 use Rattle.source_meaning.specs.roopl_semantics.Report.{Text}

@@ -1,7 +1,7 @@
 // What fails where a run stops with a fault.
 ghost use Rattle.std.specs.Prelude.{◌≡◌, ◌+◌, ◌≤◌, ◌++◌, false, IfOk, OnOk, option_map, string_bytes, codes, if◌then◌else◌};
 ghost use Rattle.std.specs.Fmt.{decimal};
-ghost use Rattle.rpp_tree.specs.Views.{source_of};
+ghost use Rattle.source_meaning.specs.rpp_tree.Views.{source_of};
 ghost use Rattle.source_meaning.specs.rpp_words.Texts.{line_end};
 ghost use Rattle.source_meaning.specs.roopl_semantics.Report.{head_shown};
 ghost use Rattle.source_meaning.specs.source_store.ValueView.{value_of, head_of};
@@ -11,19 +11,18 @@ ghost use Rattle.source_debugger.specs.Courses.{Holds};
 ghost use Rattle.source_debugger.specs.Standing.{IsValidRun};
 ghost use Rattle.source_debugger.specs.declared.running.TheConstants.{MOST_COST};
 ghost use Rattle.source_debugger.specs.declared.moves.TheConstants.{LAST_POSITION};
-ghost use Rattle.source_debugger.specs.Named.{value_named};
+ghost use Rattle.source_lines.specs.Named.{value_named};
 ghost use Rattle.source_debugger.specs.Failures.{found_wanted, compared_lines, test_lines, failure_lines as failure_lines_of, failure, shown_of, account, fails_at, is_fault as is_fault_in};
 
-use crate::lines::{add_head, add_value, objects_text};
 use crate::moves::{Ending, forward};
 use crate::running::{Course, Run};
 use crate::shown::add_state;
 use class_table::Checked;
 use pisa_isa::Stop as End;
 use pisa_scripts::add_stop;
-use rpp_tree::tree::Program;
 use rpp_words::NoMemory;
 use source_execution::{Compared, Execution, Tested, find_failing};
+use source_lines::{add_head, add_value, objects_text};
 use source_store::{Head, Lack, Value};
 use std::alloc::{AllocError, Global};
 
@@ -129,11 +128,12 @@ fn add_size(text: &mut String, found: Value) -> Result<(), AllocError>
 }
 
 // The lines of what an object is, and what it must be.
-fn add_heads(text: &mut String, program: &Program, found: Head, wanted: Head) -> Result<(), Lack>
+fn add_heads(text: &mut String, checked: &Checked, found: Head, wanted: Head) -> Result<(), Lack>
     ensures { OnOk result (string_bytes text.new ≡ string_bytes text.old
-        ++ found_wanted (head_shown (source_of program.now) (head_of found))
-        (head_shown (source_of program.now) (head_of wanted))) }
+        ++ found_wanted (head_shown (source_of checked.now) (head_of found))
+        (head_shown (source_of checked.now) (head_of wanted))) }
 {
+    let program = checked.program();
     text.push_str("found ")?;
     add_head(text, program, found)?;
     text.push_str("\nwanted ")?;
@@ -154,7 +154,7 @@ fn add_compared(text: &mut String, checked: &Checked, compared: Compared) -> Res
         Compared::Count { found } => Ok(write!(text, "found {found}\nwanted 1\n")?),
         Compared::Length { found, wanted } => Ok(add_length(text, found, wanted)?),
         Compared::Size { found } => Ok(add_size(text, found)?),
-        Compared::Heads { found, wanted } => add_heads(text, checked.program(), found, wanted),
+        Compared::Heads { found, wanted } => add_heads(text, checked, found, wanted),
         Compared::Nothing => Ok(()),
     }
 }

@@ -1,6 +1,6 @@
 // What is at a position.
 ghost use Rattle.std.specs.Prelude.{◌≡◌, Some, IfOk};
-ghost use Rattle.rpp_tree.specs.Views.{source_of};
+ghost use Rattle.source_meaning.specs.rpp_tree.Views.{source_of};
 ghost use Rattle.source_meaning.specs.meaning_points.Trail.{trail};
 ghost use Rattle.source_meaning.specs.source_store.HeapView.{Kept};
 ghost use Rattle.source_debugger.specs.declared.running.TheConstants.{MOST_COST};

@@ -1,7 +1,7 @@
 // Runs of a program under a watch.
 ghost use Rattle.std.specs.Prelude.{◌≡◌, ◌+◌, ◌-◌, ◌*◌, ◌<◌, ◌≤◌, ◌^◌, true, false, length, IfOk, IfErr, OnOk, OnErr};
 ghost use Rattle.source_meaning.specs.rpp_words.Limits.{IsLimits};
-ghost use Rattle.rpp_tree.specs.Views.{source_of};
+ghost use Rattle.source_meaning.specs.rpp_tree.Views.{source_of};
 ghost use Rattle.source_meaning.specs.meaning_points.Trail.{trail};
 ghost use Rattle.meaning_reversed.specs.meaning_machine.Machine.{next};
 ghost use Rattle.meaning_reversed.specs.meaning_machine.Turned.{turn as turned_round};

@@ -1,11 +1,12 @@
 // What commands print at a position.
 ghost use Rattle.std.specs.Prelude.{◌≡◌, ◌++◌, [], Some, map, IfOk, OnOk, string_bytes};
-ghost use Rattle.rpp_tree.specs.Views.{source_of};
+ghost use Rattle.source_meaning.specs.rpp_tree.Views.{source_of};
 ghost use Rattle.source_meaning.specs.meaning_points.Trail.{trail};
 ghost use Rattle.source_debugger.specs.declared.running.TheConstants.{MOST_COST};
 ghost use Rattle.source_debugger.specs.Walks.{stand_at};
 ghost use Rattle.source_debugger.specs.Shown.{ending_shown, line_at, regs_at, cells_at};
-ghost use Rattle.source_debugger.specs.Named.{fields_named, frame_named};
+ghost use Rattle.source_lines.specs.Named.{fields_named};
+ghost use Rattle.source_debugger.specs.Named.{frame_named};
 ghost use Rattle.source_meaning.specs.class_rules.Classes.{class_fields};
 ghost use Rattle.source_meaning.specs.roopl_semantics.Store.{class_of_head, object_at};
 ghost use Rattle.source_meaning.specs.source_store.ValueView.{values_of};
@@ -15,7 +16,7 @@ ghost use Rattle.source_meaning.specs.source_store.HeapView.{Kept};
 ghost use Rattle.source_debugger.specs.Courses.{Holds, heap_of};
 ghost use Rattle.source_debugger.specs.Placed.{stand_of};
 
-use crate::lines::{add_class_fields, add_frame, objects_text};
+use crate::lines::add_frame;
 use crate::moves::{Ending, Walk, left_in};
 use crate::running::{Arrival, Course, Ended, Run, run_to};
 use crate::watching::Watching;
@@ -23,6 +24,7 @@ use class_table::Checked;
 use pisa_isa::Stop;
 use pisa_scripts::add_stop;
 use source_execution::Variable;
+use source_lines::{add_class_fields, objects_text};
 use source_store::{Heap, Lack, Value};
 use std::alloc::{AllocError, Global};
 

@@ -1,6 +1,6 @@
 // The active calls at a position.
 ghost use Rattle.std.specs.Prelude.{◌≡◌, ◌++◌, false, map, option_map, IsTrue, IfOk, OnOk, string_bytes};
-ghost use Rattle.rpp_tree.specs.Views.{source_of};
+ghost use Rattle.source_meaning.specs.rpp_tree.Views.{source_of};
 ghost use Rattle.meaning_reversed.specs.meaning_machine.Machine.{Config};
 ghost use Rattle.source_meaning.specs.source_execution.CallsView.{active_of, inside_of};
 ghost use Rattle.source_meaning.specs.source_execution.Standing.{config_at, setting_at};

@@ -1,5 +1,5 @@
 use Rattle.std.proofs.Common.{◌+◌, ◌*◌, length}
-use Rattle.rpp_tree.specs.Views.{source_of}
+use Rattle.source_meaning.specs.rpp_tree.Views.{source_of}
 use Rattle.source_meaning.specs.source_execution.Standing.{config_at}
 use Rattle.source_debugger.specs.declared.running.TheConstants.{MOST_COST}
 use Rattle.source_debugger.specs.Courses.{IsTurned}

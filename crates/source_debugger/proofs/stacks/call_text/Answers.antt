@@ -1,6 +1,6 @@
 use Rattle.std.proofs.Common.{◌∙◌, sym, ap, List, ℕ, Some}
 use Rattle.std.specs.Prelude.{option_map}
-use Rattle.rpp_tree.specs.Views.{source_of}
+use Rattle.source_meaning.specs.rpp_tree.Views.{source_of}
 use Rattle.source_meaning.specs.source_execution.CallsView.{inside_of}
 use Rattle.source_meaning.specs.source_execution.Standing.{config_at}
 use Rattle.source_debugger.specs.Stacks.{inside_named}

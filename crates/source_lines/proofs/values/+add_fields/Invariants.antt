@@ -1,5 +1,5 @@
 use Rattle.std.proofs.Common.{length}
-use Rattle.source_debugger.proofs.lines.+add_fields.Given as goal
+use Rattle.source_lines.proofs.values.+add_fields.Given as goal
 
 abbrev pub decreases-add_fields : goal.decreases-add_fields
 decreases-add_fields l = length l.fields.now

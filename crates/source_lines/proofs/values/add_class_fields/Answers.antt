@@ -2,11 +2,11 @@ use Rattle.std.proofs.Common.{◌≡◌, ◌∙◌, ◌++◌, ap, subst, OnOk, L
 use Rattle.std.specs.Prelude.{string_bytes}
 use Rattle.rpp_tree.specs.Views.{source_of}
 use Rattle.rpp_tree.specs.declared.tree.Var.{Var}
-use Rattle.source_meaning.specs.class_rules.Table.{fields_in}
-use Rattle.source_meaning.specs.source_store.ValueView.{values_of}
-use Rattle.source_meaning.proofs.source_steps_laws.Tables.{fields_read}
-use Rattle.source_debugger.specs.Named.{fields_named}
-use Rattle.source_debugger.proofs.lines.add_class_fields.Goals as goal
+use Rattle.source_steps.specs.class_rules.Table.{fields_in}
+use Rattle.source_steps.specs.source_store.ValueView.{values_of}
+use Rattle.source_steps.proofs.Tables.{fields_read}
+use Rattle.source_lines.specs.Named.{fields_named}
+use Rattle.source_lines.proofs.values.add_class_fields.Goals as goal
 
 pub returns : goal.returns
 returns c =

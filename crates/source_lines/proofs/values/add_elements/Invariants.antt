@@ -1,8 +1,8 @@
 use Rattle.std.proofs.Common.{◌≡◌, ◌++◌, drop}
 use Rattle.std.specs.Prelude.{string_bytes}
-use Rattle.source_meaning.specs.source_store.ValueView.{values_of}
-use Rattle.source_debugger.specs.Named.{elements_named}
-use Rattle.source_debugger.proofs.lines.add_elements.Given as goal
+use Rattle.source_steps.specs.source_store.ValueView.{values_of}
+use Rattle.source_lines.specs.Named.{elements_named}
+use Rattle.source_lines.proofs.values.add_elements.Given as goal
 
 -- the lines so far and those of what is left are the whole
 abbrev pub invariant-loop-index : goal.invariant-loop-index

@@ -1,10 +1,10 @@
 use Rattle.std.proofs.Common.{◌≡◌, ◌∙◌, ℕ, ◌+◌, ◌-◌, ◌++◌, refl, ap, arith, List}
 use Rattle.std.specs.Prelude.{string_bytes}
 use Rattle.rpp_tree.specs.Views.{source_of}
-use Rattle.source_meaning.specs.roopl_semantics.Store.{object_named}
-use Rattle.source_debugger.specs.Named.{object_lines, objects_from}
-use Rattle.source_debugger.proofs.Following.{objects_next}
-use Rattle.source_debugger.proofs.lines.add_objects.Goals as goal
+use Rattle.source_steps.specs.roopl_semantics.Store.{object_named}
+use Rattle.source_lines.specs.Named.{object_lines, objects_from}
+use Rattle.source_lines.proofs.NextObject.{objects_next}
+use Rattle.source_lines.proofs.objects.add_objects.Goals as goal
 
 pub loop-at-preserved : goal.loop-at-preserved
 loop-at-preserved c =

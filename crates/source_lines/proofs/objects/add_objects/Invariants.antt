@@ -1,8 +1,8 @@
 use Rattle.std.proofs.Common.{◌≡◌, ◌+◌, ◌-◌, ◌++◌}
 use Rattle.std.specs.Prelude.{string_bytes}
 use Rattle.rpp_tree.specs.Views.{source_of}
-use Rattle.source_debugger.specs.Named.{objects_from}
-use Rattle.source_debugger.proofs.lines.add_objects.Given as goal
+use Rattle.source_lines.specs.Named.{objects_from}
+use Rattle.source_lines.proofs.objects.add_objects.Given as goal
 
 -- the lines so far and those of the names that are left are the whole
 abbrev pub invariant-loop-at : goal.invariant-loop-at
