@@ -8,5 +8,6 @@ pub mod Blocks
 pub mod TurnedKinds
 pub mod Around
 pub mod Opened
+pub mod Last
 pub mod Scoped
 pub mod Stopping

@@ -11,5 +11,6 @@ pub mod Blocks
 pub mod Tasks
 pub mod Opens
 pub mod Runs
+pub mod Endings
 pub mod Requests
 pub mod Stops

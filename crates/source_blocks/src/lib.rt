@@ -1,10 +1,12 @@
 //! The position of a run of the source, and its work inside a block. The position has the block
 //! that runs, the enclosing statements, and the variables and objects there. A layer above may use
 //! that the code does what the machine of the semantics does at the position of a `Run`: each move
-//! between blocks, each value and each statement that holds no block. A reversed `Run` is at the
+//! between blocks, each value and each statement that holds no block. It may also use what the block
+//! that runs ends in, with the innermost variable. A reversed `Run` is at the
 //! position of the reversed machine.
 #![tactic(auto)]
 
+mod ending;
 mod frames;
 mod requests;
 mod run;
@@ -12,6 +14,7 @@ mod simple;
 mod task;
 mod values;
 
+pub use ending::{Ending, block_ending, innermost};
 pub use frames::{Caller, Closing, Frame, Local, Loop, Part, Receiver};
 pub use requests::{is_request, take_line_back};
 pub use run::{Run, close_block, open_block, pass, scope_of, turn, turn_to};

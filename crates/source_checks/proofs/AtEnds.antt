@@ -4,20 +4,20 @@ use Rattle.std.proofs.Common.{map, reverse, length, Some, None}
 use Rattle.std.specs.Prelude.{Option, option_map, Result, Ok, Err, IfOk, slice_get, codes}
 use Rattle.rpp_tree.specs.Tree.{Source, Statements, End, Then, Statement, Update, Swap, If, From, Construct, Local, New}
 use Rattle.rpp_tree.specs.Tree.{Delete, Copy, Uncopy, Call, Skip}
-use Rattle.source_statements.specs.inverse_rules.Inverse.{inverse_statement}
-use Rattle.source_statements.specs.source_steps.Ends.{turned}
+use Rattle.source_blocks.specs.inverse_rules.Inverse.{inverse_statement}
+use Rattle.source_blocks.specs.source_steps.Ends.{turned}
 use Rattle.rpp_tree.specs.Places.{statement_place}
-use Rattle.source_statements.specs.roopl_semantics.Store.{State, Value}
-use Rattle.source_statements.specs.roopl_semantics.Value.{Cell}
-use Rattle.source_statements.specs.roopl_semantics.Execution.{Setting}
-use Rattle.source_statements.specs.meaning_machine.Machine.{Config, Open, Part, Caller, Calling}
-use Rattle.source_statements.specs.source_blocks.declared.frames.Frame.{Frame}
-use Rattle.source_statements.specs.Endings.{IsInCall}
-use Rattle.source_statements.specs.source_blocks.Blocks.{statement_at, count_of}
-use Rattle.source_statements.specs.source_blocks.Tasks.{task_of}
-use Rattle.source_statements.specs.source_blocks.Opens.{open_of, HasPart}
-use Rattle.source_statements.proofs.source_blocks_laws.Opened.{around_more}
-use Rattle.source_statements.proofs.Last.{HasLast, last_is}
+use Rattle.source_blocks.specs.roopl_semantics.Store.{State, Value}
+use Rattle.source_blocks.specs.roopl_semantics.Value.{Cell}
+use Rattle.source_blocks.specs.roopl_semantics.Execution.{Setting}
+use Rattle.source_blocks.specs.meaning_machine.Machine.{Config, Open, Part, Caller, Calling}
+use Rattle.source_blocks.specs.declared.frames.Frame.{Frame}
+use Rattle.source_blocks.specs.Endings.{IsInCall}
+use Rattle.source_blocks.specs.Blocks.{statement_at, count_of}
+use Rattle.source_blocks.specs.Tasks.{task_of}
+use Rattle.source_blocks.specs.Opens.{open_of, HasPart}
+use Rattle.source_blocks.proofs.Opened.{around_more}
+use Rattle.source_blocks.proofs.Last.{HasLast, last_is}
 use Rattle.source_checks.specs.Failures.{Tested, Tests, tests_of, tested, tested_part, tested_around, tested_begin}
 use Rattle.source_checks.specs.Failures.{tested_here}
 use Rattle.source_checks.specs.declared.testing.Tested.{Tested as Told}

@@ -2,9 +2,9 @@
 use Rattle.std.proofs.Common.{◌≡◌, refl, Bool, true, false}
 use Rattle.rpp_tree.specs.Tree.{Source, Statement, Update, Swap, If, From, Construct, Local, New, Delete, Copy, Uncopy}
 use Rattle.rpp_tree.specs.Tree.{Call, Skip}
-use Rattle.source_statements.specs.inverse_rules.Inverse.{inverse_statement}
-use Rattle.source_statements.specs.source_steps.Ends.{turned}
-use Rattle.source_statements.specs.roopl_semantics.Store.{State}
+use Rattle.source_blocks.specs.inverse_rules.Inverse.{inverse_statement}
+use Rattle.source_blocks.specs.source_steps.Ends.{turned}
+use Rattle.source_blocks.specs.roopl_semantics.Store.{State}
 use Rattle.source_checks.specs.Checks.{subject}
 
 subject_undone : (program : Source) (st : State) (s : Statement)

@@ -3,8 +3,8 @@ use Rattle.std.proofs.Common.{◌≡◌, refl, Bool, true, false}
 use Rattle.rpp_tree.specs.Tree.{Statement, Update, Swap, If, From, Construct, Local, New, Delete, Copy, Uncopy, Call}
 use Rattle.rpp_tree.specs.Tree.{Skip}
 use Rattle.rpp_tree.specs.Places.{statement_place}
-use Rattle.source_statements.specs.inverse_rules.Inverse.{inverse_statement}
-use Rattle.source_statements.specs.source_steps.Ends.{turned}
+use Rattle.source_blocks.specs.inverse_rules.Inverse.{inverse_statement}
+use Rattle.source_blocks.specs.source_steps.Ends.{turned}
 
 place_undone : (s : Statement) → statement_place s ≡ statement_place (inverse_statement s)
 place_undone (Update at op target value) = refl

@@ -7,19 +7,19 @@ use Rattle.rpp_tree.specs.declared.tree.VarType.TheVariants as kind
 use Rattle.rpp_tree.specs.Tree.{Expression, Number, Null, Variable, Element, Binary, Lvalue, Whole}
 use Rattle.rpp_tree.specs.Tree.{Item, Creation, Object as AnObject, Ints, Objects, Statement}
 use Rattle.rpp_tree.specs.Tree.{Source, Update, Swap, If, Local, New, Delete, Copy, Uncopy}
-use Rattle.source_statements.specs.class_rules.Classes.{class_number}
-use Rattle.source_statements.specs.roopl_semantics.Store.{Value, Word, Nil, Name, Head, OfClass}
-use Rattle.source_statements.specs.roopl_semantics.Store.{State, Store, Object, object_at}
-use Rattle.source_statements.specs.roopl_semantics.Store.{number_of}
-use Rattle.source_statements.specs.roopl_semantics.Store.{is_zero, cleared, same_value}
-use Rattle.source_statements.specs.roopl_semantics.Value.{Cell, read, value, variable_value}
-use Rattle.source_statements.specs.roopl_semantics.Value.{read_cell, cell_of, nil_fault}
-use Rattle.source_statements.specs.roopl_semantics.Execution.{Setting, not_nil_fault, count_fault}
-use Rattle.source_statements.specs.roopl_semantics.Execution.{not_empty_fault, not_same_fault}
-use Rattle.source_statements.specs.roopl_semantics.Execution.{class_differs_fault}
-use Rattle.source_statements.specs.roopl_semantics.Execution.{length_differs_fault, length_fault}
-use Rattle.source_statements.specs.roopl_semantics.Execution.{too_deep_fault}
-use Rattle.source_statements.specs.meaning_machine.Machine.{Caller}
+use Rattle.source_blocks.specs.class_rules.Classes.{class_number}
+use Rattle.source_blocks.specs.roopl_semantics.Store.{Value, Word, Nil, Name, Head, OfClass}
+use Rattle.source_blocks.specs.roopl_semantics.Store.{State, Store, Object, object_at}
+use Rattle.source_blocks.specs.roopl_semantics.Store.{number_of}
+use Rattle.source_blocks.specs.roopl_semantics.Store.{is_zero, cleared, same_value}
+use Rattle.source_blocks.specs.roopl_semantics.Value.{Cell, read, value, variable_value}
+use Rattle.source_blocks.specs.roopl_semantics.Value.{read_cell, cell_of, nil_fault}
+use Rattle.source_blocks.specs.roopl_semantics.Execution.{Setting, not_nil_fault, count_fault}
+use Rattle.source_blocks.specs.roopl_semantics.Execution.{not_empty_fault, not_same_fault}
+use Rattle.source_blocks.specs.roopl_semantics.Execution.{class_differs_fault}
+use Rattle.source_blocks.specs.roopl_semantics.Execution.{length_differs_fault, length_fault}
+use Rattle.source_blocks.specs.roopl_semantics.Execution.{too_deep_fault}
+use Rattle.source_blocks.specs.meaning_machine.Machine.{Caller}
 
 -- what a check compares
 pub data Compared : Type 0 where

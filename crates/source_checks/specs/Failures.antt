@@ -5,12 +5,12 @@ use Rattle.std.specs.Prelude.{if◌then◌else◌, Option, Some, None, Result, O
 use Rattle.rpp_tree.specs.Tree.{Source, Expression, Number, Null, Variable, Element, Binary}
 use Rattle.rpp_tree.specs.Tree.{Statement, From, Statements, End, Then}
 use Rattle.rpp_tree.specs.Places.{statement_place}
-use Rattle.source_statements.specs.roopl_semantics.Run.{Run, Done, Fault, More}
-use Rattle.source_statements.specs.roopl_semantics.Store.{Value, State}
-use Rattle.source_statements.specs.roopl_semantics.Value.{Slot, read, value}
-use Rattle.source_statements.specs.roopl_semantics.Execution.{Setting}
-use Rattle.source_statements.specs.meaning_machine.Machine.{Config, Open, Part, next}
-use Rattle.source_statements.specs.meaning_machine.Machine.{Chosen, First, Again, Holding, Calling}
+use Rattle.source_blocks.specs.roopl_semantics.Run.{Run, Done, Fault, More}
+use Rattle.source_blocks.specs.roopl_semantics.Store.{Value, State}
+use Rattle.source_blocks.specs.roopl_semantics.Value.{Slot, read, value}
+use Rattle.source_blocks.specs.roopl_semantics.Execution.{Setting}
+use Rattle.source_blocks.specs.meaning_machine.Machine.{Config, Open, Part, next}
+use Rattle.source_blocks.specs.meaning_machine.Machine.{Chosen, First, Again, Holding, Calling}
 use Rattle.source_checks.specs.Checks.{Compared, Truth, Values, Nothing, failing_access, touched}
 use Rattle.source_checks.specs.Checks.{compared_begin}
 

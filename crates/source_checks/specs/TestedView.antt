@@ -3,10 +3,10 @@ use Rattle.std.specs.Prelude.{◌≡◌, ℕ, Bool, true, false, List, [], ◌�
 use Rattle.std.specs.declared.option.Option.{Option}
 use Rattle.rpp_tree.specs.Places.{statement_place}
 use Rattle.rpp_tree.specs.Views.{expression_of}
-use Rattle.source_statements.specs.roopl_semantics.Store.{Value, State}
-use Rattle.source_statements.specs.meaning_machine.Machine.{Open, Part, Calling}
-use Rattle.source_statements.specs.source_store.declared.value.Value.{Value as Held}
-use Rattle.source_statements.specs.source_store.ValueView.{value_of, head_of}
+use Rattle.source_blocks.specs.roopl_semantics.Store.{Value, State}
+use Rattle.source_blocks.specs.meaning_machine.Machine.{Open, Part, Calling}
+use Rattle.source_blocks.specs.source_store.declared.value.Value.{Value as Held}
+use Rattle.source_blocks.specs.source_store.ValueView.{value_of, head_of}
 use Rattle.source_checks.specs.declared.comparing.Compared.{Compared as Compares}
 use Rattle.source_checks.specs.declared.comparing.Compared.TheVariants as compares
 use Rattle.source_checks.specs.declared.checks.Subject.{Subject as Looks}

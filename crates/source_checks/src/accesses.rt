@@ -1,14 +1,14 @@
 // The elements that an evaluation reads, and the first one that is not there.
 ghost use Rattle.std.specs.Prelude.{◌≡◌, ℕ, true, IfOk, Result as Outcome};
 ghost use Rattle.rpp_tree.specs.Views.{creation_of, expression_of, lvalue_of, statement_of};
-ghost use Rattle.source_statements.specs.roopl_semantics.Store.{Value as Worth};
-ghost use Rattle.source_statements.specs.roopl_semantics.Value.{value as value_in_state, variable_value};
-ghost use Rattle.source_statements.specs.source_store.ValueView.{value_of};
-ghost use Rattle.source_statements.specs.source_steps.Ends.{turned};
-ghost use Rattle.source_statements.specs.source_steps.StateView.{setting_of};
-ghost use Rattle.source_statements.specs.source_blocks.Opens.{closing_of};
-ghost use Rattle.source_statements.specs.source_blocks.Runs.{IsSound, state_in};
-ghost use Rattle.source_statements.specs.source_blocks.Tasks.{line_of};
+ghost use Rattle.source_blocks.specs.roopl_semantics.Store.{Value as Worth};
+ghost use Rattle.source_blocks.specs.roopl_semantics.Value.{value as value_in_state, variable_value};
+ghost use Rattle.source_blocks.specs.source_store.ValueView.{value_of};
+ghost use Rattle.source_blocks.specs.source_steps.Ends.{turned};
+ghost use Rattle.source_blocks.specs.source_steps.StateView.{setting_of};
+ghost use Rattle.source_blocks.specs.Opens.{closing_of};
+ghost use Rattle.source_blocks.specs.Runs.{IsSound, state_in};
+ghost use Rattle.source_blocks.specs.Tasks.{line_of};
 ghost use Rattle.source_checks.specs.Checks.{first_of as first_of_two, access_in as access_in_store, access_at as access_of, failing_access as failing_access_of, place_access as place_access_of, size_access as size_access_of, begin_access as begin_access_of};
 ghost use Rattle.source_checks.specs.TestedView.{compared_of, IsValue};
 

@@ -3,13 +3,13 @@ ghost use Rattle.std.specs.Prelude.{◌≡◌, ℕ, true, false, IfOk, Result as
 ghost use Rattle.std.specs.Option.{unwrap_or};
 ghost use Rattle.rpp_tree.specs.Tree.{Object as AnObject};
 ghost use Rattle.rpp_tree.specs.Views.{creation_of, expression_of, lvalue_of, statement_of};
-ghost use Rattle.source_statements.specs.class_rules.Classes.{class_number};
-ghost use Rattle.source_statements.specs.roopl_semantics.Store.{Value as Worth, Nil, object_at};
-ghost use Rattle.source_statements.specs.roopl_semantics.Value.{value as value_in_state, read_cell as read_found, element_cell, element_of};
-ghost use Rattle.source_statements.specs.source_store.ValueView.{value_of, values_of, head_of};
-ghost use Rattle.source_statements.specs.source_steps.StateView.{setting_of};
-ghost use Rattle.source_statements.specs.source_blocks.Runs.{IsSound, state_in};
-ghost use Rattle.source_statements.specs.source_blocks.Tasks.{line_of};
+ghost use Rattle.source_blocks.specs.class_rules.Classes.{class_number};
+ghost use Rattle.source_blocks.specs.roopl_semantics.Store.{Value as Worth, Nil, object_at};
+ghost use Rattle.source_blocks.specs.roopl_semantics.Value.{value as value_in_state, read_cell as read_found, element_cell, element_of};
+ghost use Rattle.source_blocks.specs.source_store.ValueView.{value_of, values_of, head_of};
+ghost use Rattle.source_blocks.specs.source_steps.StateView.{setting_of};
+ghost use Rattle.source_blocks.specs.Runs.{IsSound, state_in};
+ghost use Rattle.source_blocks.specs.Tasks.{line_of};
 ghost use Rattle.source_checks.specs.Checks.{or_nil, is_array as is_array_of, held as held_in, created as created_of, copied as copied_of, subject as subject_in_state, unlike as unlike_of, first_filled as first_filled_of, check as check_of, compared_begin as compared_begin_of, no_subject};
 ghost use Rattle.source_checks.specs.TestedView.{compared_of, subject_of, IsValue};
 

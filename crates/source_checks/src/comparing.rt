@@ -1,10 +1,10 @@
 // What a check compares.
 ghost use Rattle.std.specs.Prelude.{◌≡◌, IfOk};
-ghost use Rattle.source_statements.specs.roopl_semantics.Value.{value as value_in_state};
-ghost use Rattle.source_statements.specs.source_store.ValueView.{value_of};
-ghost use Rattle.source_statements.specs.source_steps.StateView.{setting_of};
-ghost use Rattle.source_statements.specs.source_blocks.Opens.{closing_of};
-ghost use Rattle.source_statements.specs.source_blocks.Runs.{IsSound, state_in};
+ghost use Rattle.source_blocks.specs.roopl_semantics.Value.{value as value_in_state};
+ghost use Rattle.source_blocks.specs.source_store.ValueView.{value_of};
+ghost use Rattle.source_blocks.specs.source_steps.StateView.{setting_of};
+ghost use Rattle.source_blocks.specs.Opens.{closing_of};
+ghost use Rattle.source_blocks.specs.Runs.{IsSound, state_in};
 ghost use Rattle.source_checks.specs.Checks.{first_of as first_of_two, to_be_zero as zero_wanted};
 ghost use Rattle.source_checks.specs.TestedView.{compared_of, IsValue};
 

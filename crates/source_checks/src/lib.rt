@@ -12,5 +12,4 @@ mod touched;
 pub use comparing::Compared;
 pub use places::{line_place, place_at};
 pub use source_blocks::{Caller, Frame, Line, Part, Run, Task, line_at, turn};
-pub use source_statements::{method_at, step};
 pub use testing::{Tested, test_next};

@@ -2,9 +2,9 @@
 ghost use Rattle.std.specs.Prelude.{◌≡◌, ◌<◌, ◌≤◌, IfNone, IfSome};
 ghost use Rattle.rpp_tree.specs.Places.{statement_place};
 ghost use Rattle.rpp_tree.specs.Views.{expression_of};
-ghost use Rattle.source_statements.specs.source_blocks.Opens.{closing_of};
-ghost use Rattle.source_statements.specs.source_blocks.Blocks.{count_of, statement_at};
-ghost use Rattle.source_statements.specs.source_blocks.Tasks.{line_of, task_of};
+ghost use Rattle.source_blocks.specs.Opens.{closing_of};
+ghost use Rattle.source_blocks.specs.Blocks.{count_of, statement_at};
+ghost use Rattle.source_blocks.specs.Tasks.{line_of, task_of};
 ghost use Rattle.source_checks.specs.Failures.{first_place as first_place_of};
 
 use rpp_tree::place_of;

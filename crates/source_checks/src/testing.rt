@@ -2,13 +2,13 @@
 ghost use Rattle.std.specs.Prelude.{◌≡◌, ℕ, IfOk, Result as Outcome, map, reverse, option_map};
 ghost use Rattle.rpp_tree.specs.Places.{statement_place};
 ghost use Rattle.rpp_tree.specs.Views.{expression_of, statement_of};
-ghost use Rattle.source_statements.specs.roopl_semantics.Store.{Value as Worth};
-ghost use Rattle.source_statements.specs.source_store.ValueView.{value_of};
-ghost use Rattle.source_statements.specs.source_steps.StateView.{setting_of};
-ghost use Rattle.source_statements.specs.source_blocks.Tasks.{line_of};
-ghost use Rattle.source_statements.specs.source_blocks.Opens.{open_of, part_of};
-ghost use Rattle.source_statements.specs.source_blocks.Runs.{IsSound, config_of, state_in};
-ghost use Rattle.source_statements.specs.source_blocks.declared.frames.Part.TheVariants as part;
+ghost use Rattle.source_blocks.specs.roopl_semantics.Store.{Value as Worth};
+ghost use Rattle.source_blocks.specs.source_store.ValueView.{value_of};
+ghost use Rattle.source_blocks.specs.source_steps.StateView.{setting_of};
+ghost use Rattle.source_blocks.specs.Tasks.{line_of};
+ghost use Rattle.source_blocks.specs.Opens.{open_of, part_of};
+ghost use Rattle.source_blocks.specs.Runs.{IsSound, config_of, state_in};
+ghost use Rattle.source_blocks.specs.declared.frames.Part.TheVariants as part;
 ghost use Rattle.source_checks.specs.Failures.{choice_word as choice_word_of, loop_word as loop_word_of, local_word as local_word_of, truth, same_as, tests_of, tested_truth, tested_part, tested_around, tested_begin, tested as tested_at};
 ghost use Rattle.source_checks.specs.TestedView.{compared_of, tested_of, IsValue, around_place, loop_of, exchanged};
 
@@ -18,8 +18,9 @@ use crate::comparing::{Compared, value_of_closing};
 use crate::places::{closing_place, first_place, line_place};
 use crate::touched::touched_around;
 use rpp_tree::tree::{Expr, Stmt};
-use source_blocks::{Closing, Frame, Line, Local, Loop, Run, line_at};
-use source_statements::{Ending, block_ending, innermost};
+use source_blocks::{
+    Closing, Ending, Frame, Line, Local, Loop, Run, block_ending, innermost, line_at,
+};
 use source_store::{Lack, Value};
 
 /// What the next step of a run tests: the word of the test, its offset and that of its statement,

@@ -1,10 +1,10 @@
 // What was written into lent variables during a call.
 ghost use Rattle.std.specs.Prelude.{◌≡◌, ◌++◌, length, map, reverse};
-ghost use Rattle.source_statements.specs.source_store.ValueView.{values_of};
-ghost use Rattle.source_statements.specs.source_steps.CellView.{cell_of};
-ghost use Rattle.source_statements.specs.source_steps.StateView.{IsFramed, bindings, state_of, setting_of};
-ghost use Rattle.source_statements.specs.source_blocks.Opens.{open_of, caller_of, caller_names, cells_in};
-ghost use Rattle.source_statements.specs.source_blocks.Runs.{IsSound, state_in};
+ghost use Rattle.source_blocks.specs.source_store.ValueView.{values_of};
+ghost use Rattle.source_blocks.specs.source_steps.CellView.{cell_of};
+ghost use Rattle.source_blocks.specs.source_steps.StateView.{IsFramed, bindings, state_of, setting_of};
+ghost use Rattle.source_blocks.specs.Opens.{open_of, caller_of, caller_names, cells_in};
+ghost use Rattle.source_blocks.specs.Runs.{IsSound, state_in};
 ghost use Rattle.source_checks.specs.Checks.{first_touched as first_touched_of, touched as touched_of};
 ghost use Rattle.source_checks.specs.TestedView.{compared_of, around_touched};
 

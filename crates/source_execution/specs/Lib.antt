@@ -6,7 +6,7 @@ pub use Rattle.source_checks.specs.meaning_points
 pub use Rattle.source_checks.specs.meaning_machine
 pub use Rattle.source_checks.specs.source_store
 pub use Rattle.source_checks.specs.source_steps
-pub use Rattle.source_checks.specs.source_statements
+pub use Rattle.source_statements.specs as source_statements
 pub use Rattle.source_checks.specs as source_checks
 pub mod Standing
 pub mod Variables

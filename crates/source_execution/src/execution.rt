@@ -11,7 +11,7 @@ ghost use Rattle.source_checks.specs.meaning_machine.Reversed.{back as next_back
 ghost use Rattle.source_checks.specs.source_store.ValueView.{values_of};
 ghost use Rattle.source_checks.specs.source_steps.Metered.{Gives, metered, IsFault, OnFault};
 ghost use Rattle.source_checks.specs.source_blocks.Tasks.{task_of};
-ghost use Rattle.source_checks.specs.source_statements.Steps.{StepFalls, step_in, MayStopAt};
+ghost use Rattle.source_statements.specs.Steps.{StepFalls, step_in, MayStopAt};
 ghost use Rattle.source_execution.specs.Variables.{binding_of};
 ghost use Rattle.source_checks.specs.Failures.{tested as tested_at};
 ghost use Rattle.source_checks.specs.TestedView.{tested_of};
@@ -24,7 +24,8 @@ use crate::places::run_place;
 use crate::variables::{Variable, variables_in};
 use class_table::Checked;
 use rpp_words::{FieldWord, Input, Limits, NoMemory};
-use source_checks::{Run, Task, Tested, line_at, line_place, method_at, step, test_next, turn};
+use source_checks::{Run, Task, Tested, line_at, line_place, test_next, turn};
+use source_statements::{method_at, step};
 use source_steps::{Setting, Stop, put_value, zeros};
 use source_store::{Head, Heap, Lack, Value};
 use std::alloc::Global;

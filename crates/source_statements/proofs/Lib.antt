@@ -8,7 +8,6 @@ pub mod Asking
 pub mod Entered
 pub mod Callee
 pub mod Ended
-pub mod Last
 pub mod Returned
 pub mod Dispatched
 pub mod Stepped

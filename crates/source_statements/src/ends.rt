@@ -1,68 +1,27 @@
 // The end of a block.
-ghost use Rattle.std.specs.Prelude.{◌≡◌, ◌+◌, ◌*◌, ◌<◌, ◌≤◌, ◌^◌, ◌++◌, [], suc, not, if◌then◌else◌, OnOk, OnErr, length, map, reverse, IfErr};
+ghost use Rattle.std.specs.Prelude.{◌≡◌, ◌+◌, ◌*◌, ◌<◌, ◌≤◌, ◌++◌, suc, not, if◌then◌else◌, OnOk, OnErr, length, map, IfErr};
 ghost use Rattle.rpp_tree.specs.Views.{expression_of};
-ghost use Rattle.source_blocks.specs.roopl_semantics.Value.{Slot, read};
 ghost use Rattle.source_blocks.specs.roopl_semantics.Execution.{closed, moved_back};
 ghost use Rattle.source_blocks.specs.meaning_machine.Machine.{closing};
-ghost use Rattle.source_blocks.specs.source_store.ValueView.{value_of, values_of};
+ghost use Rattle.source_blocks.specs.source_store.ValueView.{values_of};
 ghost use Rattle.source_blocks.specs.source_steps.CellView.{cell_of};
 ghost use Rattle.source_blocks.specs.source_steps.Metered.{Gives, metered, IsOwn, IsOwnOrFull, OnFault};
 ghost use Rattle.source_blocks.specs.source_steps.StateView.{setting_of};
 ghost use Rattle.source_blocks.specs.Blocks.{past_at, rest_at, count_of};
 ghost use Rattle.source_blocks.specs.Tasks.{task_of};
-ghost use Rattle.source_blocks.specs.Opens.{open_of, part_of, caller_of, caller_names, cells_in, values_in, HasPart};
+ghost use Rattle.source_blocks.specs.Opens.{part_of, caller_of, caller_names, cells_in, values_in, HasPart};
 ghost use Rattle.source_blocks.specs.Runs.{IsSound, Stays, config_of, state_in};
-ghost use Rattle.source_statements.specs.Endings.{IsEnding, IsInSide, IsInCall, caller_state, HasRoom, Falls};
+ghost use Rattle.source_blocks.specs.Endings.{IsInCall};
+ghost use Rattle.source_statements.specs.Endings.{IsInSide, caller_state, HasRoom, Falls};
 
 use rpp_tree::tree::Expr;
 use source_blocks::{
-    Caller, Frame, Local, Loop, Part, Run, Task, close_block, closing_value, scope_of, turn_to,
-    value_in,
+    Caller, Ending, Frame, Local, Loop, Part, Run, Task, block_ending, close_block, closing_value,
+    innermost, scope_of, turn_to, value_in,
 };
-use source_steps::{Cell, Setting, Stop, is_true, read_cell, refuse, return_values};
+use source_steps::{Setting, Stop, is_true, refuse, return_values};
 use source_store::{Heap, Lack, Value};
 use std::slice::from_ref;
-
-/// What a block ends in.
-#[derive(Clone, Copy)]
-pub enum Ending<'a> {
-    /// The run.
-    Over,
-    /// A side of a choice.
-    Chosen {
-        side: bool,
-        test: &'a Expr,
-        after: &'a Expr,
-    },
-    /// The first part of a loop's iteration.
-    First(Loop<'a>),
-    /// The second.
-    Again(Loop<'a>),
-    /// A local variable.
-    Holding(Local<'a>),
-    /// A call.
-    Calling,
-}
-
-/// What the block that runs ends in.
-pub fn block_ending<'a>(frames: &Vec<Frame<'a>>) -> Ending<'a>
-    ensures { IsEnding result (map open_of (reverse frames.now.items)) }
-{
-    match frames.last() {
-        None => Ending::Over,
-        Some(frame) => match &frame.part {
-            Part::Chosen { side, test, after } => Ending::Chosen {
-                side: *side,
-                test,
-                after,
-            },
-            Part::First(turns) => Ending::First(*turns),
-            Part::Again(turns) => Ending::Again(*turns),
-            Part::Holding(local) => Ending::Holding(*local),
-            Part::Calling(_caller) => Ending::Calling,
-        },
-    }
-}
 
 /// Whether a choice that took this side is left with a test that is not that of the side.
 fn differs(side: bool, test: bool) -> bool
@@ -172,15 +131,6 @@ fn close_variable(run: &mut Run)
 {
     run.locals.remove(0);
     run.values.remove(0);
-}
-
-/// The innermost variable.
-pub fn innermost(run: &Run) -> Value
-    requires sound { IsSound run.now }
-    ensures { value_of result ≡ read (state_in run.now) (Slot 0) }
-{
-    let scope = scope_of(&run.locals, run.params);
-    read_cell(&run.setting, &scope, &run.heap, &run.values, Cell::Slot(0))
 }
 
 /// The block of a local variable ends: its value is compared with the closing one, and it goes. If

@@ -1,8 +1,7 @@
 //! The begin of statements in a run of the source, and the end of their blocks. These are choices,
 //! loops, local variables, `construct` and calls. A layer above may use that `step` is a step of
 //! the machine of the semantics, also of the reversed one, with the fuel that is left. Fuel and
-//! enclosing statements bound the steps. It may also use `method_at`, the source of a method, and
-//! what the block that runs ends in, with the innermost variable.
+//! enclosing statements bound the steps. It may also use `method_at`, the source of a method.
 #![tactic(auto)]
 
 mod begins;
@@ -11,6 +10,5 @@ mod ends;
 mod methods;
 mod steps;
 
-pub use ends::{Ending, block_ending, innermost};
 pub use methods::method_at;
 pub use steps::step;

@@ -1,5 +1,5 @@
 use Rattle.std.proofs.Common.{◌≡◌, drop}
-use Rattle.source_statements.specs.source_store.ValueView.{values_of}
+use Rattle.source_blocks.specs.source_store.ValueView.{values_of}
 use Rattle.source_checks.specs.Checks.{first_filled}
 use Rattle.source_checks.proofs.checks.first_filled.Given as goal
 

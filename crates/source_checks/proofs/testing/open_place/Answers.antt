@@ -1,6 +1,6 @@
 use Rattle.std.proofs.Common.{◌-◌, ◌∙◌, List, length, ap}
 use Rattle.std.specs.Prelude.{slice_get}
-use Rattle.source_statements.specs.source_blocks.declared.frames.Frame.{Frame}
+use Rattle.source_blocks.specs.declared.frames.Frame.{Frame}
 use Rattle.source_checks.proofs.AtEnds.{past_place}
 use Rattle.source_checks.proofs.testing.open_place.Goals as goal
 

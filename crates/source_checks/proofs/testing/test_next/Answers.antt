@@ -1,7 +1,7 @@
-use Rattle.source_statements.specs.source_blocks.Tasks.{task_of, line_of}
-use Rattle.source_statements.specs.source_blocks.Runs.{config_of, here_in, rest_in}
-use Rattle.source_statements.specs.source_steps.StateView.{setting_of}
-use Rattle.source_statements.proofs.source_blocks_laws.Blocks.{rest_here, rest_end}
+use Rattle.source_blocks.specs.Tasks.{task_of, line_of}
+use Rattle.source_blocks.specs.Runs.{config_of, here_in, rest_in}
+use Rattle.source_blocks.specs.source_steps.StateView.{setting_of}
+use Rattle.source_blocks.proofs.Blocks.{rest_here, rest_end}
 use Rattle.source_checks.proofs.AtEnds.{ends_here, begins_here}
 use Rattle.source_checks.proofs.testing.test_next.Goals as goal
 

@@ -1,7 +1,7 @@
 use Rattle.std.proofs.Common.{◌∙◌, ap}
-use Rattle.source_blocks.specs.roopl_semantics.Value.{Slot, read}
+use Rattle.source_steps.specs.roopl_semantics.Value.{Slot, read}
 use Rattle.source_blocks.proofs.Scoped.{framed_by, slice_is}
-use Rattle.source_statements.proofs.ends.innermost.Goals as goal
+use Rattle.source_blocks.proofs.ending.innermost.Goals as goal
 
 pub returns : goal.returns
 returns c = c.read_cell.ensures

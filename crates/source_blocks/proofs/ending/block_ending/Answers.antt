@@ -1,11 +1,11 @@
 use Rattle.std.proofs.Common.{◌-◌, ◌∙◌, List, map, reverse, length, ap, subst}
 use Rattle.std.specs.Prelude.{slice_get}
-use Rattle.source_blocks.specs.source_steps.CellView.{cell_of}
+use Rattle.source_steps.specs.CellView.{cell_of}
 use Rattle.source_blocks.specs.declared.frames.Frame.{Frame}
 use Rattle.source_blocks.specs.declared.frames.Part.{Part}
 use Rattle.source_blocks.specs.Opens.{open_of, part_of, caller_of, cells_in, values_in, HasPart}
-use Rattle.source_statements.proofs.Last.{part_at_end}
-use Rattle.source_statements.proofs.ends.block_ending.Goals as goal
+use Rattle.source_blocks.proofs.Last.{part_at_end}
+use Rattle.source_blocks.proofs.ending.block_ending.Goals as goal
 
 pub returns-in-Calling : goal.returns-in-Calling
 returns-in-Calling c = record {
