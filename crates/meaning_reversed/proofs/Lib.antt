@@ -1,3 +1,4 @@
+pub use Rattle.meaning_inverse.proofs.meaning_sound_laws
 pub use Rattle.meaning_machine.proofs as meaning_machine_laws
 pub mod Undoing
 pub mod Simple

@@ -4,9 +4,9 @@ use Rattle.std.proofs.Common.{false, List, [], ◌∷◌, Option, Some, None, if
 use Rattle.std.specs.Prelude.{ℤ, pos, nat_eq, nat_lt, nat_le, ◌&&◌, option_map}
 use Rattle.std.specs.Ordering.{int_eq}
 use Rattle.std.proofs.lemmas.Bool.{eqb-true, eqb-false, lt-ltb, le-ltb, ltb-true, ltb-false, le-leb, lt-leb}
-use Rattle.source_meaning.specs.meaning_points.Points.{Point}
-use Rattle.source_meaning.specs.meaning_points.Trail.{Trail}
-use Rattle.source_meaning.specs.source_store.HeapView.{Kept}
+use Rattle.source_execution.specs.meaning_points.Points.{Point}
+use Rattle.source_execution.specs.meaning_points.Trail.{Trail}
+use Rattle.source_execution.specs.source_store.HeapView.{Kept}
 use Rattle.source_debugger.specs.declared.watching.Watching.TheVariants as watch
 use Rattle.source_debugger.specs.Watched.{Watched, Passed, Met, watched}
 use Rattle.source_debugger.specs.declared.moves.Walk.{Walk}

@@ -4,35 +4,35 @@ use Rattle.std.proofs.Common.{List, [], ◌∷◌, ◌++◌, length, length-appe
 use Rattle.std.specs.Prelude.{slice_get, nat_eq, pos, ◌&&◌, ◌||◌, Result, Ok, Err, IfOk}
 use Rattle.std.specs.Ordering.{int_eq}
 use Rattle.std.proofs.lemmas.Bool.{eqb-true, eqb-false}
-use Rattle.source_meaning.specs.rpp_words.declared.input.FieldWord.{FieldWord}
-use Rattle.source_meaning.specs.rpp_words.declared.input.Limits.{Limits}
-use Rattle.source_meaning.specs.rpp_words.Limits.{IsLimits}
-use Rattle.source_meaning.specs.rpp_tree.Tree.{Source, Statements, End, Then}
-use Rattle.source_meaning.specs.rpp_tree.Places.{statement_place}
-use Rattle.source_meaning.specs.class_rules.Program.{IsAccepted}
-use Rattle.source_meaning.specs.roopl_semantics.Run.{Run, Done, Fault, More}
-use Rattle.source_meaning.specs.roopl_semantics.Store.{State, Store, Binding, main_name}
-use Rattle.source_meaning.specs.roopl_semantics.Source.{source, IsValid}
-use Rattle.source_meaning.specs.roopl_semantics.Execution.{Setting}
-use Rattle.source_meaning.proofs.roopl_semantics_laws.MoreFuel.{within_done, within_fault, IsDoneWithin, IsFaultWithin}
-use Rattle.source_meaning.specs.meaning_points.Points.{Point, behind as behind_run}
-use Rattle.source_meaning.specs.meaning_points.Trail.{Trail, trail}
+use Rattle.source_execution.specs.rpp_words.declared.input.FieldWord.{FieldWord}
+use Rattle.source_execution.specs.rpp_words.declared.input.Limits.{Limits}
+use Rattle.source_execution.specs.rpp_words.Limits.{IsLimits}
+use Rattle.source_execution.specs.rpp_tree.Tree.{Source, Statements, End, Then}
+use Rattle.source_execution.specs.rpp_tree.Places.{statement_place}
+use Rattle.source_execution.specs.class_rules.Program.{IsAccepted}
+use Rattle.source_execution.specs.roopl_semantics.Run.{Run, Done, Fault, More}
+use Rattle.source_execution.specs.roopl_semantics.Store.{State, Store, Binding, main_name}
+use Rattle.source_execution.specs.roopl_semantics.Source.{source, IsValid}
+use Rattle.source_execution.specs.roopl_semantics.Execution.{Setting}
+use Rattle.source_execution.proofs.roopl_semantics_laws.MoreFuel.{within_done, within_fault, IsDoneWithin, IsFaultWithin}
+use Rattle.source_execution.specs.meaning_points.Points.{Point, behind as behind_run}
+use Rattle.source_execution.specs.meaning_points.Trail.{Trail, trail}
 use Rattle.meaning_reversed.specs.meaning_machine.Machine.{Config, next, walk, seen, point_of as point_in}
 use Rattle.meaning_reversed.specs.meaning_machine.SourceLaws.{set_for, start_of}
 use Rattle.meaning_reversed.specs.meaning_machine.TrailLaws.{BeginsWith}
 use Rattle.meaning_reversed.proofs.meaning_machine_laws.Steps.{plus, seen_plus}
 use Rattle.meaning_reversed.proofs.meaning_machine_laws.Sources.{joined}
 use Rattle.meaning_reversed.proofs.meaning_machine_laws.Trails.{walked}
-use Rattle.source_meaning.specs.meaning_sound.Sound.{name_of}
-use Rattle.source_meaning.proofs.meaning_sound_laws.Stated.{end_is_sound}
-use Rattle.source_meaning.specs.source_store.HeapView.{Kept}
-use Rattle.source_meaning.specs.source_steps.Metered.{Went, Stopped, metered, Failed, IsFault}
-use Rattle.source_meaning.specs.source_steps.declared.stop.Stop.{Stop}
-use Rattle.source_meaning.specs.source_steps.declared.stop.Stop.TheVariants as stop
-use Rattle.source_meaning.proofs.source_steps_laws.Fuelled.{left_at_most}
-use Rattle.source_meaning.specs.source_execution.Variables.{binding_of}
-use Rattle.source_meaning.specs.source_execution.Standing.{IsOver as IsPast, config_at, setting_at, next_place}
-use Rattle.source_meaning.proofs.Ending.{ends_done, ends_fault}
+use Rattle.meaning_reversed.specs.meaning_sound.Sound.{name_of}
+use Rattle.meaning_reversed.proofs.meaning_sound_laws.Stated.{end_is_sound}
+use Rattle.source_execution.specs.source_store.HeapView.{Kept}
+use Rattle.source_execution.specs.source_steps.Metered.{Went, Stopped, metered, Failed, IsFault}
+use Rattle.source_execution.specs.source_steps.declared.stop.Stop.{Stop}
+use Rattle.source_execution.specs.source_steps.declared.stop.Stop.TheVariants as stop
+use Rattle.source_execution.proofs.source_steps_laws.Fuelled.{left_at_most}
+use Rattle.source_execution.specs.Variables.{binding_of}
+use Rattle.source_execution.specs.Standing.{IsOver as IsPast, config_at, setting_at, next_place}
+use Rattle.source_execution.proofs.Within.{ends_done, ends_fault}
 use Rattle.source_debugger.specs.declared.watching.Watching.{Watching}
 use Rattle.source_debugger.specs.declared.watching.Watching.TheVariants as watch
 use Rattle.source_debugger.specs.declared.running.Arrival.{Arrival}

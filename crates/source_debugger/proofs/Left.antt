@@ -3,9 +3,9 @@ use Rattle.std.proofs.Common.{◌≡◌, ◌≢◌, ℕ, suc, ◌+◌, ◌-◌, 
 use Rattle.std.proofs.Common.{length, Option, Some, None, if◌then◌else◌}
 use Rattle.std.specs.Prelude.{ℤ, slice_get, nat_eq, ◌||◌, ◌&&◌}
 use Rattle.std.proofs.lemmas.Bool.{eqb-true, eqb-false}
-use Rattle.source_meaning.specs.roopl_semantics.Run.{Run, Done, Fault, More}
-use Rattle.source_meaning.specs.meaning_points.Points.{Point}
-use Rattle.source_meaning.specs.meaning_points.Trail.{Trail}
+use Rattle.source_execution.specs.roopl_semantics.Run.{Run, Done, Fault, More}
+use Rattle.source_execution.specs.meaning_points.Points.{Point}
+use Rattle.source_execution.specs.meaning_points.Trail.{Trail}
 use Rattle.source_debugger.specs.declared.watching.Watching.TheVariants as watch
 use Rattle.source_debugger.specs.Watched.{Watched, Passed, Met, is_given, watched}
 use Rattle.source_debugger.specs.Ended.{left_of}

@@ -3,16 +3,16 @@ use Rattle.std.proofs.Common.{◌≡◌, ℕ, zero, suc, ◌+◌, ◌<◌, ◌�
 use Rattle.std.proofs.Common.{◌∷◌, ◌++◌, length, length-append, Option, Some, None, if◌then◌else◌}
 use Rattle.std.specs.Prelude.{ℤ, slice_get, nat_eq, nat_lt}
 use Rattle.std.proofs.lemmas.Bool.{lt-ltb, ltb-true, ltb-false}
-use Rattle.source_meaning.specs.rpp_words.declared.input.FieldWord.{FieldWord}
-use Rattle.source_meaning.specs.rpp_words.declared.input.Limits.{Limits}
-use Rattle.source_meaning.specs.rpp_tree.Tree.{Source}
-use Rattle.source_meaning.specs.roopl_semantics.Run.{Run, Done, Fault, More}
-use Rattle.source_meaning.specs.roopl_semantics.Store.{State}
-use Rattle.source_meaning.specs.roopl_semantics.Execution.{Setting, exec}
-use Rattle.source_meaning.specs.roopl_semantics.Source.{main_body, starting}
-use Rattle.source_meaning.specs.meaning_points.Points.{Point, points}
-use Rattle.source_meaning.specs.meaning_points.Trail.{Trail, trail}
-use Rattle.source_meaning.proofs.meaning_points_laws.Growing.{points_added, points_done, points_fault}
+use Rattle.source_execution.specs.rpp_words.declared.input.FieldWord.{FieldWord}
+use Rattle.source_execution.specs.rpp_words.declared.input.Limits.{Limits}
+use Rattle.source_execution.specs.rpp_tree.Tree.{Source}
+use Rattle.source_execution.specs.roopl_semantics.Run.{Run, Done, Fault, More}
+use Rattle.source_execution.specs.roopl_semantics.Store.{State}
+use Rattle.source_execution.specs.roopl_semantics.Execution.{Setting, exec}
+use Rattle.source_execution.specs.roopl_semantics.Source.{main_body, starting}
+use Rattle.source_execution.specs.meaning_points.Points.{Point, points}
+use Rattle.source_execution.specs.meaning_points.Trail.{Trail, trail}
+use Rattle.source_execution.proofs.meaning_points_laws.Growing.{points_added, points_done, points_fault}
 use Rattle.pisa_scripts.specs.declared.command.Command.{Command}
 use Rattle.pisa_scripts.specs.declared.command.Command.TheVariants.{Step, Back, To, BackTo, Regs, Cells}
 use Rattle.source_debugger.specs.declared.moves.TheConstants.{LAST_POSITION}

@@ -3,11 +3,11 @@ use Rattle.std.proofs.Common.{◌≡◌, ◌≢◌, ℕ, zero, suc, ◌+◌, ◌
 use Rattle.std.proofs.Common.{Bool, true, false, List, [], ◌∷◌, length, Option, Some, if◌then◌else◌}
 use Rattle.std.specs.Prelude.{ℤ, nat_eq, nat_lt, ◌||◌, ◌&&◌}
 use Rattle.std.proofs.lemmas.Bool.{eqb-true, eqb-false, lt-ltb, le-ltb, ltb-true, ltb-false}
-use Rattle.source_meaning.specs.roopl_semantics.Run.{Run, Done, Fault, More}
-use Rattle.source_meaning.specs.roopl_semantics.Store.{State}
-use Rattle.source_meaning.specs.meaning_points.Points.{Point}
-use Rattle.source_meaning.specs.meaning_points.Trail.{Trail}
-use Rattle.source_meaning.specs.source_store.HeapView.{Kept}
+use Rattle.source_execution.specs.roopl_semantics.Run.{Run, Done, Fault, More}
+use Rattle.source_execution.specs.roopl_semantics.Store.{State}
+use Rattle.source_execution.specs.meaning_points.Points.{Point}
+use Rattle.source_execution.specs.meaning_points.Trail.{Trail}
+use Rattle.source_execution.specs.source_store.HeapView.{Kept}
 use Rattle.source_debugger.specs.declared.watching.Watching.TheVariants as watch
 use Rattle.source_debugger.specs.Watched.{Watched, Passed, Met, is_given, watched}
 use Rattle.source_debugger.specs.declared.moves.TheConstants.{LAST_POSITION}

@@ -1,17 +1,17 @@
 -- A run that steps back.
 use Rattle.std.proofs.Common.{◌≡◌, ℕ, zero, suc, ◌+◌, ◌-◌, ◌<◌, ◌≤◌, refl, sym, ap, ◌∙◌, arith, Bool, true, false}
 use Rattle.std.proofs.Common.{List, [], ◌∷◌, ◌++◌, length, length-append, append-nil, Option, Some, None}
-use Rattle.source_meaning.specs.rpp_words.declared.input.FieldWord.{FieldWord}
-use Rattle.source_meaning.specs.rpp_words.declared.input.Limits.{Limits}
-use Rattle.source_meaning.specs.rpp_words.Limits.{IsLimits}
-use Rattle.source_meaning.specs.rpp_tree.Tree.{Source, Statements, End, Then}
-use Rattle.source_meaning.specs.class_rules.Program.{IsAccepted}
-use Rattle.source_meaning.specs.roopl_semantics.Run.{Run, Done, Fault, More, ◌>>=◌, after_cost}
-use Rattle.source_meaning.specs.roopl_semantics.Store.{State}
-use Rattle.source_meaning.specs.roopl_semantics.Source.{IsValid}
-use Rattle.source_meaning.specs.roopl_semantics.Execution.{Setting}
-use Rattle.source_meaning.proofs.roopl_semantics_laws.MoreFuel.{within_done, IsDoneWithin}
-use Rattle.source_meaning.specs.meaning_points.Points.{Point, behind as behind_run}
+use Rattle.source_execution.specs.rpp_words.declared.input.FieldWord.{FieldWord}
+use Rattle.source_execution.specs.rpp_words.declared.input.Limits.{Limits}
+use Rattle.source_execution.specs.rpp_words.Limits.{IsLimits}
+use Rattle.source_execution.specs.rpp_tree.Tree.{Source, Statements, End, Then}
+use Rattle.source_execution.specs.class_rules.Program.{IsAccepted}
+use Rattle.source_execution.specs.roopl_semantics.Run.{Run, Done, Fault, More, ◌>>=◌, after_cost}
+use Rattle.source_execution.specs.roopl_semantics.Store.{State}
+use Rattle.source_execution.specs.roopl_semantics.Source.{IsValid}
+use Rattle.source_execution.specs.roopl_semantics.Execution.{Setting}
+use Rattle.source_execution.proofs.roopl_semantics_laws.MoreFuel.{within_done, IsDoneWithin}
+use Rattle.source_execution.specs.meaning_points.Points.{Point, behind as behind_run}
 use Rattle.meaning_reversed.specs.meaning_machine.Machine.{Config, Open, closing, stepped, next, walk, seen, point_of as point_in}
 use Rattle.meaning_reversed.specs.meaning_machine.SourceLaws.{set_for, start_of}
 use Rattle.meaning_reversed.specs.meaning_machine.Turned.{each_undone, turn}
@@ -19,9 +19,9 @@ use Rattle.meaning_reversed.proofs.meaning_machine_laws.Steps.{plus, walk_plus, 
 use Rattle.meaning_reversed.proofs.meaning_machine_laws.Turning.{turned_twice}
 use Rattle.meaning_reversed.specs.meaning_machine.Reversed.{back}
 use Rattle.meaning_reversed.specs.ReverseLaws.{StepsAreUndone, is_over}
-use Rattle.source_meaning.specs.source_steps.Metered.{Went, metered}
-use Rattle.source_meaning.specs.source_execution.Standing.{config_at, setting_at, next_place}
-use Rattle.source_meaning.proofs.Ending.{ends_done}
+use Rattle.source_execution.specs.source_steps.Metered.{Went, metered}
+use Rattle.source_execution.specs.Standing.{config_at, setting_at, next_place}
+use Rattle.source_execution.proofs.Within.{ends_done}
 use Rattle.source_debugger.specs.declared.running.Course.{Course}
 use Rattle.source_debugger.specs.Watched.{counted}
 use Rattle.source_debugger.specs.Courses.{HasLed, IsUnderWay, IsTurned}

@@ -1,10 +1,10 @@
 -- Where a course is, the machine of the semantics is too.
 use Rattle.std.proofs.Common.{◌≡◌, ◌∙◌, ap, ℕ, List}
-use Rattle.source_meaning.specs.rpp_words.declared.input.FieldWord.{FieldWord}
-use Rattle.source_meaning.specs.rpp_words.declared.input.Limits.{Limits}
-use Rattle.source_meaning.specs.rpp_tree.Tree.{Source}
-use Rattle.source_meaning.specs.roopl_semantics.Execution.{Setting}
-use Rattle.source_meaning.specs.source_execution.Standing.{config_at, setting_at}
+use Rattle.source_execution.specs.rpp_words.declared.input.FieldWord.{FieldWord}
+use Rattle.source_execution.specs.rpp_words.declared.input.Limits.{Limits}
+use Rattle.source_execution.specs.rpp_tree.Tree.{Source}
+use Rattle.source_execution.specs.roopl_semantics.Execution.{Setting}
+use Rattle.source_execution.specs.Standing.{config_at, setting_at}
 use Rattle.source_debugger.specs.declared.running.Course.{Course}
 use Rattle.source_debugger.specs.declared.running.TheConstants.{MOST_COST}
 use Rattle.source_debugger.specs.Courses.{IsUnderWay}

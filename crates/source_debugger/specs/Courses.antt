@@ -1,14 +1,14 @@
 -- A run under way.
 use Rattle.std.specs.Prelude.{◌≡◌, ◌≤◌, ◌+◌, ℕ, false, List, length}
-use Rattle.source_meaning.specs.rpp_words.declared.input.FieldWord.{FieldWord}
-use Rattle.source_meaning.specs.rpp_words.declared.input.Limits.{Limits}
-use Rattle.source_meaning.specs.rpp_tree.Tree.{Source}
-use Rattle.source_meaning.specs.roopl_semantics.Run.{Done}
+use Rattle.source_execution.specs.rpp_words.declared.input.FieldWord.{FieldWord}
+use Rattle.source_execution.specs.rpp_words.declared.input.Limits.{Limits}
+use Rattle.source_execution.specs.rpp_tree.Tree.{Source}
+use Rattle.source_execution.specs.roopl_semantics.Run.{Done}
 use Rattle.meaning_reversed.specs.meaning_machine.Machine.{Config, walk, seen}
 use Rattle.meaning_reversed.specs.meaning_machine.SourceLaws.{set_for, start_of}
 use Rattle.meaning_reversed.specs.meaning_machine.Turned.{turn}
-use Rattle.source_meaning.specs.source_store.HeapView.{Kept}
-use Rattle.source_meaning.specs.source_execution.Standing.{config_at, setting_at}
+use Rattle.source_execution.specs.source_store.HeapView.{Kept}
+use Rattle.source_execution.specs.Standing.{config_at, setting_at}
 use Rattle.source_debugger.specs.declared.running.TheConstants.{MOST_COST}
 use Rattle.source_debugger.specs.declared.running.Course.{Course}
 

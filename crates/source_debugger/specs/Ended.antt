@@ -1,14 +1,14 @@
 -- How a run under a watch ended.
 use Rattle.std.specs.Prelude.{◌≡◌, ◌<◌, ℕ, ◌-◌, max, nat_eq, nat_lt, if◌then◌else◌, [], Option}
 use Rattle.std.specs.Prelude.{Some, None}
-use Rattle.source_meaning.specs.roopl_semantics.Run.{Done, Fault}
-use Rattle.source_meaning.specs.roopl_semantics.Store.{State, main_name}
-use Rattle.source_meaning.specs.source_store.HeapView.{Kept}
-use Rattle.source_meaning.specs.meaning_points.Trail.{Trail}
+use Rattle.source_execution.specs.roopl_semantics.Run.{Done, Fault}
+use Rattle.source_execution.specs.roopl_semantics.Store.{State, main_name}
+use Rattle.source_execution.specs.source_store.HeapView.{Kept}
+use Rattle.source_execution.specs.meaning_points.Trail.{Trail}
 use Rattle.meaning_reversed.specs.meaning_machine.Machine.{Config}
-use Rattle.source_meaning.specs.source_steps.declared.stop.Stop.{Stop}
-use Rattle.source_meaning.specs.source_steps.declared.stop.Stop.TheVariants as stop
-use Rattle.source_meaning.specs.source_execution.Standing.{next_place}
+use Rattle.source_execution.specs.source_steps.declared.stop.Stop.{Stop}
+use Rattle.source_execution.specs.source_steps.declared.stop.Stop.TheVariants as stop
+use Rattle.source_execution.specs.Standing.{next_place}
 use Rattle.source_debugger.specs.declared.watching.Watching.{Watching}
 use Rattle.source_debugger.specs.declared.watching.Watching.TheVariants as watch
 use Rattle.source_debugger.specs.declared.running.Arrival.{Arrival}

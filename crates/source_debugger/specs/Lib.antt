@@ -1,4 +1,4 @@
-pub use Rattle.source_meaning.specs.meaning_points
+pub use Rattle.source_execution.specs.meaning_points
 pub mod Watched
 pub mod Courses
 pub mod Ended

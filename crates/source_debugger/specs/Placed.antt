@@ -1,5 +1,5 @@
 -- The position of a run, as it is kept for printing.
-use Rattle.source_meaning.specs.source_store.HeapView.{Kept}
+use Rattle.source_execution.specs.source_store.HeapView.{Kept}
 use Rattle.source_debugger.specs.Watched.{point_of}
 use Rattle.source_debugger.specs.declared.shown.Place.{Place}
 use Rattle.source_debugger.specs.declared.shown.Place.TheVariants as place

@@ -1,14 +1,14 @@
 -- A debugger as contracts see it.
 use Rattle.std.specs.Prelude.{◌≡◌, ℕ, List, Some, take}
-use Rattle.source_meaning.specs.rpp_words.declared.input.FieldWord.{FieldWord}
-use Rattle.source_meaning.specs.rpp_words.declared.input.Limits.{Limits}
-use Rattle.source_meaning.specs.rpp_tree.declared.tree.Program.{Program}
-use Rattle.source_meaning.specs.rpp_tree.Tree.{Source}
-use Rattle.source_meaning.specs.rpp_tree.Views.{source_of}
-use Rattle.source_meaning.specs.rpp_words.Limits.{IsLimits}
-use Rattle.source_meaning.specs.roopl_semantics.Source.{IsValid}
-use Rattle.source_meaning.specs.roopl_semantics.Report.{Text}
-use Rattle.source_meaning.specs.meaning_points.Trail.{Trail, trail}
+use Rattle.source_execution.specs.rpp_words.declared.input.FieldWord.{FieldWord}
+use Rattle.source_execution.specs.rpp_words.declared.input.Limits.{Limits}
+use Rattle.source_execution.specs.rpp_tree.declared.tree.Program.{Program}
+use Rattle.source_execution.specs.rpp_tree.Tree.{Source}
+use Rattle.source_execution.specs.rpp_tree.Views.{source_of}
+use Rattle.source_execution.specs.rpp_words.Limits.{IsLimits}
+use Rattle.source_execution.specs.roopl_semantics.Source.{IsValid}
+use Rattle.source_execution.specs.roopl_semantics.Report.{Text}
+use Rattle.source_execution.specs.meaning_points.Trail.{Trail, trail}
 use Rattle.pisa_scripts.specs.declared.command.Command.{Command}
 use Rattle.source_debugger.specs.declared.running.TheConstants.{MOST_COST}
 use Rattle.source_debugger.specs.Shown.{told}

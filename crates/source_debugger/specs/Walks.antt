@@ -2,10 +2,10 @@
 use Rattle.std.specs.Prelude.{ℕ, zero, suc, ◌+◌, ℤ, pos, Bool, false, nat_eq, nat_lt, if◌then◌else◌}
 use Rattle.std.specs.Prelude.{length, Option, Some, None, slice_get}
 use Rattle.std.specs.Ordering.{int_eq}
-use Rattle.source_meaning.specs.roopl_semantics.Run.{Run, Done, Fault, More}
-use Rattle.source_meaning.specs.roopl_semantics.Store.{State}
-use Rattle.source_meaning.specs.meaning_points.Points.{Point}
-use Rattle.source_meaning.specs.meaning_points.Trail.{Trail}
+use Rattle.source_execution.specs.roopl_semantics.Run.{Run, Done, Fault, More}
+use Rattle.source_execution.specs.roopl_semantics.Store.{State}
+use Rattle.source_execution.specs.meaning_points.Points.{Point}
+use Rattle.source_execution.specs.meaning_points.Trail.{Trail}
 use Rattle.source_debugger.specs.declared.moves.TheConstants.{LAST_POSITION}
 use Rattle.source_debugger.specs.declared.moves.Walk.{Walk}
 use Rattle.source_debugger.specs.declared.moves.Ending.{Ending}

@@ -3,9 +3,9 @@ use Rattle.std.specs.Prelude.{ℕ, ◌+◌, ◌-◌, min, ℤ, pos, Bool, false,
 use Rattle.std.specs.Prelude.{if◌then◌else◌}
 use Rattle.std.specs.Prelude.{List, [], ◌∷◌, map, Option, Some, None}
 use Rattle.std.specs.Ordering.{int_eq}
-use Rattle.source_meaning.specs.source_store.HeapView.{Kept}
-use Rattle.source_meaning.specs.meaning_points.Points.{Point}
-use Rattle.source_meaning.specs.source_execution.Variables.{binding_of}
+use Rattle.source_execution.specs.source_store.HeapView.{Kept}
+use Rattle.source_execution.specs.meaning_points.Points.{Point}
+use Rattle.source_execution.specs.Variables.{binding_of}
 use Rattle.source_debugger.specs.declared.watching.Watching.{Watching}
 use Rattle.source_debugger.specs.declared.watching.Watching.TheVariants as watch
 use Rattle.source_debugger.specs.declared.running.Arrival.{Arrival}

@@ -1,8 +1,8 @@
 // Debuggers of the source.
 ghost use Rattle.std.specs.Prelude.{◌≡◌, ◌≤◌, ◌++◌, ◌∷◌, [], List, ℕ, Some, IfOk, OnOk, OnErr, option_map, string_bytes};
-ghost use Rattle.source_meaning.specs.rpp_tree.Views.{source_of};
-ghost use Rattle.source_meaning.specs.meaning_points.Trail.{trail};
-ghost use Rattle.source_meaning.specs.rpp_words.Limits.{IsLimits};
+ghost use Rattle.source_execution.specs.rpp_tree.Views.{source_of};
+ghost use Rattle.source_execution.specs.meaning_points.Trail.{trail};
+ghost use Rattle.source_execution.specs.rpp_words.Limits.{IsLimits};
 ghost use Rattle.source_debugger.specs.declared.running.TheConstants.{MOST_COST};
 ghost use Rattle.source_debugger.specs.declared.moves.TheConstants.{LAST_POSITION};
 ghost use Rattle.source_debugger.specs.Shown.{told_by, walked};
@@ -38,11 +38,11 @@ pub struct SourceDebugger<'a> {
 }
 
 impl<'a> Model for SourceDebugger<'a> {
-    ghost use Rattle.source_meaning.specs.rpp_tree.contracts.tree.Stmt as stmt;
-    ghost use Rattle.source_meaning.specs.rpp_tree.contracts.tree.Expr as expr;
+    ghost use Rattle.source_execution.specs.rpp_tree.contracts.tree.Stmt as stmt;
+    ghost use Rattle.source_execution.specs.rpp_tree.contracts.tree.Expr as expr;
     ghost use Rattle.std.specs.Coded.{codes};
     ghost use Rattle.std.specs.Prelude.{◌≤◌};
-    ghost use Rattle.source_meaning.specs.rpp_tree.Views.{source_of};
+    ghost use Rattle.source_execution.specs.rpp_tree.Views.{source_of};
     ghost use Rattle.source_debugger.specs.declared.moves.TheConstants.{LAST_POSITION};
     ghost use Rattle.source_debugger.specs.Standing.{Standing, IsValidRun};
     ghost use Rattle.source_debugger.specs.Courses.{Holds};

@@ -1,12 +1,12 @@
 // What fails where a run stops with a fault.
 ghost use Rattle.std.specs.Prelude.{◌≡◌, ◌+◌, ◌≤◌, ◌++◌, false, IfOk, OnOk, option_map, string_bytes, codes, if◌then◌else◌};
 ghost use Rattle.std.specs.Fmt.{decimal};
-ghost use Rattle.source_meaning.specs.rpp_tree.Views.{source_of};
-ghost use Rattle.source_meaning.specs.rpp_words.Texts.{line_end};
-ghost use Rattle.source_meaning.specs.roopl_semantics.Report.{head_shown};
-ghost use Rattle.source_meaning.specs.source_store.ValueView.{value_of, head_of};
-ghost use Rattle.source_meaning.specs.source_execution.Standing.{config_at, setting_at};
-ghost use Rattle.source_meaning.specs.source_execution.source_checks.TestedView.{compared_of, tested_of};
+ghost use Rattle.source_execution.specs.rpp_tree.Views.{source_of};
+ghost use Rattle.source_execution.specs.rpp_words.Texts.{line_end};
+ghost use Rattle.source_execution.specs.roopl_semantics.Report.{head_shown};
+ghost use Rattle.source_execution.specs.source_store.ValueView.{value_of, head_of};
+ghost use Rattle.source_execution.specs.Standing.{config_at, setting_at};
+ghost use Rattle.source_execution.specs.source_checks.TestedView.{compared_of, tested_of};
 ghost use Rattle.source_debugger.specs.Courses.{Holds};
 ghost use Rattle.source_debugger.specs.Standing.{IsValidRun};
 ghost use Rattle.source_debugger.specs.declared.running.TheConstants.{MOST_COST};

@@ -1,6 +1,6 @@
 // The lines of variables.
 ghost use Rattle.std.specs.Prelude.{◌≡◌, ◌++◌, OnOk, string_bytes, map};
-ghost use Rattle.source_meaning.specs.source_execution.Variables.{binding_of};
+ghost use Rattle.source_execution.specs.Variables.{binding_of};
 ghost use Rattle.source_debugger.specs.Named.{variable_line, params_named, frame_named};
 
 use source_execution::Variable;

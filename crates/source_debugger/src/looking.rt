@@ -1,8 +1,8 @@
 // What is at a position.
 ghost use Rattle.std.specs.Prelude.{◌≡◌, Some, IfOk};
-ghost use Rattle.source_meaning.specs.rpp_tree.Views.{source_of};
-ghost use Rattle.source_meaning.specs.meaning_points.Trail.{trail};
-ghost use Rattle.source_meaning.specs.source_store.HeapView.{Kept};
+ghost use Rattle.source_execution.specs.rpp_tree.Views.{source_of};
+ghost use Rattle.source_execution.specs.meaning_points.Trail.{trail};
+ghost use Rattle.source_execution.specs.source_store.HeapView.{Kept};
 ghost use Rattle.source_debugger.specs.declared.running.TheConstants.{MOST_COST};
 ghost use Rattle.source_debugger.specs.Walks.{stand_at};
 ghost use Rattle.source_debugger.specs.Standing.{IsValidRun};

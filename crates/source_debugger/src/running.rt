@@ -1,14 +1,14 @@
 // Runs of a program under a watch.
 ghost use Rattle.std.specs.Prelude.{◌≡◌, ◌+◌, ◌-◌, ◌*◌, ◌<◌, ◌≤◌, ◌^◌, true, false, length, IfOk, IfErr, OnOk, OnErr};
-ghost use Rattle.source_meaning.specs.rpp_words.Limits.{IsLimits};
-ghost use Rattle.source_meaning.specs.rpp_tree.Views.{source_of};
-ghost use Rattle.source_meaning.specs.meaning_points.Trail.{trail};
+ghost use Rattle.source_execution.specs.rpp_words.Limits.{IsLimits};
+ghost use Rattle.source_execution.specs.rpp_tree.Views.{source_of};
+ghost use Rattle.source_execution.specs.meaning_points.Trail.{trail};
 ghost use Rattle.meaning_reversed.specs.meaning_machine.Machine.{next};
 ghost use Rattle.meaning_reversed.specs.meaning_machine.Turned.{turn as turned_round};
 ghost use Rattle.meaning_reversed.specs.meaning_machine.Reversed.{back as next_back};
-ghost use Rattle.source_meaning.specs.source_steps.Metered.{Gives, metered, IsFault, OnFault};
-ghost use Rattle.source_meaning.specs.source_statements.Steps.{StepFalls};
-ghost use Rattle.source_meaning.specs.source_execution.Standing.{config_at, setting_at, next_place};
+ghost use Rattle.source_execution.specs.source_steps.Metered.{Gives, metered, IsFault, OnFault};
+ghost use Rattle.source_execution.specs.source_statements.Steps.{StepFalls};
+ghost use Rattle.source_execution.specs.Standing.{config_at, setting_at, next_place};
 ghost use Rattle.source_debugger.specs.declared.running.TheConstants.{MOST_COST};
 ghost use Rattle.source_debugger.specs.Standing.{IsValidRun};
 ghost use Rattle.source_debugger.specs.Watched.{surely as surely_in, counted as counted_at, wanted as wanted_at};

@@ -1,18 +1,18 @@
 // What commands print at a position.
 ghost use Rattle.std.specs.Prelude.{◌≡◌, ◌++◌, [], Some, map, IfOk, OnOk, string_bytes};
-ghost use Rattle.source_meaning.specs.rpp_tree.Views.{source_of};
-ghost use Rattle.source_meaning.specs.meaning_points.Trail.{trail};
+ghost use Rattle.source_execution.specs.rpp_tree.Views.{source_of};
+ghost use Rattle.source_execution.specs.meaning_points.Trail.{trail};
 ghost use Rattle.source_debugger.specs.declared.running.TheConstants.{MOST_COST};
 ghost use Rattle.source_debugger.specs.Walks.{stand_at};
 ghost use Rattle.source_debugger.specs.Shown.{ending_shown, line_at, regs_at, cells_at};
 ghost use Rattle.source_lines.specs.Named.{fields_named};
 ghost use Rattle.source_debugger.specs.Named.{frame_named};
-ghost use Rattle.source_meaning.specs.class_rules.Classes.{class_fields};
-ghost use Rattle.source_meaning.specs.roopl_semantics.Store.{class_of_head, object_at};
-ghost use Rattle.source_meaning.specs.source_store.ValueView.{values_of};
-ghost use Rattle.source_meaning.specs.source_execution.Variables.{binding_of};
+ghost use Rattle.source_execution.specs.class_rules.Classes.{class_fields};
+ghost use Rattle.source_execution.specs.roopl_semantics.Store.{class_of_head, object_at};
+ghost use Rattle.source_execution.specs.source_store.ValueView.{values_of};
+ghost use Rattle.source_execution.specs.Variables.{binding_of};
 ghost use Rattle.source_debugger.specs.Standing.{IsValidRun};
-ghost use Rattle.source_meaning.specs.source_store.HeapView.{Kept};
+ghost use Rattle.source_execution.specs.source_store.HeapView.{Kept};
 ghost use Rattle.source_debugger.specs.Courses.{Holds, heap_of};
 ghost use Rattle.source_debugger.specs.Placed.{stand_of};
 

@@ -1,9 +1,9 @@
 // The active calls at a position.
 ghost use Rattle.std.specs.Prelude.{◌≡◌, ◌++◌, false, map, option_map, IsTrue, IfOk, OnOk, string_bytes};
-ghost use Rattle.source_meaning.specs.rpp_tree.Views.{source_of};
+ghost use Rattle.source_execution.specs.rpp_tree.Views.{source_of};
 ghost use Rattle.meaning_reversed.specs.meaning_machine.Machine.{Config};
-ghost use Rattle.source_meaning.specs.source_execution.CallsView.{active_of, inside_of};
-ghost use Rattle.source_meaning.specs.source_execution.Standing.{config_at, setting_at};
+ghost use Rattle.source_execution.specs.CallsView.{active_of, inside_of};
+ghost use Rattle.source_execution.specs.Standing.{config_at, setting_at};
 ghost use Rattle.source_debugger.specs.Courses.{Holds};
 ghost use Rattle.source_debugger.specs.Standing.{IsValidRun};
 ghost use Rattle.source_debugger.specs.Stacks.{IsPosition, IsThere, call_line, call_lines, TellsStack, inside_named, TellsCall};

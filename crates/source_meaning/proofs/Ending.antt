@@ -1,7 +1,7 @@
--- A run with so much fuel, and a run within it.
-use Rattle.std.proofs.Common.{◌≡◌, ◌<◌, ℕ, ◌-◌, ◌≤◌, refl, sym, ap₂, subst, ◌∙◌, arith, Bool, true, false, if◌then◌else◌}
+-- How a run of the interpreter ends.
+use Rattle.std.proofs.Common.{◌≡◌, ◌<◌, ℕ, ◌-◌, refl, sym, ap₂, subst, ◌∙◌, Bool, true, false, if◌then◌else◌}
 use Rattle.std.proofs.Common.{Some, None, List}
-use Rattle.std.proofs.lemmas.Bool.{leb-true, leb-false}
+use Rattle.std.proofs.lemmas.Bool.{leb-false}
 use Rattle.std.specs.Prelude.{nat_le, Result, Ok, Err, IfOk}
 use Rattle.source_execution.specs.rpp_words.declared.input.FieldWord.{FieldWord}
 use Rattle.source_execution.specs.rpp_words.declared.input.Limits.{Limits}
@@ -10,7 +10,7 @@ use Rattle.source_execution.specs.rpp_tree.Tree.{Source}
 use Rattle.source_execution.specs.class_rules.Program.{IsAccepted}
 use Rattle.source_execution.specs.roopl_semantics.Run.{Run, Done, Fault, More}
 use Rattle.source_execution.specs.roopl_semantics.Store.{Store}
-use Rattle.source_execution.specs.roopl_semantics.Source.{within, source, IsValid}
+use Rattle.source_execution.specs.roopl_semantics.Source.{source, IsValid}
 use Rattle.source_execution.specs.roopl_semantics.Execution.{Setting}
 use Rattle.source_execution.specs.roopl_semantics.Laws.{CountsReferences}
 use Rattle.source_execution.proofs.roopl_semantics_laws.MoreFuel.{source_done, source_fault, within_done, within_fault}
@@ -22,56 +22,11 @@ use Rattle.meaning_inverse.proofs.Law.{leads_back}
 use Rattle.source_execution.specs.source_steps.declared.stop.Stop.{Stop}
 use Rattle.source_execution.specs.source_steps.declared.stop.Stop.TheVariants as stop
 use Rattle.source_execution.specs.source_steps.Metered.{Went, Stopped, Out, went, stopped, metered, left_of, Failed}
+use Rattle.source_execution.proofs.Within.{ends_done, ends_fault}
 use Rattle.source_execution.specs.Standing.{Standing, IsOver, Walks, config_at, setting_at}
 use Rattle.source_meaning.specs.declared.outcome.Outcome.{Outcome}
 use Rattle.source_meaning.specs.declared.outcome.Outcome.TheVariants as outcome
 use Rattle.source_meaning.specs.Outcomes.{EndsWith, IsOutcome, IsStop, StaysSo, IsUndone}
-
-by_done : {A : Type 0} (t : Bool) (fuel cost : ℕ) (x end : A) (left : ℕ) → (t ≡ true → cost ≤ fuel)
-    → went x (if t then Some (fuel - cost) else None) ≡ Went end left
-    → (if t then Done x cost else More) ≡ Done end (fuel - left)
-by_done true fuel cost x end left h e =
-    let l : cost ≤ fuel = h refl in
-    let same : x ≡ end = cc in
-    let k : fuel - cost ≡ left = cc in
-    let c : cost ≡ fuel - left = omega arith in
-    cc
-by_done false fuel cost x end left h e = cc
-
-by_fault : {A : Type 0} (t : Bool) (fuel cost x code left : ℕ) → (t ≡ true → cost ≤ fuel)
-    → stopped {A = A} x (if t then Some (fuel - cost) else None) ≡ Stopped code left
-    → if◌then◌else◌ {A = Run A} t (Fault x cost) More ≡ Fault code (fuel - left)
-by_fault true fuel cost x code left h e =
-    let l : cost ≤ fuel = h refl in
-    let same : x ≡ code = cc in
-    let k : fuel - cost ≡ left = cc in
-    let c : cost ≡ fuel - left = omega arith in
-    cc
-by_fault false fuel cost x code left h e = cc
-
-no_fault : {A : Type 0} (t : Bool) (fuel cost : ℕ) (x : A) (code left : ℕ)
-    → went x (if t then Some (fuel - cost) else None) ≡ Stopped code left → ⊥
-no_fault true fuel cost x code left e = cc
-no_fault false fuel cost x code left e = cc
-
-no_end : {A : Type 0} (t : Bool) (fuel cost code : ℕ) (end : A) (left : ℕ)
-    → stopped code (if t then Some (fuel - cost) else None) ≡ Went end left → ⊥
-no_end true fuel cost code end left e = cc
-no_end false fuel cost code end left e = cc
-
-pub ends_done : {A : Type 0} (fuel : ℕ) (run : Run A) (end : A) (left : ℕ) → metered fuel run ≡ Went end left
-    → within fuel run ≡ Done end (fuel - left)
-ends_done fuel (Done x cost) end left e = by_done (nat_le cost fuel) fuel cost x end left (leb-true cost fuel) e
-ends_done fuel (Fault code cost) end left e = absurd (no_end (nat_le cost fuel) fuel cost code end left e)
-ends_done fuel More end left e = cc
-
-pub ends_fault : {A : Type 0} (fuel : ℕ) (run : Run A) (code left : ℕ) → metered fuel run ≡ Stopped code left
-    → within fuel run ≡ Fault code (fuel - left)
-ends_fault fuel (Done x cost) code left e = absurd (no_fault (nat_le cost fuel) fuel cost x code left e)
-ends_fault fuel (Fault x cost) code left e = by_fault (nat_le cost fuel) fuel cost x code left (leb-true cost fuel) e
-ends_fault fuel More code left e = cc
-
--- ---- a run of the machine
 
 out_went : {A : Type 0} (fuel cost : ℕ) (x : A) → went x (left_of fuel cost) ≡ Out → fuel < cost
 out_went fuel cost x e = by (nat_le cost fuel) refl e

@@ -1,7 +1,7 @@
 use Rattle.std.proofs.Common.{◌≡◌, ◌∙◌, sym, ap, subst, rules, Option, Some}
 use Rattle.std.specs.Prelude.{IfOk, string_bytes}
-use Rattle.source_meaning.specs.rpp_tree.Views.{source_of}
-use Rattle.source_meaning.specs.meaning_points.Trail.{trail}
+use Rattle.source_execution.specs.rpp_tree.Views.{source_of}
+use Rattle.source_execution.specs.meaning_points.Trail.{trail}
 use Rattle.pisa_scripts.specs.declared.command.Command.{Command}
 use Rattle.source_debugger.specs.declared.running.TheConstants.{MOST_COST}
 use Rattle.source_debugger.specs.declared.moves.Walk.{Walk}

@@ -1,6 +1,6 @@
 use Rattle.std.proofs.Common.{◌≡◌, ◌∙◌, refl, sym, ap, arith, true, false}
 use Rattle.std.proofs.lemmas.Bool.{false≢true}
-use Rattle.source_meaning.specs.source_execution.Standing.{config_at}
+use Rattle.source_execution.specs.Standing.{config_at}
 use Rattle.source_debugger.specs.Watched.{wanted}
 use Rattle.source_debugger.specs.Courses.{heap_of}
 use Rattle.source_debugger.specs.declared.running.Arrival.{Arrival}

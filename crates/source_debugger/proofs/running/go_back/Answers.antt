@@ -1,5 +1,5 @@
 use Rattle.std.proofs.Common.{◌<◌, arith}
-use Rattle.source_meaning.specs.rpp_tree.Views.{source_of}
+use Rattle.source_execution.specs.rpp_tree.Views.{source_of}
 use Rattle.source_debugger.specs.declared.running.TheConstants.{MOST_COST}
 use Rattle.source_debugger.proofs.Rewound.{stepped_back}
 use Rattle.source_debugger.proofs.running.go_back.Goals as goal

@@ -1,6 +1,6 @@
 use Rattle.std.proofs.Common.{◌∙◌, sym, ap, subst}
 use Rattle.std.specs.Prelude.{IfOk}
-use Rattle.source_meaning.specs.rpp_tree.Views.{source_of}
+use Rattle.source_execution.specs.rpp_tree.Views.{source_of}
 use Rattle.source_debugger.specs.declared.running.TheConstants.{MOST_COST}
 use Rattle.source_debugger.specs.declared.watching.Watching.{Watching}
 use Rattle.source_debugger.specs.Watched.{wanted, behind}

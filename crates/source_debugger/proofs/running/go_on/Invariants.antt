@@ -1,6 +1,6 @@
 use Rattle.std.proofs.Common.{◌+◌, ◌*◌, length}
-use Rattle.source_meaning.specs.rpp_tree.Views.{source_of}
-use Rattle.source_meaning.specs.source_execution.Standing.{config_at}
+use Rattle.source_execution.specs.rpp_tree.Views.{source_of}
+use Rattle.source_execution.specs.Standing.{config_at}
 use Rattle.source_debugger.specs.declared.running.TheConstants.{MOST_COST}
 use Rattle.source_debugger.proofs.Endings.{HasCome}
 use Rattle.source_debugger.proofs.running.go_on.Given as goal

@@ -1,5 +1,5 @@
 use Rattle.std.proofs.Common.{ap}
-use Rattle.source_meaning.specs.rpp_tree.Views.{source_of}
+use Rattle.source_execution.specs.rpp_tree.Views.{source_of}
 use Rattle.source_debugger.specs.declared.running.Course.{Course}
 use Rattle.source_debugger.specs.declared.running.TheConstants.{MOST_COST}
 use Rattle.source_debugger.proofs.Rewound.{turns, turns_again}

@@ -1,6 +1,6 @@
 use Rattle.std.proofs.Common.{◌∙◌, sym, subst, None}
-use Rattle.source_meaning.specs.rpp_tree.Views.{source_of}
-use Rattle.source_meaning.specs.meaning_points.Trail.{trail}
+use Rattle.source_execution.specs.rpp_tree.Views.{source_of}
+use Rattle.source_execution.specs.meaning_points.Trail.{trail}
 use Rattle.source_debugger.specs.declared.watching.Watching.TheVariants as watch
 use Rattle.source_debugger.specs.declared.running.TheConstants.{MOST_COST}
 use Rattle.source_debugger.specs.Ended.{IsEnded}
