@@ -5,7 +5,7 @@ use Rattle.std.specs.Prelude.{Result}
 use Rattle.std.specs.declared.option.Option.{Option}
 use Rattle.run_settings.specs.rpp_tree.Views.{source_of}
 use Rattle.run_settings.specs.rpp_ports.declared.sink.SinkFault.{SinkFault}
-use Rattle.source_debugger.specs.declared.running.TheConstants.{MOST_COST}
+use Rattle.source_debugger.specs.source_courses.declared.running.TheConstants.{MOST_COST}
 use Rattle.source_debugger.specs.Standing.{Standing}
 use Rattle.source_debugger.specs.Failures.{account_of}
 use Rattle.run_settings.specs.Runnable.{RefusesRun, CanRun}

@@ -6,7 +6,7 @@ use Rattle.source_debugger.specs.meaning_points.rpp_tree.Tree.{Source}
 use Rattle.source_debugger.specs.meaning_points.Trail.{Trail}
 use Rattle.source_debugger.specs.Walks.{Stand, Onward, Moves, Stays, Hidden, stand_at, onward}
 use Rattle.pisa_scripts.specs.declared.command.Command.{Command}
-use Rattle.source_debugger.specs.declared.moves.TheConstants.{LAST_POSITION}
+use Rattle.source_debugger.specs.source_courses.declared.moves.TheConstants.{LAST_POSITION}
 use Rattle.source_debugger.specs.Shown.{Told, told_by, tells, line_at}
 use Rattle.live_searches.specs.declared.moves.Outcome.TheVariants.{Met, Stopped}
 use Rattle.live_searches.specs.Searches.{Found, found, and_seek, all_made, seek}

@@ -1,7 +1,7 @@
 // The sizes of files, and the numbers of runs and probes.
 ghost use Rattle.std.specs.Prelude.{◌≡◌};
 ghost use Rattle.command_plan.specs.rpp_probes.declared.coverage.TheConstants.{MOST_PLACES};
-ghost use Rattle.source_debugger.specs.declared.running.TheConstants.{MOST_COST};
+ghost use Rattle.source_debugger.specs.source_courses.declared.running.TheConstants.{MOST_COST};
 
 use command_line::{MOST_COMMON, MOST_ITEMS, MOST_PROCESSORS};
 use command_plan::{MOST_IMAGE, MOST_STATE};

@@ -13,7 +13,7 @@ use Rattle.source_execution.specs.roopl_semantics.Source.{GivesDone, main_body, 
 use Rattle.source_execution.specs.meaning_points.Points.{Point}
 use Rattle.source_execution.specs.meaning_points.Trail.{trail}
 use Rattle.source_execution.proofs.meaning_points_laws.Growing.{points_done}
-use Rattle.source_debugger.specs.Walks.{AtEnd, Unknown, end_stand, point_stand, stand_at}
+use Rattle.source_courses.specs.Walks.{AtEnd, Unknown, end_stand, point_stand, stand_at}
 
 end_in : (s t : State) → AtEnd s ≡ AtEnd t → s ≡ t
 end_in s t e = cc

@@ -11,7 +11,7 @@ use Rattle.source_execution.specs.rpp_tree.Views.{source_of}
 use Rattle.source_execution.specs.roopl_semantics.Report.{Text}
 use Rattle.source_execution.specs.meaning_points.Trail.{Trail, trail}
 use Rattle.pisa_scripts.specs.declared.command.Command.{Command}
-use Rattle.source_debugger.specs.declared.running.TheConstants.{MOST_COST}
+use Rattle.source_courses.specs.declared.running.TheConstants.{MOST_COST}
 use Rattle.source_debugger.specs.Shown.{Told, told_by, behind_text, and_told, told}
 use Rattle.source_debugger.specs.Standing.{Standing, run_of, Leads, IsAlong}
 

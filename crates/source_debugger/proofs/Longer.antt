@@ -15,11 +15,11 @@ use Rattle.source_execution.specs.meaning_points.Trail.{Trail, trail}
 use Rattle.source_execution.proofs.meaning_points_laws.Growing.{points_added, points_done, points_fault}
 use Rattle.pisa_scripts.specs.declared.command.Command.{Command}
 use Rattle.pisa_scripts.specs.declared.command.Command.TheVariants.{Step, Back, To, BackTo, Regs, Cells}
-use Rattle.source_debugger.specs.declared.moves.TheConstants.{LAST_POSITION}
-use Rattle.source_debugger.specs.declared.moves.Walk.{Walk}
-use Rattle.source_debugger.specs.declared.moves.Ending.TheVariants.{Made}
-use Rattle.source_debugger.specs.Walks.{Stand, Unknown, end_stand, point_stand, stand_at, has_place, is_at, Onward}
-use Rattle.source_debugger.specs.Walks.{Moves, Stays, beyond, onward, ends, move_on, forward, backward}
+use Rattle.source_courses.specs.declared.moves.TheConstants.{LAST_POSITION}
+use Rattle.source_courses.specs.declared.moves.Walk.{Walk}
+use Rattle.source_courses.specs.declared.moves.Ending.TheVariants.{Made}
+use Rattle.source_courses.specs.Walks.{Stand, Unknown, end_stand, point_stand, stand_at, has_place, is_at, Onward}
+use Rattle.source_courses.specs.Walks.{Moves, Stays, beyond, onward, ends, move_on, forward, backward}
 use Rattle.source_debugger.specs.Shown.{Told, line_at, regs_at, cells_at, tells, walked, told_by, behind_text, and_told}
 use Rattle.source_debugger.specs.Shown.{told}
 

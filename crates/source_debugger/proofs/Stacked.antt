@@ -5,9 +5,9 @@ use Rattle.source_execution.specs.rpp_words.declared.input.Limits.{Limits}
 use Rattle.source_execution.specs.rpp_tree.Tree.{Source}
 use Rattle.source_execution.specs.roopl_semantics.Execution.{Setting}
 use Rattle.source_execution.specs.Standing.{config_at, setting_at}
-use Rattle.source_debugger.specs.declared.running.Course.{Course}
-use Rattle.source_debugger.specs.declared.running.TheConstants.{MOST_COST}
-use Rattle.source_debugger.specs.Courses.{IsUnderWay}
+use Rattle.source_courses.specs.declared.running.Course.{Course}
+use Rattle.source_courses.specs.declared.running.TheConstants.{MOST_COST}
+use Rattle.source_courses.specs.Courses.{IsUnderWay}
 use Rattle.source_debugger.specs.Stacks.{IsPosition, IsThere}
 
 pub is_there : (program : Source) (limits : Limits) (input : List FieldWord) (position : ℕ) (c : Course)

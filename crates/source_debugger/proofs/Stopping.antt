@@ -5,14 +5,14 @@ use Rattle.source_execution.specs.rpp_words.declared.input.FieldWord.{FieldWord}
 use Rattle.source_execution.specs.rpp_words.declared.input.Limits.{Limits}
 use Rattle.source_execution.specs.rpp_tree.Tree.{Source}
 use Rattle.source_execution.specs.roopl_semantics.Execution.{Setting}
-use Rattle.meaning_reversed.specs.meaning_machine.SourceLaws.{set_for}
+use Rattle.source_execution.specs.meaning_machine.SourceLaws.{set_for}
 use Rattle.source_execution.specs.declared.falling.Failing.{Failing}
 use Rattle.source_execution.specs.Standing.{config_at, setting_at}
 use Rattle.source_execution.specs.Falls.{IsFailing, IsFailingOf, failing_of}
-use Rattle.source_debugger.specs.declared.moves.Walk.{Walk}
+use Rattle.source_courses.specs.declared.moves.Walk.{Walk}
 use Rattle.source_debugger.specs.Failures.{Show, Account, failure, failure_at, failure_by, fails_at, is_fault}
 use Rattle.source_debugger.specs.Failures.{stops_with_fault}
-use Rattle.source_debugger.specs.Walks.{forward}
+use Rattle.source_courses.specs.Walks.{forward}
 
 pub never_fails : (program : Source) (limits : Limits) (input : List FieldWord) (show : Show)
     → failing_of program limits input ≡ None → None ≡ failure program limits input show

@@ -7,7 +7,7 @@ use Rattle.source_execution.specs.roopl_semantics.Store.{State}
 use Rattle.source_execution.specs.roopl_semantics.Source.{GivesDone}
 use Rattle.source_execution.specs.meaning_points.Trail.{trail}
 use Rattle.pisa_scripts.specs.declared.command.Command.{Command}
-use Rattle.source_debugger.specs.Walks.{AtEnd, stand_at}
+use Rattle.source_courses.specs.Walks.{AtEnd, stand_at}
 use Rattle.source_debugger.specs.Shown.{Told, told}
 
 -- what commands print from the start of a run on, they print with more fuel too

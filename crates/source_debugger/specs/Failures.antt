@@ -12,8 +12,8 @@ use Rattle.source_execution.specs.roopl_semantics.Run.{Run, Done, Fault, More}
 use Rattle.source_execution.specs.roopl_semantics.Report.{Text, head_shown}
 use Rattle.source_execution.specs.roopl_semantics.Execution.{Setting}
 use Rattle.source_execution.specs.meaning_points.Trail.{Trail, trail}
-use Rattle.meaning_reversed.specs.meaning_machine.Machine.{Config, next}
-use Rattle.meaning_reversed.specs.meaning_machine.SourceLaws.{set_for, start_of}
+use Rattle.source_execution.specs.meaning_machine.Machine.{Config, next}
+use Rattle.source_execution.specs.meaning_machine.SourceLaws.{set_for, start_of}
 use Rattle.source_execution.specs.source_checks.Checks.{Compared, Truth, Values}
 use Rattle.source_execution.specs.source_checks.Checks.{Below, Missing}
 use Rattle.source_execution.specs.source_checks.Checks.{Count, Length, Size, Heads}
@@ -22,14 +22,14 @@ use Rattle.source_execution.specs.source_checks.Failures.{Tested, tested, failin
 use Rattle.source_execution.specs.source_checks.Failures.{MOST_STEPS}
 use Rattle.source_debugger.specs.declared.failing.Detail.{Detail}
 use Rattle.source_debugger.specs.declared.failing.Detail.TheVariants.{Test, Cells}
-use Rattle.source_debugger.specs.declared.moves.Walk.{Walk}
-use Rattle.source_debugger.specs.declared.moves.Ending.{Ending}
-use Rattle.source_debugger.specs.declared.moves.Ending.TheVariants.{Made, Start, Faulted}
-use Rattle.source_debugger.specs.declared.running.TheConstants.{MOST_COST}
+use Rattle.source_courses.specs.declared.moves.Walk.{Walk}
+use Rattle.source_courses.specs.declared.moves.Ending.{Ending}
+use Rattle.source_courses.specs.declared.moves.Ending.TheVariants.{Made, Start, Faulted}
+use Rattle.source_courses.specs.declared.running.TheConstants.{MOST_COST}
 use Rattle.source_lines.specs.Named.{value_named, objects_from}
 use Rattle.source_debugger.specs.Shown.{state_named}
 use Rattle.source_debugger.specs.Standing.{Standing}
-use Rattle.source_debugger.specs.Walks.{forward}
+use Rattle.source_courses.specs.Walks.{forward}
 
 -- the lines of what a check finds, and of what it needs
 abbrev pub found_wanted : (found wanted : Text) → Text

@@ -1,10 +1,8 @@
 pub use Rattle.source_execution.specs.meaning_points
-pub mod Watched
-pub mod Courses
-pub mod Ended
-pub mod Walks
+pub use Rattle.source_courses.specs.Watched
+pub use Rattle.source_courses.specs.Walks
+pub use Rattle.source_courses.specs as source_courses
 pub mod Named
-pub mod Placed
 pub mod Looks
 pub mod Shown
 pub mod Standing

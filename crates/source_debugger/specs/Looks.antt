@@ -2,7 +2,7 @@
 use Rattle.std.specs.Prelude.{Option, Some, None}
 use Rattle.source_debugger.specs.declared.looking.Seen.{Seen}
 use Rattle.source_debugger.specs.declared.looking.Seen.TheVariants as seen
-use Rattle.source_debugger.specs.Walks.{Stand, AtPoint, AtEnd, Unknown}
+use Rattle.source_courses.specs.Walks.{Stand, AtPoint, AtEnd, Unknown}
 
 abbrev pub seen_of : Stand → Option Seen
 seen_of (AtPoint point) = Some (seen.At point.place point.state.depth)

@@ -12,10 +12,10 @@ use Rattle.source_execution.specs.meaning_points.Trail.{Trail}
 use Rattle.pisa_scripts.specs.declared.command.Command.{Command}
 use Rattle.pisa_scripts.specs.declared.command.Command.TheVariants.{Step, Back, To, BackTo}
 use Rattle.pisa_scripts.specs.declared.command.Command.TheVariants.{Regs, Cells}
-use Rattle.source_debugger.specs.declared.moves.Walk.{Walk}
-use Rattle.source_debugger.specs.declared.moves.Ending.{Ending}
-use Rattle.source_debugger.specs.declared.moves.Ending.TheVariants.{Made, Start, Faulted}
-use Rattle.source_debugger.specs.Walks.{Stand, AtPoint, AtEnd, Unknown, stand_at, forward, backward}
+use Rattle.source_courses.specs.declared.moves.Walk.{Walk}
+use Rattle.source_courses.specs.declared.moves.Ending.{Ending}
+use Rattle.source_courses.specs.declared.moves.Ending.TheVariants.{Made, Start, Faulted}
+use Rattle.source_courses.specs.Walks.{Stand, AtPoint, AtEnd, Unknown, stand_at, forward, backward}
 use Rattle.source_lines.specs.Named.{fields_named, objects_from}
 use Rattle.source_debugger.specs.Named.{frame_named}
 

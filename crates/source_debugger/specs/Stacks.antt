@@ -9,8 +9,8 @@ use Rattle.pisa_scripts.specs.Words.{direction}
 use Rattle.source_execution.specs.rpp_tree.Tree.{Source}
 use Rattle.source_execution.specs.roopl_semantics.Run.{Done}
 use Rattle.source_execution.specs.roopl_semantics.Report.{Text}
-use Rattle.meaning_reversed.specs.meaning_machine.Machine.{Config, walk, seen}
-use Rattle.meaning_reversed.specs.meaning_machine.SourceLaws.{set_for, start_of}
+use Rattle.source_execution.specs.meaning_machine.Machine.{Config, walk, seen}
+use Rattle.source_execution.specs.meaning_machine.SourceLaws.{set_for, start_of}
 use Rattle.source_execution.specs.class_rules.Classes.{class_fields}
 use Rattle.source_execution.specs.roopl_semantics.Store.{class_of_head, object_at}
 use Rattle.source_execution.specs.Calls.{Active, active_calls, CallState}

@@ -3,15 +3,13 @@ use Rattle.std.specs.Prelude.{◌≡◌, ℕ, List, Some, take}
 use Rattle.source_execution.specs.rpp_words.declared.input.FieldWord.{FieldWord}
 use Rattle.source_execution.specs.rpp_words.declared.input.Limits.{Limits}
 use Rattle.source_execution.specs.rpp_tree.declared.tree.Program.{Program}
-use Rattle.source_execution.specs.rpp_tree.Tree.{Source}
 use Rattle.source_execution.specs.rpp_tree.Views.{source_of}
-use Rattle.source_execution.specs.rpp_words.Limits.{IsLimits}
-use Rattle.source_execution.specs.roopl_semantics.Source.{IsValid}
 use Rattle.source_execution.specs.roopl_semantics.Report.{Text}
 use Rattle.source_execution.specs.meaning_points.Trail.{Trail, trail}
 use Rattle.pisa_scripts.specs.declared.command.Command.{Command}
-use Rattle.source_debugger.specs.declared.running.TheConstants.{MOST_COST}
+use Rattle.source_courses.specs.declared.running.TheConstants.{MOST_COST}
 use Rattle.source_debugger.specs.Shown.{told}
+pub use Rattle.source_courses.specs.Valid.{IsValidRun}
 
 -- the run of a program on an input, and the position
 pub record Standing : Type 0 where
@@ -36,8 +34,3 @@ pub record IsAlong (before : Standing) (commands : List Command) (after : Standi
   pub made : ℕ
   pub text : Text
   pub leads : Leads before (take made commands) after text
-
--- a program with a valid input and limits in range
-pub record IsValidRun (program : Source) (limits : Limits) (input : List FieldWord) : Type 0 where
-  pub valid : IsValid program input
-  pub in_range : IsLimits limits

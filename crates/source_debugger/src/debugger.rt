@@ -3,25 +3,24 @@ ghost use Rattle.std.specs.Prelude.{◌≡◌, ◌≤◌, ◌++◌, ◌∷◌, [
 ghost use Rattle.source_execution.specs.rpp_tree.Views.{source_of};
 ghost use Rattle.source_execution.specs.meaning_points.Trail.{trail};
 ghost use Rattle.source_execution.specs.rpp_words.Limits.{IsLimits};
-ghost use Rattle.source_debugger.specs.declared.running.TheConstants.{MOST_COST};
-ghost use Rattle.source_debugger.specs.declared.moves.TheConstants.{LAST_POSITION};
+ghost use Rattle.source_courses.specs.declared.running.TheConstants.{MOST_COST};
+ghost use Rattle.source_courses.specs.declared.moves.TheConstants.{LAST_POSITION};
 ghost use Rattle.source_debugger.specs.Shown.{told_by, walked};
 ghost use Rattle.source_debugger.specs.Standing.{IsValidRun, run_of, Leads, IsAlong};
-ghost use Rattle.source_debugger.specs.Courses.{Holds};
+ghost use Rattle.source_courses.specs.Courses.{Holds};
 ghost use Rattle.source_debugger.specs.Looks.{seen_of};
 ghost use Rattle.source_debugger.specs.Failures.{account_of, fails_at, shown_of};
 ghost use Rattle.source_debugger.specs.Stacks.{TellsStack, TellsCall};
-ghost use Rattle.source_debugger.specs.Walks.{stand_at};
+ghost use Rattle.source_courses.specs.Walks.{stand_at};
 
 use crate::failing::{Detail, tell_failure};
 use crate::looking::{Seen, look_at};
-use crate::moves::{Walk, backward, forward};
-use crate::running::{Course, Run, begin};
 use crate::shown::{cells_text, regs_text, walk_text};
 use crate::stacks::{tell_call, tell_stack};
 use class_table::Checked;
 use pisa_scripts::Command;
 use rpp_words::{Input, Limits, NoMemory};
+use source_courses::{Course, Run, Walk, backward, begin, forward};
 use source_store::Lack;
 use std::alloc::Global;
 use std::marker::Model;
@@ -43,9 +42,9 @@ impl<'a> Model for SourceDebugger<'a> {
     ghost use Rattle.std.specs.Coded.{codes};
     ghost use Rattle.std.specs.Prelude.{◌≤◌};
     ghost use Rattle.source_execution.specs.rpp_tree.Views.{source_of};
-    ghost use Rattle.source_debugger.specs.declared.moves.TheConstants.{LAST_POSITION};
+    ghost use Rattle.source_courses.specs.declared.moves.TheConstants.{LAST_POSITION};
     ghost use Rattle.source_debugger.specs.Standing.{Standing, IsValidRun};
-    ghost use Rattle.source_debugger.specs.Courses.{Holds};
+    ghost use Rattle.source_courses.specs.Courses.{Holds};
 
     ghost Value = { Standing };
 

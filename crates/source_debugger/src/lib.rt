@@ -10,13 +10,10 @@ mod failing;
 pub mod laws;
 mod lines;
 mod looking;
-mod moves;
-mod running;
 mod shown;
 mod stacks;
-mod watching;
 
 pub use debugger::SourceDebugger;
 pub use failing::Detail;
 pub use looking::Seen;
-pub use moves::LAST_POSITION;
+pub use source_courses::LAST_POSITION;

@@ -3,16 +3,15 @@ ghost use Rattle.std.specs.Prelude.{◌≡◌, Some, IfOk};
 ghost use Rattle.source_execution.specs.rpp_tree.Views.{source_of};
 ghost use Rattle.source_execution.specs.meaning_points.Trail.{trail};
 ghost use Rattle.source_execution.specs.source_store.HeapView.{Kept};
-ghost use Rattle.source_debugger.specs.declared.running.TheConstants.{MOST_COST};
-ghost use Rattle.source_debugger.specs.Walks.{stand_at};
+ghost use Rattle.source_courses.specs.declared.running.TheConstants.{MOST_COST};
+ghost use Rattle.source_courses.specs.Walks.{stand_at};
 ghost use Rattle.source_debugger.specs.Standing.{IsValidRun};
-ghost use Rattle.source_debugger.specs.Courses.{Holds};
-ghost use Rattle.source_debugger.specs.Placed.{stand_of};
+ghost use Rattle.source_courses.specs.Courses.{Holds};
+ghost use Rattle.source_courses.specs.Placed.{stand_of};
 ghost use Rattle.source_debugger.specs.Looks.{seen_of};
 
-use crate::running::{Course, Run};
-use crate::shown::{Place, place_at};
 use rpp_words::NoMemory;
+use source_courses::{Course, Place, Run, place_at};
 
 /// What is at a position.
 #[derive(Clone, Copy, PartialEq, Eq, Debug)]

@@ -2,8 +2,8 @@
 ghost use Rattle.std.specs.Prelude.{◌≡◌, ◌++◌, [], Some, map, IfOk, OnOk, string_bytes};
 ghost use Rattle.source_execution.specs.rpp_tree.Views.{source_of};
 ghost use Rattle.source_execution.specs.meaning_points.Trail.{trail};
-ghost use Rattle.source_debugger.specs.declared.running.TheConstants.{MOST_COST};
-ghost use Rattle.source_debugger.specs.Walks.{stand_at};
+ghost use Rattle.source_courses.specs.declared.running.TheConstants.{MOST_COST};
+ghost use Rattle.source_courses.specs.Walks.{stand_at};
 ghost use Rattle.source_debugger.specs.Shown.{ending_shown, line_at, regs_at, cells_at};
 ghost use Rattle.source_lines.specs.Named.{fields_named};
 ghost use Rattle.source_debugger.specs.Named.{frame_named};
@@ -13,16 +13,14 @@ ghost use Rattle.source_execution.specs.source_store.ValueView.{values_of};
 ghost use Rattle.source_execution.specs.Variables.{binding_of};
 ghost use Rattle.source_debugger.specs.Standing.{IsValidRun};
 ghost use Rattle.source_execution.specs.source_store.HeapView.{Kept};
-ghost use Rattle.source_debugger.specs.Courses.{Holds, heap_of};
-ghost use Rattle.source_debugger.specs.Placed.{stand_of};
+ghost use Rattle.source_courses.specs.Courses.{Holds};
+ghost use Rattle.source_courses.specs.Placed.{stand_of};
 
 use crate::lines::add_frame;
-use crate::moves::{Ending, Walk, left_in};
-use crate::running::{Arrival, Course, Ended, Run, run_to};
-use crate::watching::Watching;
 use class_table::Checked;
 use pisa_isa::Stop;
 use pisa_scripts::add_stop;
+use source_courses::{Course, Ending, Place, Run, Walk, place_at};
 use source_execution::Variable;
 use source_lines::{add_class_fields, objects_text};
 use source_store::{Heap, Lack, Value};
@@ -30,47 +28,6 @@ use std::alloc::{AllocError, Global};
 
 // The space for a text of a few lines.
 const FEW_BYTES: usize = 64;
-
-/// The position of a run: at a trace point, or at its end.
-#[derive(Drop)]
-pub(crate) enum Place {
-    Point { arrival: Arrival },
-    End,
-}
-
-/// Where a position is. A position that the run does not have is refused as `Full`.
-pub(crate) fn place_at<'a>(
-    run: &Run<'a>,
-    course: &mut Course<'a>,
-    position: u64,
-) -> Result<Place, Lack>
-    requires run { IsValidRun (source_of run.now.checked.now) run.now.limits
-        run.now.input.now.words.items }
-    requires holds { Holds (source_of run.now.checked.now) run.now.limits
-        run.now.input.now.words.items course.old }
-    ensures stands { IfOk result (λ place. stand_of place (heap_of course.new)
-        ≡ stand_at (trail (source_of run.now.checked.now) run.now.limits
-        run.now.input.now.words.items MOST_COST) position) }
-    ensures holds { Holds (source_of run.now.checked.now) run.now.limits
-        run.now.input.now.words.items course.new }
-{
-    let wanted = Watching::First {
-        place: None,
-        skip: 0,
-        left: position,
-    };
-    match run_to(run, course, wanted)? {
-        Ended::At { arrival, .. } => Ok(Place::Point { arrival }),
-        Ended::Over { watching } => {
-            if left_in(watching) == 0 {
-                Ok(Place::End)
-            } else {
-                Err(Lack::Full)
-            }
-        }
-        Ended::Fault { .. } => Err(Lack::Full),
-    }
-}
 
 // How moves ended, with the line's end.
 fn add_ending(text: &mut String, ending: Ending) -> Result<(), AllocError>

@@ -1,17 +1,17 @@
 // The active calls at a position.
 ghost use Rattle.std.specs.Prelude.{◌≡◌, ◌++◌, false, map, option_map, IsTrue, IfOk, OnOk, string_bytes};
 ghost use Rattle.source_execution.specs.rpp_tree.Views.{source_of};
-ghost use Rattle.meaning_reversed.specs.meaning_machine.Machine.{Config};
+ghost use Rattle.source_execution.specs.meaning_machine.Machine.{Config};
 ghost use Rattle.source_execution.specs.CallsView.{active_of, inside_of};
 ghost use Rattle.source_execution.specs.Standing.{config_at, setting_at};
-ghost use Rattle.source_debugger.specs.Courses.{Holds};
+ghost use Rattle.source_courses.specs.Courses.{Holds};
 ghost use Rattle.source_debugger.specs.Standing.{IsValidRun};
 ghost use Rattle.source_debugger.specs.Stacks.{IsPosition, IsThere, call_line, call_lines, TellsStack, inside_named, TellsCall};
 
-use crate::running::{Course, Run};
-use crate::shown::{add_state, place_at};
+use crate::shown::add_state;
 use class_table::Checked;
 use rpp_words::NoMemory;
+use source_courses::{Course, Run, place_at};
 use source_execution::{Active, CallState, Execution};
 use source_store::{Heap, Lack};
 use std::alloc::{AllocError, Global};

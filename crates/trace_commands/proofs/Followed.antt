@@ -6,7 +6,7 @@ use Rattle.run_settings.specs.rpp_tree.declared.tree.Program.{Program}
 use Rattle.run_settings.specs.rpp_tree.Views.{source_of}
 use Rattle.run_settings.specs.roopl_semantics.Report.{Text}
 use Rattle.pisa_scripts.specs.declared.command.Command.{Command}
-use Rattle.source_debugger.specs.declared.running.TheConstants.{MOST_COST}
+use Rattle.source_debugger.specs.source_courses.declared.running.TheConstants.{MOST_COST}
 use Rattle.source_debugger.specs.Shown.{told}
 use Rattle.source_debugger.specs.Standing.{Standing, run_of, Leads}
 use Rattle.trace_commands.specs.TracePlans.{Follows}

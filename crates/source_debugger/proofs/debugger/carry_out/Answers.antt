@@ -3,10 +3,10 @@ use Rattle.std.specs.Prelude.{IfOk, string_bytes}
 use Rattle.source_execution.specs.rpp_tree.Views.{source_of}
 use Rattle.source_execution.specs.meaning_points.Trail.{trail}
 use Rattle.pisa_scripts.specs.declared.command.Command.{Command}
-use Rattle.source_debugger.specs.declared.running.TheConstants.{MOST_COST}
-use Rattle.source_debugger.specs.declared.moves.Walk.{Walk}
+use Rattle.source_courses.specs.declared.running.TheConstants.{MOST_COST}
+use Rattle.source_courses.specs.declared.moves.Walk.{Walk}
 use Rattle.source_debugger.specs.declared.debugger.Answer.{Answer}
-use Rattle.source_debugger.specs.Walks.{forward, backward}
+use Rattle.source_courses.specs.Walks.{forward, backward}
 use Rattle.source_debugger.specs.Shown.{Told, walked, told_by}
 use Rattle.source_debugger.proofs.Following.{within_as}
 use Rattle.source_debugger.proofs.debugger.carry_out.Goals as goal

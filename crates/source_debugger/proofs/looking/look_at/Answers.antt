@@ -1,7 +1,7 @@
 use Rattle.std.proofs.Common.{◌≡◌, subst, Some}
-use Rattle.source_debugger.specs.Walks.{Stand}
+use Rattle.source_courses.specs.Walks.{Stand}
 use Rattle.source_debugger.specs.Looks.{seen_of}
-use Rattle.source_debugger.specs.Courses.{heap_of}
+use Rattle.source_courses.specs.Courses.{heap_of}
 use Rattle.source_debugger.proofs.looking.look_at.Goals as goal
 
 pub returns-in-Ok-clause-seen : goal.returns-in-Ok-clause-seen

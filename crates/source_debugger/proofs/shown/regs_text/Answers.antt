@@ -1,10 +1,10 @@
 use Rattle.std.proofs.Common.{◌≡◌, ◌∙◌, subst, Some}
 use Rattle.std.specs.Prelude.{IfOk, string_bytes}
 use Rattle.source_execution.specs.rpp_tree.Views.{source_of}
-use Rattle.source_debugger.specs.Walks.{Stand}
+use Rattle.source_courses.specs.Walks.{Stand}
 use Rattle.source_debugger.specs.Shown.{regs_at}
-use Rattle.source_debugger.specs.Courses.{heap_of}
-use Rattle.source_debugger.proofs.Endings.{stand_as}
+use Rattle.source_courses.specs.Courses.{heap_of}
+use Rattle.source_courses.proofs.Endings.{stand_as}
 use Rattle.source_debugger.proofs.shown.regs_text.Goals as goal
 
 pub returns-clause-told : goal.returns-clause-told

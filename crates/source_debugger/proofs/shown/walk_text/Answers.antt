@@ -1,8 +1,8 @@
 use Rattle.std.proofs.Common.{◌≡◌, subst, Some}
 use Rattle.std.specs.Prelude.{string_bytes}
-use Rattle.source_debugger.specs.Walks.{Stand}
+use Rattle.source_courses.specs.Walks.{Stand}
 use Rattle.source_debugger.specs.Shown.{line_at}
-use Rattle.source_debugger.specs.Courses.{heap_of}
+use Rattle.source_courses.specs.Courses.{heap_of}
 use Rattle.source_debugger.proofs.shown.walk_text.Goals as goal
 
 pub returns-clause-told : goal.returns-clause-told

@@ -1,7 +1,7 @@
 use Rattle.std.proofs.Common.{◌≡◌, subst, Some}
 use Rattle.std.specs.Prelude.{IfOk}
 use Rattle.source_debugger.specs.declared.looking.Seen.{Seen}
-use Rattle.source_debugger.specs.Walks.{stand_at}
+use Rattle.source_courses.specs.Walks.{stand_at}
 use Rattle.source_debugger.specs.Standing.{Standing, run_of}
 use Rattle.source_debugger.specs.Looks.{seen_of}
 use Rattle.source_debugger.proofs.debugger.SourceDebugger.look.Goals as goal

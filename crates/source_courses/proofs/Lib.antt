@@ -1,0 +1,5 @@
+pub mod Rewound
+pub mod Left
+pub mod Onwards
+pub mod Backwards
+pub mod Endings

@@ -1,0 +1,6 @@
+pub mod Watched
+pub mod Valid
+pub mod Courses
+pub mod Ended
+pub mod Walks
+pub mod Placed
