@@ -1,5 +1,5 @@
 -- What a check that fails compares: what it finds, and what it needs.
-use Rattle.std.specs.Prelude.{ℕ, Bool, true, false, nat_eq, nat_lt, List, [], ◌∷◌, ◌++◌, length}
+use Rattle.std.specs.Prelude.{ℕ, Bool, true, false, nat_eq, List, [], ◌∷◌, ◌++◌, length}
 use Rattle.std.specs.Prelude.{if◌then◌else◌, Result, Ok, Err}
 use Rattle.std.specs.Option.{unwrap_or}
 use Rattle.rpp_tree.specs.declared.tree.VarType.{VarType}
@@ -8,10 +8,8 @@ use Rattle.rpp_tree.specs.Tree.{Expression, Number, Null, Variable, Element, Bin
 use Rattle.rpp_tree.specs.Tree.{Item, Creation, Object as AnObject, Ints, Objects, Statement}
 use Rattle.rpp_tree.specs.Tree.{Source, Update, Swap, If, Local, New, Delete, Copy, Uncopy}
 use Rattle.source_blocks.specs.class_rules.Classes.{class_number}
-use Rattle.source_blocks.specs.roopl_semantics.Store.{Value, Word, Nil, Name, Head, OfClass}
-use Rattle.source_blocks.specs.roopl_semantics.Store.{State, Store, Object, object_at}
-use Rattle.source_blocks.specs.roopl_semantics.Store.{number_of}
-use Rattle.source_blocks.specs.roopl_semantics.Store.{is_zero, cleared, same_value}
+use Rattle.source_blocks.specs.roopl_semantics.Store.{Value, Word, Nil, OfClass, State, Object}
+use Rattle.source_blocks.specs.roopl_semantics.Store.{object_at, number_of, is_zero, same_value}
 use Rattle.source_blocks.specs.roopl_semantics.Value.{Cell, read, value, variable_value}
 use Rattle.source_blocks.specs.roopl_semantics.Value.{read_cell, cell_of, nil_fault}
 use Rattle.source_blocks.specs.roopl_semantics.Execution.{Setting, not_nil_fault, count_fault}
@@ -20,45 +18,10 @@ use Rattle.source_blocks.specs.roopl_semantics.Execution.{class_differs_fault}
 use Rattle.source_blocks.specs.roopl_semantics.Execution.{length_differs_fault, length_fault}
 use Rattle.source_blocks.specs.roopl_semantics.Execution.{too_deep_fault}
 use Rattle.source_blocks.specs.meaning_machine.Machine.{Caller}
-
--- what a check compares
-pub data Compared : Type 0 where
-  -- a value with a truth
-  Truth : (found : Value) (wanted : Bool) → Compared
-  -- two values
-  Values : (found wanted : Value) → Compared
-  -- an index or a number of calls, which must be below a limit
-  Below : (found : Value) (limit : ℕ) → Compared
-  -- nil, which must be an array or an object
-  Missing : (array : Bool) → Compared
-  -- a reference count, which must be 1
-  Count : (found : ℕ) → Compared
-  -- the size that a statement names, which must be the length of the array
-  Length : (found : Value) (wanted : ℕ) → Compared
-  -- the size of a new array, which must be at least 1
-  Size : (found : Value) → Compared
-  -- what an object is, and what it must be
-  Heads : (found wanted : Head) → Compared
-  Nothing : Compared
-
--- of two checks in a row, the one that fails first
-abbrev pub first_of : Compared → Compared → Compared
-first_of Nothing second = second
-first_of first second = first
+use Rattle.source_compared.specs.Comparisons.{Compared, Values, Below, Missing, Count, Length}
+use Rattle.source_compared.specs.Comparisons.{Size, Heads, Nothing, first_of, access_at, to_be_zero}
 
 -- ---- the elements that an evaluation reads
-
--- an element of an array at an index, if it is not there
-abbrev pub access_in : Store → (array : Value) → (index : ℕ) → Compared
-access_in store (Name array) index =
-    if nat_lt index (length (object_at store array).cells) then Nothing
-    else Below (Word index) (length (object_at store array).cells)
-access_in store _ index = Missing true
-
--- the same once the index has its value
-abbrev pub access_at : Store → (array : Value) → (index : Result Value ℕ) → Compared
-access_at store array (Ok index) = access_in store array (number_of index)
-access_at store array (Err fault) = Nothing
 
 module _ (program : Source) (st : State) where
   -- the element of an expression that fails first: those in an index come before the element itself
@@ -156,10 +119,6 @@ module _ (program : Source) (st : State) where
   subject (Copy at kind source target) = copied kind source target
   subject (Uncopy at kind source target) = copied kind source target
   subject _ = no_subject
-
--- a value that must be 0 or nil
-abbrev pub to_be_zero : Value → Compared
-to_be_zero v = Values v (cleared v)
 
 -- two values that must be the same; one place with itself compares nothing
 abbrev pub unlike : (found wanted : Value) → Compared

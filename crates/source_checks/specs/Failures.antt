@@ -1,18 +1,18 @@
 -- What the next step of a run tests: where it is in the text, and the values that it compares.
-use Rattle.std.specs.Prelude.{ℕ, zero, suc, ◌^◌, Bool, true, false, List, [], ◌∷◌, codes, nat_lt}
-use Rattle.std.specs.Prelude.{length}
-use Rattle.std.specs.Prelude.{if◌then◌else◌, Option, Some, None, Result, Ok, Err}
+use Rattle.std.specs.Prelude.{ℕ, zero, suc, ◌^◌, Bool, true, false, List, [], ◌∷◌, codes}
+use Rattle.std.specs.Prelude.{Option, Some, None}
 use Rattle.rpp_tree.specs.Tree.{Source, Expression, Number, Null, Variable, Element, Binary}
 use Rattle.rpp_tree.specs.Tree.{Statement, From, Statements, End, Then}
 use Rattle.rpp_tree.specs.Places.{statement_place}
 use Rattle.source_blocks.specs.roopl_semantics.Run.{Run, Done, Fault, More}
-use Rattle.source_blocks.specs.roopl_semantics.Store.{Value, State}
+use Rattle.source_blocks.specs.roopl_semantics.Store.{State}
 use Rattle.source_blocks.specs.roopl_semantics.Value.{Slot, read, value}
 use Rattle.source_blocks.specs.roopl_semantics.Execution.{Setting}
 use Rattle.source_blocks.specs.meaning_machine.Machine.{Config, Open, Part, next}
 use Rattle.source_blocks.specs.meaning_machine.Machine.{Chosen, First, Again, Holding, Calling}
-use Rattle.source_checks.specs.Checks.{Compared, Truth, Values, Nothing, failing_access, touched}
-use Rattle.source_checks.specs.Checks.{compared_begin}
+use Rattle.source_compared.specs.Comparisons.{Compared, Nothing, truth, same_as}
+use Rattle.source_compared.specs.TestWords.{choice_word, loop_word, local_word}
+use Rattle.source_checks.specs.Checks.{failing_access, touched, compared_begin}
 
 -- the offset of an expression's first token
 abbrev pub first_place : Expression → ℕ
@@ -21,20 +21,6 @@ first_place (Null at) = at
 first_place (Variable name) = name.at
 first_place (Element name index) = name.at
 first_place (Binary at op left right) = first_place left
-
--- the word of a test in the text, by whether it comes before the other test of its statement
-abbrev pub choice_word : (test other : ℕ) → List ℕ
-choice_word test other = if nat_lt test other then codes "if" else codes "fi"
-
-abbrev pub loop_word : (test other : ℕ) → List ℕ
-loop_word test other = if nat_lt test other then codes "from" else codes "until"
-
--- the same of the value of a variable at its end. What a `construct` or a call on an element holds
--- begins and ends at one offset, and that of a call has no name.
-abbrev pub local_word : (name : List ℕ) → (value other : ℕ) → List ℕ
-local_word name value other = if nat_lt value other then codes "local"
-    else if nat_lt other value then codes "delocal"
-    else if nat_lt 0 (length name) then codes "destruct" else codes "call"
 
 -- the tests of a loop
 pub record Tests : Type 0 where
@@ -52,15 +38,6 @@ pub record Tested : Type 0 where
   pub at : ℕ
   pub statement : ℕ
   pub compared : Compared
-
--- a test whose evaluation meets a fault compares what the evaluation does
-abbrev pub truth : (wanted : Bool) → (failed : Compared) → Result Value ℕ → Compared
-truth wanted failed (Ok found) = Truth found wanted
-truth wanted failed (Err fault) = failed
-
-abbrev pub same_as : (found : Value) → (failed : Compared) → Result Value ℕ → Compared
-same_as found failed (Ok wanted) = Values found wanted
-same_as found failed (Err fault) = failed
 
 module _ (program : Source) where
   -- the test of a choice or a loop that is to come out so

@@ -1,32 +1,17 @@
 -- What is tested, as it is kept.
-use Rattle.std.specs.Prelude.{◌≡◌, ℕ, Bool, true, false, List, [], ◌∷◌, Some, None, Result, Ok, Err}
-use Rattle.std.specs.declared.option.Option.{Option}
+use Rattle.std.specs.Prelude.{ℕ, Bool, true, false, List, [], ◌∷◌}
 use Rattle.rpp_tree.specs.Places.{statement_place}
 use Rattle.rpp_tree.specs.Views.{expression_of}
-use Rattle.source_blocks.specs.roopl_semantics.Store.{Value, State}
+use Rattle.source_blocks.specs.roopl_semantics.Store.{State}
 use Rattle.source_blocks.specs.meaning_machine.Machine.{Open, Part, Calling}
-use Rattle.source_blocks.specs.source_store.declared.value.Value.{Value as Held}
-use Rattle.source_blocks.specs.source_store.ValueView.{value_of, head_of}
-use Rattle.source_checks.specs.declared.comparing.Compared.{Compared as Compares}
-use Rattle.source_checks.specs.declared.comparing.Compared.TheVariants as compares
+use Rattle.source_blocks.specs.source_store.ValueView.{value_of}
 use Rattle.source_checks.specs.declared.checks.Subject.{Subject as Looks}
 use Rattle.source_checks.specs.declared.testing.Tested.{Tested as Tests}
 use Rattle.source_checks.specs.declared.testing.LoopTests.{LoopTests}
-use Rattle.source_checks.specs.Checks.{Compared, Truth, Values, Below, Missing, Count, Length}
-use Rattle.source_checks.specs.Checks.{Size}
-use Rattle.source_checks.specs.Checks.{Heads, Nothing, Subject, touched}
+use Rattle.source_compared.specs.Comparisons.{Compared, Nothing}
+use Rattle.source_compared.specs.ComparedView.{compared_of}
+use Rattle.source_checks.specs.Checks.{Subject, touched}
 use Rattle.source_checks.specs.Failures.{Tested, Tests as Loop}
-
-abbrev pub compared_of : Compares → Compared
-compared_of (compares.Truth found wanted) = Truth (value_of found) wanted
-compared_of (compares.Values found wanted) = Values (value_of found) (value_of wanted)
-compared_of (compares.Below found limit) = Below (value_of found) limit
-compared_of (compares.Missing array) = Missing array
-compared_of (compares.Count found) = Count found
-compared_of (compares.Length found wanted) = Length (value_of found) wanted
-compared_of (compares.Size found) = Size (value_of found)
-compared_of (compares.Heads found wanted) = Heads (head_of found) (head_of wanted)
-compared_of compares.Nothing = Nothing
 
 abbrev pub subject_of : Looks → Subject
 subject_of it = record {
@@ -43,11 +28,6 @@ tested_of it = record {
   statement = it.statement;
   compared = compared_of it.compared;
 }
-
--- the value of an expression, or none if its evaluation meets a fault
-abbrev pub IsValue : Option Held → Result Value ℕ → Type 0
-IsValue (Some found) result = result ≡ Ok (value_of found)
-IsValue None result = (fault : ℕ) × (result ≡ Err fault)
 
 -- the offset of the innermost open statement
 abbrev pub around_place : List Open → ℕ

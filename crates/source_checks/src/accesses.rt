@@ -1,7 +1,6 @@
 // The elements that an evaluation reads, and the first one that is not there.
-ghost use Rattle.std.specs.Prelude.{◌≡◌, ℕ, true, IfOk, Result as Outcome};
+ghost use Rattle.std.specs.Prelude.{◌≡◌, true, IfOk};
 ghost use Rattle.rpp_tree.specs.Views.{creation_of, expression_of, lvalue_of, statement_of};
-ghost use Rattle.source_blocks.specs.roopl_semantics.Store.{Value as Worth};
 ghost use Rattle.source_blocks.specs.roopl_semantics.Value.{value as value_in_state, variable_value};
 ghost use Rattle.source_blocks.specs.source_store.ValueView.{value_of};
 ghost use Rattle.source_blocks.specs.source_steps.Ends.{turned};
@@ -9,15 +8,16 @@ ghost use Rattle.source_blocks.specs.source_steps.StateView.{setting_of};
 ghost use Rattle.source_blocks.specs.Opens.{closing_of};
 ghost use Rattle.source_blocks.specs.Runs.{IsSound, state_in};
 ghost use Rattle.source_blocks.specs.Tasks.{line_of};
-ghost use Rattle.source_checks.specs.Checks.{first_of as first_of_two, access_in as access_in_store, access_at as access_of, failing_access as failing_access_of, place_access as place_access_of, size_access as size_access_of, begin_access as begin_access_of};
-ghost use Rattle.source_checks.specs.TestedView.{compared_of, IsValue};
+ghost use Rattle.source_compared.specs.Comparisons.{first_of as first_of_two, access_at as access_of};
+ghost use Rattle.source_checks.specs.Checks.{failing_access as failing_access_of, place_access as place_access_of, size_access as size_access_of, begin_access as begin_access_of};
+ghost use Rattle.source_compared.specs.ComparedView.{compared_of};
 
-use crate::comparing::{Compared, first_of, value_of_closing};
+use crate::closings::value_of_closing;
 use rpp_tree::Text;
 use rpp_tree::tree::{Expr, Made, Place, Stmt};
 use source_blocks::{Closing, Line, Run, scope_of};
+use source_compared::{Compared, Lack, Value, access_at, first_of};
 use source_steps::{cell_of_name, read_cell};
-use source_store::{Heap, Lack, Value};
 
 /// The value of what a name means.
 pub(crate) fn variable(run: &Run, name: &Text) -> Value
@@ -28,38 +28,6 @@ pub(crate) fn variable(run: &Run, name: &Text) -> Value
     let scope = scope_of(&run.locals, run.params);
     let cell = cell_of_name(&run.setting, &scope, &run.heap, &run.values, name);
     read_cell(&run.setting, &scope, &run.heap, &run.values, cell)
-}
-
-// An element of an array at an index, if it is not there.
-fn access_in(heap: &Heap, array: Value, index: u32) -> Compared
-    ensures { compared_of result ≡ access_in_store heap.now.store (value_of array) index }
-{
-    match array {
-        Value::Name(name) => {
-            let limit = heap.length_of(name);
-            if (index as usize) < limit {
-                Compared::Nothing
-            } else {
-                Compared::Below {
-                    found: Value::Word(index),
-                    limit,
-                }
-            }
-        }
-        Value::Nil => Compared::Missing { array: true },
-        Value::Word(_) => Compared::Missing { array: true },
-    }
-}
-
-// The same of an index that has a value, or none.
-fn access_at(heap: &Heap, array: Value, index: Option<Value>) -> Compared
-    ensures { (r : Outcome Worth ℕ) → IsValue index r
-        → compared_of result ≡ access_of heap.now.store (value_of array) r }
-{
-    match index {
-        None => Compared::Nothing,
-        Some(index) => access_in(heap, array, index.number()),
-    }
 }
 
 // The element of an array at an index of the text.

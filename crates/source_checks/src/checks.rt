@@ -11,14 +11,15 @@ ghost use Rattle.source_blocks.specs.source_steps.StateView.{setting_of};
 ghost use Rattle.source_blocks.specs.Runs.{IsSound, state_in};
 ghost use Rattle.source_blocks.specs.Tasks.{line_of};
 ghost use Rattle.source_checks.specs.Checks.{or_nil, is_array as is_array_of, held as held_in, created as created_of, copied as copied_of, subject as subject_in_state, unlike as unlike_of, first_filled as first_filled_of, check as check_of, compared_begin as compared_begin_of, no_subject};
-ghost use Rattle.source_checks.specs.TestedView.{compared_of, subject_of, IsValue};
+ghost use Rattle.source_compared.specs.ComparedView.{compared_of, IsValue};
+ghost use Rattle.source_checks.specs.TestedView.{subject_of};
 
 use crate::accesses::{begin_access, variable};
-use crate::comparing::{Compared, first_of, to_be_zero, value_of_closing};
+use crate::closings::value_of_closing;
 use rpp_tree::Text;
 use rpp_tree::tree::{Expr, Made, Place, Stmt, VarType};
 use source_blocks::{Closing, Line, Run};
-use source_store::{Head, Heap, Lack, Value};
+use source_compared::{Compared, Head, Heap, Lack, Value, first_of, to_be_zero};
 
 /// What a check looks at: what the place holds that is made, deleted or copied to. Then come the
 /// size of an array, or what is copied, the class that is named, and whether it is an array.

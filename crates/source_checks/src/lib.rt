@@ -4,12 +4,12 @@
 
 mod accesses;
 mod checks;
-mod comparing;
+mod closings;
 mod places;
 mod testing;
 mod touched;
 
-pub use comparing::Compared;
 pub use places::{line_place, place_at};
 pub use source_blocks::{Caller, Frame, Line, Part, Run, Task, line_at, turn};
+pub use source_compared::Compared;
 pub use testing::{Tested, test_next};

@@ -1,27 +1,27 @@
 // What the next step of a run tests.
-ghost use Rattle.std.specs.Prelude.{◌≡◌, ℕ, IfOk, Result as Outcome, map, reverse, option_map};
+ghost use Rattle.std.specs.Prelude.{◌≡◌, IfOk, map, reverse, option_map};
 ghost use Rattle.rpp_tree.specs.Places.{statement_place};
 ghost use Rattle.rpp_tree.specs.Views.{expression_of, statement_of};
-ghost use Rattle.source_blocks.specs.roopl_semantics.Store.{Value as Worth};
-ghost use Rattle.source_blocks.specs.source_store.ValueView.{value_of};
 ghost use Rattle.source_blocks.specs.source_steps.StateView.{setting_of};
 ghost use Rattle.source_blocks.specs.Tasks.{line_of};
 ghost use Rattle.source_blocks.specs.Opens.{open_of, part_of};
 ghost use Rattle.source_blocks.specs.Runs.{IsSound, config_of, state_in};
 ghost use Rattle.source_blocks.specs.declared.frames.Part.TheVariants as part;
-ghost use Rattle.source_checks.specs.Failures.{choice_word as choice_word_of, loop_word as loop_word_of, local_word as local_word_of, truth, same_as, tests_of, tested_truth, tested_part, tested_around, tested_begin, tested as tested_at};
-ghost use Rattle.source_checks.specs.TestedView.{compared_of, tested_of, IsValue, around_place, loop_of, exchanged};
+ghost use Rattle.source_checks.specs.Failures.{tests_of, tested_truth, tested_part, tested_around, tested_begin, tested as tested_at};
+ghost use Rattle.source_checks.specs.TestedView.{tested_of, around_place, loop_of, exchanged};
 
 use crate::accesses::{closing_access, failing_access};
 use crate::checks::compare_begin;
-use crate::comparing::{Compared, value_of_closing};
+use crate::closings::value_of_closing;
 use crate::places::{closing_place, first_place, line_place};
 use crate::touched::touched_around;
 use rpp_tree::tree::{Expr, Stmt};
 use source_blocks::{
     Closing, Ending, Frame, Line, Local, Loop, Run, block_ending, innermost, line_at,
 };
-use source_store::{Lack, Value};
+use source_compared::{
+    Compared, Lack, choice_word, compare_truth, compare_values, local_word, loop_word,
+};
 
 /// What the next step of a run tests: the word of the test, its offset and that of its statement,
 /// and what it compares.
@@ -38,55 +38,6 @@ pub struct Tested {
 struct LoopTests<'a> {
     entry: &'a Expr,
     exit: &'a Expr,
-}
-
-// The word of a choice's test, by its offset and that of the other test.
-fn choice_word(test: u32, other: u32) -> &'static str
-    ensures { result.now ≡ choice_word_of test other }
-{
-    if test < other { "if" } else { "fi" }
-}
-
-// The same of a loop.
-fn loop_word(test: u32, other: u32) -> &'static str
-    ensures { result.now ≡ loop_word_of test other }
-{
-    if test < other { "from" } else { "until" }
-}
-
-// The same of a variable's value at its end.
-fn local_word(name: &[u8], value: u32, other: u32) -> &'static str
-    ensures { result.now ≡ local_word_of name.now value other }
-{
-    if value < other {
-        return "local";
-    }
-    if other < value {
-        return "delocal";
-    }
-    if name.is_empty() { "call" } else { "destruct" }
-}
-
-// What a test compares whose expression has this value, or fails so.
-fn compare_truth(found: Option<Value>, failed: Compared, wanted: bool) -> Compared
-    ensures { (r : Outcome Worth ℕ) → IsValue found r
-        → compared_of result ≡ truth wanted (compared_of failed) r }
-{
-    match found {
-        Some(found) => Compared::Truth { found, wanted },
-        None => failed,
-    }
-}
-
-// The same of a variable whose last value is to be this one.
-fn compare_values(found: Value, failed: Compared, wanted: Option<Value>) -> Compared
-    ensures { (r : Outcome Worth ℕ) → IsValue wanted r
-        → compared_of result ≡ same_as (value_of found) (compared_of failed) r }
-{
-    match wanted {
-        Some(wanted) => Compared::Values { found, wanted },
-        None => failed,
-    }
 }
 
 // The test of a choice or a loop that is to come out so.

@@ -6,12 +6,12 @@ ghost use Rattle.source_blocks.specs.source_steps.StateView.{IsFramed, bindings,
 ghost use Rattle.source_blocks.specs.Opens.{open_of, caller_of, caller_names, cells_in};
 ghost use Rattle.source_blocks.specs.Runs.{IsSound, state_in};
 ghost use Rattle.source_checks.specs.Checks.{first_touched as first_touched_of, touched as touched_of};
-ghost use Rattle.source_checks.specs.TestedView.{compared_of, around_touched};
+ghost use Rattle.source_compared.specs.ComparedView.{compared_of};
+ghost use Rattle.source_checks.specs.TestedView.{around_touched};
 
-use crate::comparing::{Compared, to_be_zero};
 use source_blocks::{Caller, Part, Run, scope_of};
+use source_compared::{Compared, Heap, Value, to_be_zero};
 use source_steps::{Cell, Scope, Setting, read_cell};
-use source_store::{Heap, Value};
 
 // The first of these cells that was changed.
 fn first_touched(

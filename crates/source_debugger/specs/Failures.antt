@@ -14,10 +14,10 @@ use Rattle.source_execution.specs.roopl_semantics.Execution.{Setting}
 use Rattle.source_execution.specs.meaning_points.Trail.{Trail, trail}
 use Rattle.source_execution.specs.meaning_machine.Machine.{Config, next}
 use Rattle.source_execution.specs.meaning_machine.SourceLaws.{set_for, start_of}
-use Rattle.source_execution.specs.source_checks.Checks.{Compared, Truth, Values}
-use Rattle.source_execution.specs.source_checks.Checks.{Below, Missing}
-use Rattle.source_execution.specs.source_checks.Checks.{Count, Length, Size, Heads}
-use Rattle.source_execution.specs.source_checks.Checks.{Nothing}
+use Rattle.source_execution.specs.source_checks.source_compared.Comparisons.{Compared, Truth}
+use Rattle.source_execution.specs.source_checks.source_compared.Comparisons.{Values, Below, Missing}
+use Rattle.source_execution.specs.source_checks.source_compared.Comparisons.{Count, Length, Size}
+use Rattle.source_execution.specs.source_checks.source_compared.Comparisons.{Heads, Nothing}
 use Rattle.source_execution.specs.source_checks.Failures.{Tested, tested, failing}
 use Rattle.source_execution.specs.source_checks.Failures.{MOST_STEPS}
 use Rattle.source_debugger.specs.declared.failing.Detail.{Detail}

@@ -7,8 +7,9 @@ use Rattle.source_checks.specs.roopl_semantics.Store.{State, Value, Word, Nil, N
 use Rattle.source_checks.specs.roopl_semantics.Value.{Cell, Part, value, read_cell, element_cell, element_of}
 use Rattle.source_checks.specs.roopl_semantics.Value.{combined}
 use Rattle.source_checks.specs.roopl_semantics.Value.{variable_value, index_fault}
-use Rattle.source_checks.specs.Checks.{Compared, Truth, Values, Below, Missing, Count, Length, Size, Heads, Nothing}
-use Rattle.source_checks.specs.Checks.{first_of, access_in, access_at, failing_access}
+use Rattle.source_checks.specs.source_compared.Comparisons.{Compared, Truth, Values, Below, Missing, Count, Length}
+use Rattle.source_checks.specs.source_compared.Comparisons.{Size, Heads, Nothing, first_of, access_in, access_at}
+use Rattle.source_checks.specs.Checks.{failing_access}
 use Rattle.source_execution.specs.FailureLaws.{IsNotThere, Accesses}
 
 -- what fails first stays first

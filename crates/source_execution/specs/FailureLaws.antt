@@ -10,7 +10,7 @@ use Rattle.source_checks.specs.roopl_semantics.Value.{nil_fault, index_fault}
 use Rattle.source_checks.specs.roopl_semantics.Source.{source}
 use Rattle.source_checks.specs.meaning_machine.Machine.{Config, next}
 use Rattle.source_checks.specs.meaning_machine.SourceLaws.{set_for, start_of}
-use Rattle.source_checks.specs.Checks.{Compared, Below, Missing, Nothing}
+use Rattle.source_checks.specs.source_compared.Comparisons.{Compared, Below, Missing, Nothing}
 use Rattle.source_checks.specs.Failures.{failing}
 
 -- with some fuel, the program means this fault

@@ -1,16 +1,10 @@
 // What a check compares.
-ghost use Rattle.std.specs.Prelude.{◌≡◌, IfOk};
-ghost use Rattle.source_blocks.specs.roopl_semantics.Value.{value as value_in_state};
-ghost use Rattle.source_blocks.specs.source_store.ValueView.{value_of};
-ghost use Rattle.source_blocks.specs.source_steps.StateView.{setting_of};
-ghost use Rattle.source_blocks.specs.Opens.{closing_of};
-ghost use Rattle.source_blocks.specs.Runs.{IsSound, state_in};
-ghost use Rattle.source_checks.specs.Checks.{first_of as first_of_two, to_be_zero as zero_wanted};
-ghost use Rattle.source_checks.specs.TestedView.{compared_of, IsValue};
+ghost use Rattle.std.specs.Prelude.{◌≡◌};
+ghost use Rattle.source_store.specs.ValueView.{value_of};
+ghost use Rattle.source_compared.specs.Comparisons.{first_of as first_of_two, to_be_zero as zero_wanted};
+ghost use Rattle.source_compared.specs.ComparedView.{compared_of};
 
-use source_blocks::{Closing, Run, closing_value};
-use source_steps::Stop;
-use source_store::{Head, Lack, Value};
+use source_store::{Head, Value};
 
 /// What a check compares.
 #[derive(Clone, Copy)]
@@ -35,24 +29,8 @@ pub enum Compared {
     Nothing,
 }
 
-/// The value of what a variable ends with, or none if its evaluation meets a fault. One that costs
-/// more than 2 ^ 64 is refused as `Full`.
-pub(crate) fn value_of_closing(run: &Run, closing: &Closing) -> Result<Option<Value>, Lack>
-    requires sound { IsSound run.now }
-    ensures { IfOk result (λ found. IsValue found (value_in_state
-        (setting_of run.now.setting).program (state_in run.now) (closing_of closing.now))) }
-{
-    let mut fuel = u64::MAX;
-    match closing_value(run, &mut fuel, closing) {
-        Ok(found) => Ok(Some(found)),
-        Err(Stop::Fault(_code)) => Ok(None),
-        Err(Stop::More) => Err(Lack::Full),
-        Err(Stop::Lacks(lack)) => Err(lack),
-    }
-}
-
 /// The one of two checks that fails first.
-pub(crate) fn first_of(first: Compared, second: Compared) -> Compared
+pub fn first_of(first: Compared, second: Compared) -> Compared
     ensures { compared_of result ≡ first_of_two (compared_of first) (compared_of second) }
 {
     match first {
@@ -69,7 +47,7 @@ pub(crate) fn first_of(first: Compared, second: Compared) -> Compared
 }
 
 /// A value that is to be 0 or nil.
-pub(crate) fn to_be_zero(value: Value) -> Compared
+pub fn to_be_zero(value: Value) -> Compared
     ensures { compared_of result ≡ zero_wanted (value_of value) }
 {
     Compared::Values {
