@@ -1,5 +1,5 @@
 // Sessions of images.
-ghost use Rattle.std.specs.Prelude.{◌≡◌, ◌≤◌, Some, [], get_or, slice_get, map, option_map};
+ghost use Rattle.std.specs.Prelude.{◌≡◌, ◌≤◌, Some, option_map};
 ghost use Rattle.run_settings.specs.rpp_ports.Ports.{Rose};
 ghost use Rattle.run_settings.specs.rpp_words.Limits.{IsLimits};
 ghost use Rattle.run_settings.specs.rpp_words.declared.input.TheConstants.{MOST_DEEP};
@@ -7,13 +7,13 @@ ghost use Rattle.command_plan.specs.pisa_image.Reading.{image_at};
 ghost use Rattle.command_plan.specs.pisa_loader.Limiting.{limits_refusal};
 ghost use Rattle.command_plan.specs.pisa_loader.States.{Gives};
 ghost use Rattle.image_commands.specs.ImagePlans.{first_of};
-ghost use Rattle.plan_serving.specs.Places.{held_bytes};
 ghost use Rattle.live_command.specs.Beginnings.{loads, OfImage};
 ghost use Rattle.live_command.specs.Lives.{Lives, ReadsImage, SizesImage, StartsImage, OpensAlong};
 ghost use Rattle.live_images.specs.Sessions.{held_in};
 
 use crate::beginning::{Loading, wanted_image};
 use crate::reporting::report;
+use crate::texts::{first_text, second_text};
 use command_plan::{NoPlan, Room, Verdict, image_line, load_line};
 use live_images::{Run, serve};
 use live_port::Asker;
@@ -23,7 +23,7 @@ use pisa_isa::Image;
 use pisa_loader::{LoadError, check_limits, load, load_state};
 use pisa_machine::{Machine, Steps};
 use plan_serving::fetch;
-use rpp_ports::{Named, Shelf, Sink};
+use rpp_ports::{Shelf, Sink};
 use rpp_words::{Input, Limits, MOST_DEEP, NoMemory};
 use std::alloc::Global;
 use std::marker::Brand;
@@ -69,27 +69,6 @@ pub(crate) fn begin_image<S: Shelf, A: Asker, K: Sink>(
             let state = second_text(&texts);
             start_image(alloc, first_text(&texts), &state, loading.room, asker, out)
         }
-    }
-}
-
-// The first text.
-fn first_text(texts: &[Named]) -> &[u8]
-    ensures { result.now ≡ get_or (map held_bytes texts.now) 0 [] }
-{
-    let none = b"".as_slice();
-    match texts {
-        [] => none,
-        [text, ..] => text.bytes.as_slice(),
-    }
-}
-
-// The second text, if there is one.
-fn second_text(texts: &[Named]) -> Option<&[u8]>
-    ensures { option_map (λ text. text.now) result ≡ slice_get (map held_bytes texts.now) 1 }
-{
-    match texts {
-        [_image, state, ..] => Some(state.bytes.as_slice()),
-        _ => None,
     }
 }
 

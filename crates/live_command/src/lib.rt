@@ -5,6 +5,7 @@
 mod beginning;
 mod image;
 mod reporting;
+mod texts;
 mod top;
 
 pub use top::live;
