@@ -20,9 +20,9 @@ use Rattle.image_commands.specs.ImagePlans.{OfImage, OfRunImage, IsAsmPlan, Asse
 use Rattle.image_commands.specs.ImagePlans.{RunsFile}
 use Rattle.image_commands.specs.ImagePlans.{IsListPlan, IsFlipPlan, IsRunPlan, IsSizedPlan, IsRanPlan, first_of, saved}
 use Rattle.pisa_scripts.specs.declared.command.Command.{Command}
-use Rattle.two_way_debugger.specs.declared.error.ScriptError.{ScriptError}
-use Rattle.two_way_debugger.specs.declared.error.ScriptError.TheVariants.{BadCommand, NoMemory}
-use Rattle.two_way_debugger.specs.Scripts.{script_of}
+use Rattle.debugger_scripts.specs.declared.error.ScriptError.{ScriptError}
+use Rattle.debugger_scripts.specs.declared.error.ScriptError.TheVariants.{BadCommand, NoMemory}
+use Rattle.debugger_scripts.specs.Scripts.{script_of}
 use Rattle.image_commands.specs.DebugPlans.{IsScriptPlan, IsRoomPlan, IsDebugPlan, DebugsFile}
 use Rattle.command_plan.proofs.Writes.{along}
 

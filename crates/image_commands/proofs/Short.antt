@@ -4,7 +4,7 @@ use Rattle.std.specs.Prelude.{Result, IfOk, IfErr, OnOk, ◌⊎◌}
 use Rattle.command_plan.specs.rpp_words.declared.input.Limits.{Limits}
 use Rattle.image_inverter.specs.pisa_isa.Image.{Segments}
 use Rattle.pisa_scripts.specs.declared.command.Command.{Command}
-use Rattle.two_way_debugger.specs.declared.error.ScriptError.{ScriptError}
+use Rattle.debugger_scripts.specs.declared.error.ScriptError.{ScriptError}
 use Rattle.two_way_debugger.specs.Shown.{spent_in}
 use Rattle.command_plan.specs.declared.plan.Plan.{Plan}
 use Rattle.command_plan.specs.Plans.{planned}

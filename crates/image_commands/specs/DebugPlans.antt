@@ -17,9 +17,9 @@ use Rattle.command_plan.specs.pisa_loader.Limiting.{limits_refusal}
 use Rattle.command_plan.specs.pisa_loader.declared.error.LoadError.{LoadError}
 use Rattle.command_plan.specs.pisa_scripts.declared.lines.TheConstants.{MOST_SCRIPT}
 use Rattle.pisa_scripts.specs.declared.command.Command.{Command}
-use Rattle.two_way_debugger.specs.declared.error.ScriptError.{ScriptError}
-use Rattle.two_way_debugger.specs.declared.error.ScriptError.TheVariants.{BadCommand, NoMemory}
-use Rattle.two_way_debugger.specs.Scripts.{script_of}
+use Rattle.debugger_scripts.specs.declared.error.ScriptError.{ScriptError}
+use Rattle.debugger_scripts.specs.declared.error.ScriptError.TheVariants.{BadCommand, NoMemory}
+use Rattle.debugger_scripts.specs.Scripts.{script_of}
 use Rattle.two_way_debugger.specs.Shown.{shown, spent_in}
 use Rattle.command_plan.specs.declared.reading.TheConstants.{MOST_IMAGE}
 use Rattle.command_plan.specs.command_ends.declared.verdict.Verdict.TheVariants.{Done, InputRefused}

@@ -5,7 +5,7 @@ ghost use Rattle.command_plan.specs.pisa_loader.Limiting.{limits_refusal};
 ghost use Rattle.command_plan.specs.rpp_words.Limits.{IsLimits};
 ghost use Rattle.command_plan.specs.rpp_words.declared.input.TheConstants.{MOST_DEEP};
 ghost use Rattle.command_plan.specs.pisa_scripts.declared.lines.TheConstants.{MOST_SCRIPT};
-ghost use Rattle.two_way_debugger.specs.Scripts.{script_of};
+ghost use Rattle.debugger_scripts.specs.Scripts.{script_of};
 ghost use Rattle.two_way_debugger.specs.Shown.{shown, spent_in};
 ghost use Rattle.command_plan.specs.Files.{OnlyReads, UnreadCause, image_file, script_file};
 ghost use Rattle.command_plan.specs.Plans.{planned, GivesPlan};
@@ -14,6 +14,7 @@ ghost use Rattle.image_commands.specs.DebugPlans.{start_of, followed, IsScriptPl
 use command_plan::{
     MOST_IMAGE, NoPlan, Plan, Room, Verdict, bad_command_line, image_line, load_line, read_both,
 };
+use debugger_scripts::{ScriptError, read_script};
 use pisa_image::{ImageError, read_image};
 use pisa_isa::Image;
 use pisa_loader::{check_limits, load};
@@ -23,7 +24,7 @@ use rpp_ports::Shelf;
 use rpp_words::{Input, Limits, MOST_DEEP, NoMemory};
 use std::alloc::Global;
 use std::sync::ledger::Ledger;
-use two_way_debugger::{Debugger, ScriptError, read_script};
+use two_way_debugger::Debugger;
 
 /// Follows the script in a file along the run of the image in a file, from the loaded memory on,
 /// and reports what its commands print. It makes the steps of their moves and no others, and none

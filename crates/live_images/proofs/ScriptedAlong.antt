@@ -4,7 +4,7 @@ use Rattle.pisa_scripts.specs.Lines.{pieces, without_returns}
 use Rattle.pisa_scripts.specs.declared.command.Command.{Command}
 use Rattle.pisa_scripts.specs.declared.command.Command.TheVariants.{Step, Back, To, BackTo, Regs, Cells}
 use Rattle.two_way_debugger.specs.pisa_machine.Position.{Position}
-use Rattle.two_way_debugger.specs.Scripts.{script_of}
+use Rattle.live_requests.specs.debugger_scripts.Scripts.{script_of}
 use Rattle.two_way_debugger.specs.Shown.{shown, walk_of, text_of}
 use Rattle.live_requests.specs.declared.request.Request.{Request}
 use Rattle.live_requests.specs.Limited.{limited}

@@ -3,7 +3,7 @@ use Rattle.std.specs.Prelude.{◌≡◌, ℕ, List, Ok}
 use Rattle.pisa_scripts.specs.Lines.{pieces, without_returns}
 use Rattle.pisa_scripts.specs.declared.command.Command.{Command}
 use Rattle.two_way_debugger.specs.pisa_machine.Position.{Position}
-use Rattle.two_way_debugger.specs.Scripts.{script_of}
+use Rattle.live_requests.specs.debugger_scripts.Scripts.{script_of}
 use Rattle.two_way_debugger.specs.Shown.{shown}
 use Rattle.live_images.specs.Replies.{said_of}
 

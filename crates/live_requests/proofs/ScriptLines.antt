@@ -8,8 +8,8 @@ use Rattle.std.specs.List.{list_any, slice_split, onto_first}
 use Rattle.std.specs.Str.{bytes_eq}
 use Rattle.pisa_scripts.specs.Lines.{is_blank, pieces, begins_with, without_returns}
 use Rattle.pisa_scripts.specs.declared.command.Command.{Command}
-use Rattle.two_way_debugger.specs.declared.error.ScriptError.{ScriptError}
-use Rattle.two_way_debugger.specs.Scripts.{script_of, command_of, with_command, with_line, and_then, commands_from}
+use Rattle.debugger_scripts.specs.declared.error.ScriptError.{ScriptError}
+use Rattle.debugger_scripts.specs.Scripts.{script_of, command_of, with_command, with_line, and_then, commands_from}
 use Rattle.live_requests.specs.declared.request.Request.TheVariants.{Nothing, Carry}
 use Rattle.live_requests.specs.Requests.{or_other, request_of}
 

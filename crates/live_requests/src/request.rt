@@ -3,13 +3,13 @@ ghost use Rattle.std.specs.Prelude.{◌≡◌, ◌≤◌, false, length, take, d
 ghost use Rattle.std.specs.Str.{bytes_eq};
 ghost use Rattle.pisa_scripts.specs.Lines.{short_number as short_number_of};
 ghost use Rattle.pisa_scripts.specs.declared.lines.TheConstants.{MOST_SCRIPT};
-ghost use Rattle.two_way_debugger.specs.Scripts.{script_of};
+ghost use Rattle.debugger_scripts.specs.Scripts.{script_of};
 ghost use Rattle.live_requests.specs.Requests.{asked, read_as, of_the_fault, of_a_call, of_a_limit, long_of, other_of, or_other, request_of, name_of, is_quit};
 
+use debugger_scripts::{ScriptError, read_script};
 use pisa_scripts::{Command, short_number};
 use rpp_words::NoMemory;
 use std::alloc::Global;
-use two_way_debugger::{ScriptError, read_script};
 
 /// What a line asks.
 #[derive(Clone, Copy, PartialEq, Eq, Debug)]

@@ -7,7 +7,7 @@ use Rattle.pisa_scripts.specs.declared.command.Command.TheVariants.{Step, Back, 
 use Rattle.source_debugger.specs.meaning_points.rpp_tree.Tree.{Source}
 use Rattle.source_debugger.specs.Failures.{Account}
 use Rattle.source_debugger.specs.Shown.{Told, told, told_by, and_told, behind_text}
-use Rattle.live_requests.specs.two_way_debugger.Scripts.{script_of}
+use Rattle.live_requests.specs.debugger_scripts.Scripts.{script_of}
 use Rattle.live_requests.specs.declared.request.Request.{Request}
 use Rattle.live_requests.specs.Limited.{limited, limit_of, limit_after}
 use Rattle.live_requests.proofs.ScriptLines.{AreCommands, script_lines}

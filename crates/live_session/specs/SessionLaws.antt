@@ -5,7 +5,7 @@ use Rattle.pisa_scripts.specs.declared.command.Command.{Command}
 use Rattle.source_debugger.specs.meaning_points.rpp_tree.Tree.{Source}
 use Rattle.source_debugger.specs.Failures.{Account}
 use Rattle.source_debugger.specs.Shown.{told}
-use Rattle.live_requests.specs.two_way_debugger.Scripts.{script_of}
+use Rattle.live_requests.specs.debugger_scripts.Scripts.{script_of}
 use Rattle.live_session.specs.Replies.{said_of}
 
 -- the lines of a script, one by one, with no limit: without their last lines, the replies are what

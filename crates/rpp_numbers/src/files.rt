@@ -5,10 +5,11 @@ ghost use Rattle.source_debugger.specs.source_courses.declared.running.TheConsta
 
 use command_line::{MOST_COMMON, MOST_ITEMS, MOST_PROCESSORS};
 use command_plan::{MOST_IMAGE, MOST_STATE};
+use debugger_scripts::MOST_SHOWN;
 use pisa_asm::MOST_TEXT;
 use pisa_loader::MOST_INPUT;
 use pisa_scripts::{MOST_DIGITS, MOST_SCRIPT};
-use two_way_debugger::{LAST_POSITION, MOST_SHOWN};
+use two_way_debugger::LAST_POSITION;
 
 /// The most bytes of files, and the numbers of runs and probes.
 pub fn file_numbers()

@@ -7,9 +7,9 @@ use Rattle.run_settings.specs.rpp_words.declared.input.Limits.{Limits}
 use Rattle.run_settings.specs.rpp_tree.Tree.{Source}
 use Rattle.run_settings.specs.rpp_ports.Ports.{Texts}
 use Rattle.pisa_scripts.specs.declared.command.Command.{Command}
-use Rattle.two_way_debugger.specs.declared.error.ScriptError.{ScriptError}
-use Rattle.two_way_debugger.specs.declared.error.ScriptError.TheVariants.{BadCommand, NoMemory}
-use Rattle.two_way_debugger.specs.Scripts.{script_of}
+use Rattle.debugger_scripts.specs.declared.error.ScriptError.{ScriptError}
+use Rattle.debugger_scripts.specs.declared.error.ScriptError.TheVariants.{BadCommand, NoMemory}
+use Rattle.debugger_scripts.specs.Scripts.{script_of}
 use Rattle.run_settings.specs.command_plan.Plans.{Planned, WritesOnly}
 use Rattle.run_settings.proofs.command_plan_laws.Writes.{along}
 use Rattle.run_settings.proofs.RefusedRuns.{refused_writes}

@@ -9,10 +9,10 @@ use Rattle.run_settings.specs.rpp_ports.Ports.{Texts}
 use Rattle.source_debugger.specs.meaning_points.Trail.{trail}
 use Rattle.pisa_scripts.specs.declared.command.Command.{Command}
 use Rattle.run_settings.specs.pisa_scripts.declared.lines.TheConstants.{MOST_SCRIPT}
-use Rattle.two_way_debugger.specs.declared.error.ScriptError.{ScriptError}
-use Rattle.two_way_debugger.specs.declared.error.ScriptError.TheVariants.{BadCommand}
-use Rattle.two_way_debugger.specs.declared.error.ScriptError.TheVariants as script
-use Rattle.two_way_debugger.specs.Scripts.{script_of}
+use Rattle.debugger_scripts.specs.declared.error.ScriptError.{ScriptError}
+use Rattle.debugger_scripts.specs.declared.error.ScriptError.TheVariants.{BadCommand}
+use Rattle.debugger_scripts.specs.declared.error.ScriptError.TheVariants as script
+use Rattle.debugger_scripts.specs.Scripts.{script_of}
 use Rattle.source_debugger.specs.Shown.{told}
 use Rattle.run_settings.specs.command_plan.command_ends.declared.verdict.Verdict.TheVariants.{Done, InputRefused}
 use Rattle.run_settings.specs.command_plan.Plans.{Planned, prints, WithText, WithInput}

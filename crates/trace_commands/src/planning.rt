@@ -3,7 +3,7 @@ ghost use Rattle.std.specs.Prelude.{◌≡◌, ◌≤◌, ◌∷◌, length, opt
 ghost use Rattle.run_settings.specs.rpp_tree.Views.{source_of};
 ghost use Rattle.run_settings.specs.rpp_tree.declared.limits.TheConstants.{MOST_BYTES};
 ghost use Rattle.run_settings.specs.pisa_scripts.declared.lines.TheConstants.{MOST_SCRIPT};
-ghost use Rattle.two_way_debugger.specs.Scripts.{script_of};
+ghost use Rattle.debugger_scripts.specs.Scripts.{script_of};
 ghost use Rattle.source_debugger.specs.Standing.{IsValidRun};
 ghost use Rattle.run_settings.specs.pisa_loader.declared.input.TheConstants.{MOST_INPUT};
 ghost use Rattle.run_settings.specs.command_plan.Plans.{planned, prints, GivesPlan, IsInputText};
@@ -15,6 +15,7 @@ use class_table::Checked;
 use command_plan::{
     NoPlan, Plan, Room, Sizes, Verdict, bad_command_line, read_file, read_input_file,
 };
+use debugger_scripts::{ScriptError, read_script};
 use pisa_scripts::{Command, MOST_SCRIPT};
 use rpp_ports::Shelf;
 use rpp_tree::MOST_BYTES;
@@ -22,7 +23,6 @@ use rpp_words::{Input, Limits, NoMemory};
 use run_settings::{Ready, ready};
 use source_debugger::SourceDebugger;
 use std::alloc::Global;
-use two_way_debugger::{ScriptError, read_script};
 
 // The texts that a command reads.
 #[derive(Drop)]

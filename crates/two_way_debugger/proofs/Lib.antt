@@ -2,5 +2,4 @@ pub mod OneStep
 pub mod RunOn
 pub mod Walking
 pub mod CellRange
-pub mod Reading
 pub mod Fronts

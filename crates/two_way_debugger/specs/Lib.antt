@@ -2,5 +2,4 @@ pub use Rattle.pisa_machine.specs as pisa_machine
 pub use Rattle.pisa_scripts.specs as pisa_scripts
 pub mod Moves
 pub mod Shown
-pub mod Scripts
 pub mod Along

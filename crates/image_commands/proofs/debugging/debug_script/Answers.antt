@@ -1,5 +1,5 @@
 use Rattle.std.proofs.Common.{◌∙◌, ap, sym, Ok}
-use Rattle.two_way_debugger.specs.Scripts.{script_of}
+use Rattle.debugger_scripts.specs.Scripts.{script_of}
 use Rattle.image_commands.proofs.Short.{script_plan, script_short}
 use Rattle.image_commands.proofs.debugging.debug_script.Goals as goal
 

@@ -1,6 +1,6 @@
 use Rattle.std.proofs.Common.{◌≡◌, ◌+◌, drop, map, []}
-use Rattle.two_way_debugger.specs.Scripts.{commands_from}
-use Rattle.two_way_debugger.proofs.script.read_lines.Given as goal
+use Rattle.debugger_scripts.specs.Scripts.{commands_from}
+use Rattle.debugger_scripts.proofs.script.read_lines.Given as goal
 
 -- the commands so far and the lines that are left decide
 abbrev pub invariant-loop-line : goal.invariant-loop-line

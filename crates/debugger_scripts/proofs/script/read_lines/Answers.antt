@@ -1,9 +1,9 @@
 use Rattle.std.proofs.Common.{◌≡◌, ◌∙◌, ◌≤◌, ◌+◌, sym, ap, [], map, length, get_or, Bor, List, ℕ, arith}
 use Rattle.std.proofs.lemmas.Result.{err_from_is_err_and}
-use Rattle.two_way_debugger.specs.Scripts.{with_line, commands_from}
+use Rattle.debugger_scripts.specs.Scripts.{with_line, commands_from}
 use Rattle.pisa_scripts.specs.Lines.{pieces}
-use Rattle.two_way_debugger.proofs.Reading.{fails_with, goes_on, stops, is_done, few_lines}
-use Rattle.two_way_debugger.proofs.script.read_lines.Goals as goal
+use Rattle.debugger_scripts.proofs.Reading.{fails_with, goes_on, stops, is_done, few_lines}
+use Rattle.debugger_scripts.proofs.script.read_lines.Goals as goal
 
 abbrev text_of : Bor (List ℕ) → List ℕ
 text_of line = line.now

@@ -1,6 +1,6 @@
 // Reads scripts.
 ghost use Rattle.std.specs.Prelude.{◌≡◌, ◌≤◌, pos, [], map, length, Some};
-ghost use Rattle.two_way_debugger.specs.Scripts.{command_of as command_of_words, counted_command, placed_command, regs_command, cells_command, with_line, commands_from, script_of, Gives};
+ghost use Rattle.debugger_scripts.specs.Scripts.{command_of as command_of_words, counted_command, placed_command, regs_command, cells_command, with_line, commands_from, script_of, Gives};
 ghost use Rattle.pisa_scripts.specs.Lines.{pieces as pieces_of};
 
 use crate::error::ScriptError;

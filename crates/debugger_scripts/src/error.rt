@@ -1,6 +1,6 @@
 // Why a script is refused.
 ghost use Rattle.std.specs.Prelude.{◌≡◌};
-ghost use Rattle.two_way_debugger.specs.declared.error.ScriptError.TheVariants.{NoMemory};
+ghost use Rattle.debugger_scripts.specs.declared.error.ScriptError.TheVariants.{NoMemory};
 
 use std::alloc::{AllocError, AllocFailed};
 use thiserror::Error;

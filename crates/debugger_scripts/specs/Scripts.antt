@@ -6,9 +6,9 @@ use Rattle.pisa_scripts.specs.Lines.{number_up_to, short_number, is_blank, piece
 use Rattle.pisa_scripts.specs.declared.command.Command.{Command}
 use Rattle.pisa_scripts.specs.declared.command.Command.TheVariants.{Step, Back, To, BackTo}
 use Rattle.pisa_scripts.specs.declared.command.Command.TheVariants.{Regs, Cells}
-use Rattle.two_way_debugger.specs.declared.script.TheConstants.{MOST_SHOWN}
-use Rattle.two_way_debugger.specs.declared.error.ScriptError.{ScriptError}
-use Rattle.two_way_debugger.specs.declared.error.ScriptError.TheVariants.{BadCommand, NoMemory}
+use Rattle.debugger_scripts.specs.declared.script.TheConstants.{MOST_SHOWN}
+use Rattle.debugger_scripts.specs.declared.error.ScriptError.{ScriptError}
+use Rattle.debugger_scripts.specs.declared.error.ScriptError.TheVariants.{BadCommand, NoMemory}
 
 abbrev pub counted_command : (ℕ → Command) → List (List ℕ) → Option Command
 counted_command make (count ∷ []) = option_map make (short_number count)
