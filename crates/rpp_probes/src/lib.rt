@@ -6,6 +6,7 @@
 
 mod coverage;
 mod deepest_place;
+mod one_probe;
 mod probe;
 mod step_tally;
 mod telling;

@@ -1,19 +1,11 @@
 // The steps that a list of probes observes.
-ghost use Rattle.std.specs.Prelude.{◌≡◌, ◌+◌, ◌<◌, ◌++◌, List, not, false, length, map, vec_len, IfOk, IfErr, OnOk, OnErr, string_bytes};
-ghost use Rattle.rpp_probes.specs.Tally.{Watch, told, told_all, has_ended, ends_in, EndNone, left_after, IsSureFor, AreSureFor, line_of as line_shown, going, lines_at, IsCutShort, TellsAt, DropsAt, lines_shown};
+ghost use Rattle.std.specs.Prelude.{◌≡◌, ◌+◌, ◌<◌, ◌++◌, List, map, vec_len, IfOk, IfErr, OnOk, OnErr, string_bytes};
+ghost use Rattle.rpp_probes.specs.Tally.{Watch, EndNone, left_after, IsSureFor, AreSureFor, line_of as line_shown, going, lines_at, IsCutShort, TellsAt, DropsAt, lines_shown};
 
+use crate::one_probe::{tell, tell_each};
 use crate::{Probe, StepAt};
 use rpp_words::NoMemory;
 use std::alloc::Global;
-
-// Lets a probe observe a step, and returns whether it goes on.
-#[inline(always)]
-fn tell(probe: &mut Box<dyn Probe>, step: StepAt) -> bool
-    ensures told { watch probe.new ≡ told step (watch probe.old) }
-    ensures goes_on { result ≡ not (has_ended (watch probe.new)) }
-{
-    probe.told(step.place, step.back)
-}
 
 // Appends the line of a probe.
 fn add_line(probe: &Box<dyn Probe>, out: &mut String) -> Result<(), NoMemory>
@@ -114,14 +106,6 @@ fn sure_of_all(probes: &[Box<dyn Probe>]) -> u64
         sure = sure.min(sure_of(probe));
     }
     sure
-}
-
-// Lets a probe observe steps that do not end it.
-fn tell_each(probe: &mut Box<dyn Probe>, steps: &[StepAt])
-    requires { ends_in steps.now (watch probe.old) ≡ false }
-    ensures { watch probe.new ≡ told_all steps.now (watch probe.old) }
-{
-    probe.told_each(steps);
 }
 
 // Lets each probe of a list observe steps that end none of them.
