@@ -1,9 +1,9 @@
 -- The sizes of arrays, and the orders of their blocks.
-use Rattle.std.proofs.Common.{◌≡◌, ℕ, suc, ◌+◌, ◌-◌, ◌*◌, ◌%◌, ◌^◌, ◌≤◌, refl, sym, ◌∙◌, arith, true}
+use Rattle.std.proofs.Common.{◌≡◌, ℕ, suc, ◌+◌, ◌-◌, ◌*◌, ◌%◌, ◌^◌, ◌≤◌, refl, ◌∙◌, arith, true}
 use Rattle.std.proofs.Common.{false}
 use Rattle.std.proofs.lemmas.Bool.{ltb-true, ltb-false}
 use Rattle.std.proofs.Math.Nat.{pow-le-pow_right, pow-succ'}
-use Rattle.std.specs.Prelude.{nat_lt, IsTrue, Bool}
+use Rattle.std.specs.Prelude.{nat_lt, Bool}
 use Rattle.source_execution.specs.rpp_words.declared.input.TheConstants.{HEADER_WORDS}
 use Rattle.source_execution.specs.roopl_semantics.Execution.{order_of_cells}
 use Rattle.source_execution.proofs.meaning_machine_laws.buddy_book_laws.LeastOrder.{order_for-only}
@@ -35,12 +35,3 @@ shifted order from to =
     in
     let one : 2 ^ 0 ≤ 2 ^ (order - 1) = pow-le-pow_right {n = 2} (omega arith) {i = 0} {j = order - 1} (omega arith) in
     size_for order (1 * 2 ^ (order - 1) % 4294967296 - 1) from to (omega arith)
-
-pub has_order : (held order n m : ℕ) (above : Bool) → nat_lt held (order_of_cells n) ≡ false
-    → above ≡ nat_lt held (order_of_cells m) → order_of_cells n ≡ order → order_of_cells m ≡ order + 1 → IsTrue above
-    → held ≡ order
-has_order held order n m true low high a b t =
-    let from = ltb-false held (order_of_cells n) low in
-    let to = ltb-true held (order_of_cells m) (sym high) in
-    omega arith
-has_order held order n m false low high a b t = cc

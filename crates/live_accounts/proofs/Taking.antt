@@ -2,8 +2,7 @@
 use Rattle.std.proofs.Common.{◌≡◌, ℕ, zero, suc, ◌+◌, ◌-◌, ◌^◌, ◌<◌, ◌≤◌, refl, sym, ap, subst, ◌∙◌, arith, List}
 use Rattle.std.proofs.Common.{[], ◌∷◌, ◌++◌, append_assoc, length, replicate, Some, None, true, false}
 use Rattle.std.proofs.lemmas.List.{length-map, length-replicate}
-use Rattle.std.specs.Prelude.{Option, is_none, Bool, nat_eq}
-use Rattle.std.proofs.lemmas.Bool.{eqb-true, eqb-false}
+use Rattle.std.specs.Prelude.{Option, is_none}
 use Rattle.std.specs.Option.{unwrap_or}
 use Rattle.source_execution.specs.meaning_machine.buddy_book.Book.{Book, take}
 use Rattle.source_execution.specs.meaning_machine.buddy_book.Place.{Log, Taken, Placing, count_taken, with_block}
@@ -115,48 +114,7 @@ pub record HasTaken (count order : ℕ) (old now : Kept) : Type 0 where
   pub others : SameBut order (free_in old) (free_in now)
   pub same : now.order ≡ old.order
 
-pub none_yet : (order : ℕ) (heap : Kept) → HasTaken 0 order heap heap
-none_yet order heap = record { sum = omega arith; others = record { others = λ k h other. refl }; same = refl }
-
-pub still_last : (order : ℕ) (old now : Book) → SameBut order old now → IsLast order old → IsLast order now
-still_last order old now same last = record {
-  above = λ k h. same.others k (omega arith) (λ e. absurd (omega arith)) ∙ last.above k h;
-}
-
-pub one_taken : (count more order : ℕ) (old now next : Kept) → HasTaken count order old now → TookOne order now next
-    → more ≡ count + 1 → HasTaken more order old next
-one_taken count more order old now next h one e =
-    let sum = h.sum in
-    let less = one.less in
-    record {
-      sum = omega arith;
-      others = record { others = λ k from other. one.others.others k from other ∙ h.others.others k from other };
-      same = one.same ∙ h.same;
-    }
-
-pub fewer_left : (order : ℕ) (now next : Kept) → TookOne order now next
-    → length (list_at (free_in next) order) < length (list_at (free_in now) order)
-fewer_left order now next one = let less = one.less in omega arith
-
-pub all_taken : (count order : ℕ) (old now next : Kept) → HasTaken count order old now → TookNone order now next
-    → TookAll count order old next
-all_taken count order old now next h none =
-    let sum = h.sum in
-    let gone : length (list_at (free_in now) order) ≡ 0 = ap length none.none in
-    subst (λ (heap : Kept). TookAll count order old heap) (sym none.stays)
-    (record { count = omega arith; none = none.none; others = h.others; same = h.same })
-
 -- ---- the lines
-
-pub none_above : (order : ℕ) (old mid : Kept) (count : ℕ) → 1 ≤ order → TookAll count order old mid
-    → IsLast order (free_in old) → IsLast (order - 1) (free_in mid)
-none_above order old mid count from all last = record { above = λ k h. by k h (nat_eq k order) refl }
-  where
-    by : (k : ℕ) → order - 1 < k → (b : Bool) → nat_eq k order ≡ b → list_at (free_in mid) k ≡ []
-    by k h true t = ap (list_at (free_in mid)) (eqb-true k order t) ∙ all.none
-    by k h false t =
-        let other = eqb-false k order t in
-        all.others.others k (omega arith) other ∙ last.above k (omega arith)
 
 same_lines : (k order : ℕ) (old new : Book) → k < order → SameBut order old new → free_lines k new ≡ free_lines k old
 same_lines zero order old new h same = refl

@@ -1,19 +1,16 @@
 -- What is done with an image.
-use Rattle.std.proofs.Common.{◌≡◌, refl, sym, subst, ℕ, List, Some, None, Ok, Err, inl, inr}
+use Rattle.std.proofs.Common.{◌≡◌, refl, sym, subst, ℕ, List, None, Ok, Err, inl, inr}
 use Rattle.std.specs.Prelude.{Result, Option}
 use Rattle.run_settings.specs.rpp_words.declared.input.Limits.{Limits}
 use Rattle.run_settings.specs.rpp_ports.declared.sink.SinkFault.{SinkFault}
-use Rattle.command_plan.specs.declared.plan.Room.{Room}
-use Rattle.command_plan.specs.pisa_image.declared.error.ImageError.{ImageError}
 use Rattle.command_plan.specs.pisa_loader.declared.error.LoadError.{LoadError}
 use Rattle.pisa_isa.specs.Image.{Segments}
-use Rattle.pisa_isa.specs.Notes.{NotedImage}
 use Rattle.two_way_debugger.specs.pisa_machine.Position.{Position}
 use Rattle.live_talks.specs.Talks.{Talk, Printed, Puts, status_by}
 use Rattle.live_talks.specs.Sessions.{IsSession}
 use Rattle.live_talks.specs.Limits.{Held, held, WithLimits}
 use Rattle.live_images.specs.Sessions.{RepliesOf as RepliesAlong}
-use Rattle.live_command.specs.Lives.{image_greeting, OpensAlong, OpensImage, StartsImage, SizesImage, ReadsImage}
+use Rattle.live_command.specs.Lives.{image_greeting, OpensAlong, OpensImage, StartsImage, SizesImage}
 use Rattle.live_command.proofs.Living.{talk_with}
 
 pub along_greets : (p : Held Position) (talk : Talk) (new : Printed) (after : Talk) (status : ℕ)
@@ -51,28 +48,9 @@ machine_opens first machine run talk after status is run_is opens =
     subst (λ (r : Result Position LoadError). OpensImage r talk after status) (sym is)
     (subst (λ (h : Held Position). OpensAlong h talk after status) run_is opens)
 
--- the first refusal of the state
-pub state_refused : (first it : Result Position LoadError) (talk after : Talk) (status : ℕ) → first ≡ it
-    → OpensImage it talk after status → OpensImage first talk after status
-state_refused first it talk after status is h =
-    subst (λ (r : Result Position LoadError). OpensImage r talk after status) (sym is) h
-
 pub sized : (refusal : Option LoadError) (image : Segments) (limits wanted : Limits) (state : Option (List ℕ))
     (talk after : Talk) (status : ℕ) → refusal ≡ None → limits ≡ wanted
     → StartsImage image limits state talk after status → SizesImage refusal image wanted state talk after status
 sized refusal image limits wanted state talk after status none is starts =
     subst (λ (r : Option LoadError). SizesImage r image wanted state talk after status) (sym none)
     (subst (λ (l : Limits). StartsImage image l state talk after status) is starts)
-
-pub sized_by : (refusal : Option LoadError) (e : LoadError) (image : Segments) (wanted : Limits)
-    (state : Option (List ℕ)) (talk after : Talk) (status : ℕ) → refusal ≡ Some e
-    → SizesImage (Some e) image wanted state talk after status
-    → SizesImage refusal image wanted state talk after status
-sized_by refusal e image wanted state talk after status is h =
-    subst (λ (r : Option LoadError). SizesImage r image wanted state talk after status) (sym is) h
-
-pub read_by : (read it : Result NotedImage ImageError) (room : Room) (state : Option (List ℕ)) (talk after : Talk)
-    (status : ℕ) → read ≡ it → ReadsImage it room state talk after status
-    → ReadsImage read room state talk after status
-read_by read it room state talk after status is h =
-    subst (λ (r : Result NotedImage ImageError). ReadsImage r room state talk after status) (sym is) h

@@ -1,5 +1,5 @@
 -- The texts of replies that look at one position.
-use Rattle.std.proofs.Common.{◌≡◌, ◌∙◌, refl, sym, ap, subst, ℕ, List, ◌++◌, Some}
+use Rattle.std.proofs.Common.{◌≡◌, ◌∙◌, refl, sym, ap, subst, ℕ, List, Some}
 use Rattle.std.specs.Prelude.{Option}
 use Rattle.source_debugger.specs.meaning_points.rpp_tree.Tree.{Source}
 use Rattle.source_debugger.specs.meaning_points.rpp_tree.Views.{source_of}
@@ -9,8 +9,7 @@ use Rattle.source_debugger.specs.declared.failing.Detail.{Detail}
 use Rattle.source_debugger.specs.declared.failing.Detail.TheVariants as details
 use Rattle.source_debugger.specs.Failures.{Account, account_of, shown_of, fails_at}
 use Rattle.live_talks.specs.declared.ends.End.TheVariants as end
-use Rattle.live_talks.specs.Ends.{end_line}
-use Rattle.live_session.specs.Replies.{look_reply, value_reply, or_none, replied, RepliesText, RepliesCall}
+use Rattle.live_session.specs.Replies.{look_reply, value_reply, or_none, replied, RepliesCall}
 use Rattle.live_session.specs.Serving.{Answers, request_for}
 
 -- what is asked of the step that fails, if one does
@@ -32,16 +31,6 @@ failure_told before after limit detail o reply stays is shown =
           ∙ ap (λ (t : List ℕ). Some (record { position = before.position; text = t })) (sym shown);
       same = refl;
     })
-
-pub text_told : (Tells : List ℕ → Type 0) (before after : Standing) (text reply : List ℕ) → Tells text
-    → after ≡ before → reply ≡ text ++ end_line end.Done
-    → RepliesText Tells before.position reply after.position
-text_told Tells before after text reply tells stays ends = record {
-  text = text;
-  tells = tells;
-  ends = ends;
-  stays = ap (λ (d : Standing). d.position) stays;
-}
 
 pub call_told : (before after : Standing) (depth : ℕ) (text : Option (List ℕ)) (reply : List ℕ)
     → TellsCall (source_of before.program) before.limits before.input before.position depth text → after ≡ before

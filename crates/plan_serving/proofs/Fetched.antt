@@ -74,13 +74,6 @@ gave_some told (file ∷ files) [] old new gave = absurd gave
 gave_some told (file ∷ files) (text ∷ texts) old new gave =
     inr (inr (text, gave_some told files texts (read file (Ok text) ∷ old) new gave.1))
 
--- nothing was read, because memory ran out
-pub none_asked : {T : Type 0} (told : Option Texts) (b n : ℕ) (files : List Needed) (old : List Event)
-    (r : Result T NoPlan) → IfErr r (λ e. e ≡ NoMemory) → Asks {T = T} told b n files old old r
-none_asked told b n files old (Ok x) h = record { stops = tt }
-none_asked told b n files old (Err NoMemory) h = record { stops = some_none files old }
-none_asked told b n files old (Err (Unread text)) h = absurd (grind arith)
-
 -- the first file could not be read
 pub first_asked : {T U : Type 0} (told : Option Texts) (b n : ℕ) (file : Needed) (files : List Needed)
     (old new : List Event) (stop : NoPlan)

@@ -1,19 +1,18 @@
 -- A plan that is made of texts which were all read before.
-use Rattle.std.proofs.Common.{◌≡◌, refl, ap, ℕ, List, [], ◌∷◌, Some, None, Ok, Err, inl, inr}
+use Rattle.std.proofs.Common.{◌≡◌, refl, ap, ℕ, List, [], ◌∷◌, Some, None, Ok, Err, inr}
 use Rattle.std.proofs.Common.{arith, map}
 use Rattle.std.specs.Prelude.{Result, IfOk, IfErr}
 use Rattle.std.specs.declared.option.Option.{Option}
-use Rattle.std.proofs.lemmas.Bool.Decides.{nat_tests}
-use Rattle.command_line.specs.rpp_ports.Ports.{Texts, Rose}
+use Rattle.command_line.specs.rpp_ports.Ports.{Texts}
 use Rattle.command_line.specs.rpp_ports.Events.{Event}
 use Rattle.command_line.specs.rpp_probes.Tally.{Watch}
 use Rattle.command_line.specs.command_plan.pisa_scripts.declared.lines.TheConstants.{MOST_SCRIPT}
 use Rattle.command_line.specs.command_plan.declared.plan.Plan.{Plan}
 use Rattle.command_line.specs.command_plan.declared.plan.NoPlan.{NoPlan}
 use Rattle.command_line.specs.command_plan.declared.plan.NoPlan.TheVariants.{NoMemory, Unread}
-use Rattle.command_line.specs.command_plan.Files.{Needed, OnlyReads, LacksOne, Unreadable, UnreadCause, image_file}
+use Rattle.command_line.specs.command_plan.Files.{Needed, UnreadCause, image_file}
 use Rattle.command_line.specs.command_plan.Plans.{planned, GivesPlan}
-use Rattle.command_line.specs.command_plan.Reads.{Gave, Asks}
+use Rattle.command_line.specs.command_plan.Reads.{Gave}
 use Rattle.plan_serving.specs.Places.{HasPlaces, place_files}
 use Rattle.command_line.specs.Lines.{Asked, Check, Compile, Asm, ListImage, Flip, ShowInverse, Generate, Cluster}
 use Rattle.command_line.specs.Lines.{RunImage, Debug, Trace, Go, Turn, Profile, Wrap, Explain}
@@ -21,7 +20,6 @@ use Rattle.rpp_command.specs.Plans.{IsPlan, LeavesProbes}
 use Rattle.rpp_command.specs.Places.{placed}
 use Rattle.plan_serving.specs.Places.{names_from}
 use Rattle.rpp_command.specs.Causes.{files_of}
-use Rattle.plan_serving.specs.Outside.{Shelved}
 use Rattle.rpp_command.specs.Serving.{PlansRead, StopsPlan}
 use Rattle.rpp_command.proofs.Placed.{plan_of_texts, leaves_of_texts}
 use Rattle.rpp_command.proofs.OfTold.{plan_told, leaves_told}
@@ -60,39 +58,10 @@ placed_files (Wrap file sizes names (Some input)) = refl
 placed_files (Explain file sizes None) = refl
 placed_files (Explain file sizes (Some input)) = refl
 
--- where no file is missing or too long, and no call ever fails, none is unread
-pub none_unread : (held : Texts) (files : List Needed) → ¬ LacksOne held files
-    → Unreadable (Some held) files (Rose 0 0) → ⊥
-none_unread held files whole (inl rose) = absurd (grind (arith, nat_tests))
-none_unread held files whole (inr lacks) = whole lacks
-
--- what stopped the reads stops the plan, and no probe observed a step
-pub stopped : {T : Type 0} (line : Asked) (probes : List Watch) (b n : ℕ) (shelf shelf' : Shelved)
-    (stop : NoPlan) → Asks {T = T} shelf.texts b n (files_of line) shelf.calls shelf'.calls (Err stop)
-    → StopsPlan line probes probes (Rose b n) shelf shelf' stop
-stopped line probes b n shelf shelf' NoMemory asks = inl (asks.stops, refl)
-stopped line probes b n shelf shelf' (Unread text) asks = (asks.stops, refl)
-
 -- no probe observed a step of what was not read
 pub untold : (probes : List Watch) (stop : NoPlan) → UnreadCause (probes ≡ probes) stop
 untold probes NoMemory = tt
 untold probes (Unread text) = refl
-
--- a call that found no memory reads no other files
-pub only_reads : {T U : Type 0} (told after : Option Texts) (b n : ℕ) (files : List Needed) (texts : T)
-    (r : Result U NoPlan) → IfErr r (λ stop. stop ≡ NoMemory)
-    → OnlyReads {T = T} told after b n files (Ok texts) → OnlyReads {T = U} told after b n files r
-only_reads told after b n files texts (Ok u) memory reads =
-    record { kept = reads.kept; later = reads.later; cause = tt; first = tt; whole = reads.whole }
-only_reads told after b n files texts (Err NoMemory) memory reads =
-    record { kept = reads.kept; later = reads.later; cause = tt; first = tt; whole = tt }
-only_reads told after b n files texts (Err (Unread text)) memory reads = absurd (grind arith)
-
-pub untold_plan : {U : Type 0} (r : Result U NoPlan) (P : Type 0) → IfErr r (λ stop. stop ≡ NoMemory)
-    → IfErr r (UnreadCause P)
-untold_plan (Ok u) P memory = tt
-untold_plan (Err NoMemory) P memory = tt
-untold_plan (Err (Unread text)) P memory = absurd (grind arith)
 
 module _ (line : Asked) (before after : List Watch) (count counted : ℕ) (told : Option Texts) (held : Texts)
     (texts : List (List ℕ)) (old new : List Event) where

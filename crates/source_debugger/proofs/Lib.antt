@@ -2,4 +2,3 @@ pub mod Longer
 pub mod Following
 pub mod Finished
 pub mod Stopping
-pub mod Stacked

@@ -1,12 +1,11 @@
 -- Runs with so much fuel, one after another.
-use Rattle.std.proofs.Common.{◌≡◌, ℕ, zero, suc, ◌+◌, ◌-◌, ◌<◌, ◌≤◌, refl, sym, ap, subst, ◌∙◌, arith, Bool, true}
+use Rattle.std.proofs.Common.{◌≡◌, ℕ, ◌+◌, ◌-◌, ◌<◌, ◌≤◌, refl, sym, ap, subst, ◌∙◌, arith, Bool, true}
 use Rattle.std.proofs.Common.{false, Some, None, if◌then◌else◌}
 use Rattle.std.proofs.lemmas.Bool.{leb-true, leb-false, le-leb}
 use Rattle.std.specs.Prelude.{nat_le, Option, Result, Ok, Err, IfErr}
 use Rattle.std.specs.Result.{IsErrAnd}
 use Rattle.source_store.specs.roopl_semantics.Store.{State}
 use Rattle.source_store.specs.roopl_semantics.Run.{Run, Done, Fault, More, after_cost, ◌>>=◌, give}
-use Rattle.source_store.specs.declared.lack.Lack.{Lack}
 use Rattle.source_store.specs.declared.lack.Lack.TheVariants as lacking
 use Rattle.source_steps.specs.declared.stop.Stop.{Stop}
 use Rattle.source_steps.specs.declared.stop.Stop.TheVariants as stop
@@ -154,13 +153,3 @@ pub handed : {E : Type 0} (result : Result E Stop) (why : Stop) (g : E → State
     → IsErrAnd result (λ e. e ≡ why) → Failed why left run → Gives g result left run
 handed (Ok x) why g left run e k = absurd e
 handed (Err e) why g left run same k = subst (λ w. Failed w left run) (sym same) k
-
-pub handed_own : {E : Type 0} (result : Result E Stop) (why : Stop) → IsErrAnd result (λ e. e ≡ why) → IsOwn why
-    → IfErr result IsOwnOrFull
-handed_own (Ok x) why e own = absurd e
-handed_own (Err e) why same own = either e (subst IsOwn (sym same) own)
-
-pub handed_full : {E : Type 0} (result : Result E Stop) (why : Lack) → IsErrAnd result (λ e. e ≡ stop.Lacks why)
-    → why ≡ lacking.Full → IfErr result IsOwnOrFull
-handed_full (Ok x) why e full = absurd e
-handed_full (Err e) why same full = subst IsOwnOrFull (sym same) full
