@@ -3,16 +3,17 @@ use Rattle.std.proofs.Common.{◌≡◌, ℕ, zero, suc, ◌+◌, ◌-◌, ◌*�
 use Rattle.std.proofs.Common.{List, [], ◌∷◌, ◌++◌, length, replicate, reverse, Option, Some, slice_get, slice_set, ◌⊎◌}
 use Rattle.std.proofs.Common.{inl, inr, Vec, Global, vec_len, vec_capacity}
 use Rattle.std.specs.Option.{option_map, unwrap_or}
-use Rattle.std.proofs.lemmas.Option.{slice_get-map}
+use Rattle.std.proofs.lemmas.Option.{slice_get-map, same_Some}
 use Rattle.std.proofs.lemmas.List.{length-map, map-append, map-set, length-reverse}
 use Rattle.std.proofs.Math.Nat.{pow-succ', mod-eq_of_lt}
 use Rattle.buddy_book.specs.Book.{Book, start}
 use Rattle.buddy_book.specs.Shown.{Shown, first_block, list_at, head_address, taken_from, is_sound_list, is_sound}
 use Rattle.buddy_book.specs.Shown.{weight, IsKept}
 use Rattle.buddy_book.specs.Stored.{list_of, free_of, HasRoom, shown, IsStored}
-use Rattle.buddy_book.proofs.TakeGive.{both, both_hold, sound_list, sound_head, doubled}
-use Rattle.buddy_book.proofs.Orders.{inner, doubled-order}
+use Rattle.buddy_book.proofs.TakeGive.{sound_list, sound_head, doubled}
+use Rattle.buddy_book.proofs.Orders.{doubled-order}
 use Rattle.buddy_book.proofs.StoredLaws.{two_power, list_of-last}
+use Rattle.std.proofs.lemmas.Bool.{and_parts, and_from}
 
 -- lists that were made so far, for a heap of order h
 pub record Begun (h count : ℕ) (lists : List (Vec ℕ Global)) : Type 0 where
@@ -32,7 +33,7 @@ length-replicate (suc n) x = ap suc (length-replicate n x)
 
 slice_get-last : {X : Type 0} (xs : List X) (x y : X) (i : ℕ) → slice_get (xs ++ x ∷ []) i ≡ Some y
     → (slice_get xs i ≡ Some y) ⊎ ((i ≡ length xs) × (x ≡ y))
-slice_get-last [] x y zero e = inr (refl, inner x y e)
+slice_get-last [] x y zero e = inr (refl, same_Some x y e)
 slice_get-last [] x y (suc i) e = cc
 slice_get-last (z ∷ xs) x y zero e = inl e
 slice_get-last (z ∷ xs) x y (suc i) e = later (slice_get-last xs x y i e)
@@ -81,7 +82,7 @@ length-start (suc (suc h)) = ap suc (length-start (suc h))
 
 start-sound : (n size top : ℕ) → 0 < size → doubled n size ≡ top → is_sound top size (start (suc n)) ≡ true
 start-sound zero size top pos e =
-    both_hold (is_sound_list top size (0 ∷ [])) _ (sound_list top size 0 []
+    and_from (is_sound_list top size (0 ∷ [])) _ (sound_list top size 0 []
     (record { aligned = mod-eq_of_lt pos; fits = omega arith; unmerged = refl; rest = refl })) refl
 start-sound (suc n) size top pos e = start-sound n (2 * size) top (omega arith) e
 
@@ -151,18 +152,18 @@ head_below : (top i size block : ℕ) (free : List ℕ) (book : Book) → is_sou
     → slice_get book i ≡ Some (block ∷ free) → block < top
 head_below top i size block free [] e pos at = cc
 head_below top zero size block free (x ∷ higher) e pos at =
-    let parts = both (is_sound_list top size x) _ e in
-    let head = sound_head top size block free (ap (is_sound_list top size) (sym (inner x (block ∷ free) at)) ∙ parts.0)
+    let parts = and_parts (is_sound_list top size x) _ e in
+    let head = sound_head top size block free (ap (is_sound_list top size) (sym (same_Some x (block ∷ free) at)) ∙ parts.0)
     in
     let fits = head.fits in
     omega arith
 head_below top (suc i) size block free (x ∷ higher) e pos at =
-    let parts = both (is_sound_list top size x) _ e in
+    let parts = and_parts (is_sound_list top size x) _ e in
     head_below top i (2 * size) block free higher parts.1 (omega arith) at
 
 first_of : (items : List ℕ) (block : ℕ) → first_block items ≡ Some block → (rest : List ℕ) × (items ≡ block ∷ rest)
 first_of [] block e = cc
-first_of (x ∷ rest) block e = (rest, ap (λ b. b ∷ rest) (inner x block e))
+first_of (x ∷ rest) block e = (rest, ap (λ b. b ∷ rest) (same_Some x block e))
 
 pub head_fits : (h base k block : ℕ) (lists : List (Vec ℕ Global)) (orders items : List ℕ) (list : Vec ℕ Global)
     → IsStored h base lists orders → slice_get lists (k - 1) ≡ Some list → items ≡ list.items
@@ -180,7 +181,7 @@ head_fits h base k block lists orders items list stored at same head =
 
 replicate-at : (n i : ℕ) (x : List ℕ) → slice_get (replicate n no_blocks) i ≡ Some x → x ≡ []
 replicate-at zero i x e = cc
-replicate-at (suc n) zero x e = sym (inner no_blocks x e)
+replicate-at (suc n) zero x e = sym (same_Some no_blocks x e)
 replicate-at (suc n) (suc i) x e = replicate-at n i x e
 
 -- a list of a book whose lists are empty

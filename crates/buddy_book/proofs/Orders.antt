@@ -9,15 +9,13 @@ use Rattle.buddy_book.specs.Book.{Book, upper_half, take_first, below_taken, tak
 use Rattle.buddy_book.specs.Book.{give_first, give_past, give}
 use Rattle.buddy_book.specs.Shown.{is_sound, IsAdditive, weight}
 use Rattle.buddy_book.proofs.TakeGive.{doubled, TookBlock, TookPast, take_past_took, give_past_gave}
-
-pub inner : {A : Type 0} (x y : A) → Some x ≡ Some y → x ≡ y
-inner x y e = ap (λ o. elim o as (λ _. _) [ Some z ↦ z | None ↦ x ]) e
+use Rattle.std.proofs.lemmas.Option.{same_Some}
 
 -- if the list of the order has a head
 pub take_past-head : (lower size block : ℕ) (free : List ℕ) (book : Book) → slice_get book lower ≡ Some (block ∷ free)
     → take_past lower size book ≡ Some (block, slice_set book lower free)
 take_past-head lower size block free [] e = cc
-take_past-head zero size block free (x ∷ book) e = ap (λ l. take_first size (l ∷ book)) (inner x (block ∷ free) e)
+take_past-head zero size block free (x ∷ book) e = ap (λ l. take_first size (l ∷ book)) (same_Some x (block ∷ free) e)
 take_past-head (suc lower) size block free (x ∷ book) e =
     ap (below_taken x) (take_past-head lower size block free book e)
 
@@ -41,9 +39,9 @@ pub take_past-empty : (lower size : ℕ) (book : Book) → slice_get book lower 
     → take_past lower size book ≡ upper_at lower size (take_past (suc lower) (2 * size) book)
 take_past-empty lower size [] e = cc
 take_past-empty zero size (x ∷ higher) e =
-    ap (λ l. take_first size (l ∷ higher)) (inner x [] e)
+    ap (λ l. take_first size (l ∷ higher)) (same_Some x [] e)
     ∙ upper_half-below size (take_first (2 * size) higher)
-    ∙ ap (λ l. upper_at 0 size (below_taken l (take_first (2 * size) higher))) (sym (inner x [] e))
+    ∙ ap (λ l. upper_at 0 size (below_taken l (take_first (2 * size) higher))) (sym (same_Some x [] e))
 take_past-empty (suc lower) size (x ∷ higher) e =
     ap (below_taken x) (take_past-empty lower size higher e)
     ∙ below_taken-upper lower size x (take_past (suc lower) (2 * size) higher)
@@ -61,7 +59,7 @@ pub give_past-merge : (lower size block low : ℕ) (free : List ℕ) (book : Boo
     ≡ give_past (suc lower) (2 * size) low (slice_set book lower [])
 give_past-merge lower size block low free [] e h = cc
 give_past-merge zero size block low free (x ∷ higher) e h =
-    ap (λ l. give_first size block (l ∷ higher)) (inner x free e)
+    ap (λ l. give_first size block (l ∷ higher)) (same_Some x free e)
     ∙ ap (merged block free higher (λ l. give_first (2 * size) l higher)) h
 give_past-merge (suc lower) size block low free (x ∷ higher) e h =
     ap (λ b. x ∷ b) (give_past-merge lower size block low free higher e h)
@@ -71,7 +69,7 @@ pub give_past-head : (lower size block : ℕ) (free : List ℕ) (book : Book) �
     → lower_half size block free ≡ None → give_past lower size block book ≡ slice_set book lower (block ∷ free)
 give_past-head lower size block free [] e h = cc
 give_past-head zero size block free (x ∷ higher) e h =
-    ap (λ l. give_first size block (l ∷ higher)) (inner x free e)
+    ap (λ l. give_first size block (l ∷ higher)) (same_Some x free e)
     ∙ ap (merged block free higher (λ l. give_first (2 * size) l higher)) h
 give_past-head (suc lower) size block free (x ∷ higher) e h =
     ap (λ b. x ∷ b) (give_past-head lower size block free higher e h)

@@ -4,7 +4,7 @@ use Rattle.std.proofs.Common.{List, [], ◌∷◌, ◌++◌, length, reverse, Op
 use Rattle.std.proofs.Common.{slice_index_or, ◌⊎◌, inl, inr, Vec, Global, vec_len, vec_capacity}
 use Rattle.std.specs.Prelude.{IfSome}
 use Rattle.std.specs.Option.{option_map, option_to_list}
-use Rattle.std.proofs.lemmas.Option.{slice_get-map, slice_get-get_or}
+use Rattle.std.proofs.lemmas.Option.{slice_get-map, slice_get-get_or, same_Some}
 use Rattle.std.proofs.lemmas.List.{map-set, length-map, length-set, length-reverse, reverse-append}
 use Rattle.std.proofs.Math.Nat.{pow-succ', pow-le-pow_right, le_of_mul-le-mul_right}
 use Rattle.std.proofs.lemmas.Nat.{pow-add}
@@ -12,7 +12,7 @@ use Rattle.buddy_book.specs.Book.{Book, below_taken, take_past, take, lower_half
 use Rattle.buddy_book.specs.Shown.{is_sound, list_weight, weight, size_of}
 use Rattle.buddy_book.specs.Stored.{list_of, free_of, HasRoom}
 use Rattle.buddy_book.proofs.TakeGive.{doubled, lower_half-some}
-use Rattle.buddy_book.proofs.Orders.{inner, take_past-head, upper_at, take_past-empty, take_past-above, give_past-merge}
+use Rattle.buddy_book.proofs.Orders.{take_past-head, upper_at, take_past-empty, take_past-above, give_past-merge}
 use Rattle.buddy_book.proofs.Orders.{give_past-head, doubled-order, take_took, pow_pos, order_below}
 
 -- the list of an order, as it is stored
@@ -104,7 +104,7 @@ later_list lists later k low list now_list at empty e now_at from =
     take_past-leaves (k + 1 - 1) (k - 1) (2 ^ (k + 1)) (free_of lists) (omega arith) in
     let P : Option (ℕ × Book) → Type 0 = LeavesAt (k - 1) (free_of lists) in
     let left : slice_get (free_of later) (k - 1) ≡ slice_get (free_of lists) (k - 1) = subst P e leaves in
-    inner (list_of now_list) [] (sym (free_of-at later (k - 1) now_list now_at) ∙ left ∙ is_empty)
+    same_Some (list_of now_list) [] (sym (free_of-at later (k - 1) now_list now_at) ∙ left ∙ is_empty)
 
 pub later-empty : (lists later : List (Vec ℕ Global)) (k low : ℕ) (list now_list : Vec ℕ Global)
     → slice_get lists (k - 1) ≡ Some list → length list.items ≡ 0
@@ -150,7 +150,7 @@ upper-fits lists later k low from to lists_to sound e =
 slice_get-set : {X : Type 0} (xs : List X) (i j : ℕ) (x y : X) → slice_get (slice_set xs i x) j ≡ Some y
     → (slice_get xs j ≡ Some y) ⊎ ((i ≡ j) × (y ≡ x))
 slice_get-set [] i j x y e = cc
-slice_get-set (z ∷ xs) zero zero x y e = inr (refl, sym (inner x y e))
+slice_get-set (z ∷ xs) zero zero x y e = inr (refl, sym (same_Some x y e))
 slice_get-set (z ∷ xs) zero (suc j) x y e = inl e
 slice_get-set (z ∷ xs) (suc i) zero x y e = inl e
 slice_get-set (z ∷ xs) (suc i) (suc j) x y e = later (slice_get-set xs i j x y e)
@@ -238,7 +238,7 @@ weight-set : (f : ℕ → ℕ → ℕ) (lower size : ℕ) (free new : List ℕ) 
     ≡ weight f size (slice_set book lower new) + list_weight f (doubled lower size) free
 weight-set f lower size free new [] e = cc
 weight-set f zero size free new (x ∷ book) e =
-    let same = ap (list_weight f size) (inner x free e) in omega arith
+    let same = ap (list_weight f size) (same_Some x free e) in omega arith
 weight-set f (suc lower) size free new (x ∷ book) e = let w = weight-set f lower (2 * size) free new book e in
     omega arith
 
@@ -301,7 +301,7 @@ pub half_of_list : (lists : List (Vec ℕ Global)) (k size block : ℕ) (list sa
     → items ≡ list.items → half ≡ lower_half size block (reverse items) → half ≡ found
     → lower_half (2 ^ k) block (list_of same) ≡ found
 half_of_list lists k size block list same items half found at at_same is_size is_items is_half is_found =
-    ap (λ l. lower_half (2 ^ k) block (list_of l)) (inner same list (sym at_same ∙ at))
+    ap (λ l. lower_half (2 ^ k) block (list_of l)) (same_Some same list (sym at_same ∙ at))
     ∙ ap (λ i. lower_half (2 ^ k) block (reverse i)) (sym is_items)
     ∙ ap (λ s. lower_half s block (reverse items)) (sym is_size)
     ∙ sym is_half

@@ -2,12 +2,11 @@
 use Rattle.std.proofs.Common.{◌≡◌, ℕ, zero, suc, ◌+◌, ◌*◌, ◌^◌, ◌%◌, ◌<◌, ◌≤◌, Bool, true, false, refl, sym, ap, subst}
 use Rattle.std.proofs.Common.{◌∙◌, arith, List, [], ◌∷◌, length, Some, None, slice_get, slice_set, eq-eqb}
 use Rattle.std.proofs.Common.{if◌then◌else◌}
-use Rattle.std.proofs.lemmas.Bool.{eqb-true, lt-ltb, le-ltb}
+use Rattle.std.proofs.lemmas.Bool.{eqb-true, lt-ltb, le-ltb, and_parts, and_from}
 use Rattle.std.specs.Prelude.{nat_eq, nat_lt}
 use Rattle.buddy_book.specs.Shown.{TakenBlocks, order_in, with_taken, without_taken, taken_from, is_aligned}
 use Rattle.buddy_book.specs.Shown.{taken_weight}
-use Rattle.buddy_book.proofs.TakeGive.{both, both_hold}
-use Rattle.buddy_book.proofs.Orders.{inner}
+use Rattle.std.proofs.lemmas.Option.{same_Some}
 
 below_differs : (a b : ℕ) → a < b → nat_eq a b ≡ false
 below_differs a b h = by (nat_eq a b) refl
@@ -82,7 +81,7 @@ entry_of_taken start block order (suc o ∷ orders) e = here_or_later
         → (t : Bool) → nat_eq start block ≡ t → (if t then Some (suc o) else order_in (taken_from (2 + start) orders)
         block) ≡ Some order → Entry start block order (suc o ∷ orders)
     here_or_later later true same found =
-        let is : suc o ≡ order = inner (suc o) order found in
+        let is : suc o ≡ order = same_Some (suc o) order found in
         record {
           index = 0;
           at = let b = eqb-true start block same in omega arith;
@@ -109,7 +108,7 @@ taken_from-set block zero order (o ∷ orders) e =
     let first = with_taken-first block (suc order) (2 + block) orders (omega arith) in
     let here : block ≡ block + 2 * 0 = omega arith in
     sym first ∙ ap (λ b. with_taken b (suc order) (taken_from (2 + block) orders)) here
-    ∙ ap (λ x. with_taken (block + 2 * 0) (suc order) (taken_from block (x ∷ orders))) (sym (inner o 0 e))
+    ∙ ap (λ x. with_taken (block + 2 * 0) (suc order) (taken_from block (x ∷ orders))) (sym (same_Some o 0 e))
 taken_from-set block (suc j) order (zero ∷ orders) e =
     taken_from-set (2 + block) j order orders e ∙ ap (λ b. with_taken b (suc order) (taken_from (2 + block) orders))
     (sym (next_block block j))
@@ -129,7 +128,7 @@ taken_from-clear block zero order (o ∷ orders) e =
     let same : nat_eq block (block + 2 * 0) ≡ true = eq-eqb block (block + 2 * 0) (omega arith) in
     sym (ap (λ t. if t then taken_from (2 + block) orders else (block, suc order)
     ∷ without_taken (block + 2 * 0) (taken_from (2 + block) orders)) same)
-    ∙ ap (λ x. without_taken (block + 2 * 0) (taken_from block (x ∷ orders))) (sym (inner o (suc order) e))
+    ∙ ap (λ x. without_taken (block + 2 * 0) (taken_from block (x ∷ orders))) (sym (same_Some o (suc order) e))
 taken_from-clear block (suc j) order (zero ∷ orders) e =
     taken_from-clear (2 + block) j order orders e ∙ ap (λ b. without_taken b (taken_from (2 + block) orders))
     (sym (next_block block j))
@@ -165,21 +164,21 @@ taken_weight-without f block order ((b, o) ∷ taken) e =
         → f b (2 ^ o) + taken_weight f taken ≡ f block (2 ^ order) + taken_weight f
         (if t then taken else (b, o) ∷ without_taken block taken)
     by later true same found = ap (λ x. f x (2 ^ o) + taken_weight f taken) (eqb-true b block same)
-        ∙ ap (λ x. f block (2 ^ x) + taken_weight f taken) (inner o order found)
+        ∙ ap (λ x. f block (2 ^ x) + taken_weight f taken) (same_Some o order found)
     by later false other found = let w = later found in omega arith
 
 pub is_aligned-with : (block order : ℕ) (taken : TakenBlocks) → block % 2 ^ order ≡ 0 → is_aligned taken ≡ true
     → is_aligned (with_taken block order taken) ≡ true
-is_aligned-with block order [] h e = both_hold (nat_eq (block % 2 ^ order) 0) _ (eq-eqb (block % 2 ^ order) 0 h) refl
+is_aligned-with block order [] h e = and_from (nat_eq (block % 2 ^ order) 0) _ (eq-eqb (block % 2 ^ order) 0 h) refl
 is_aligned-with block order ((b, o) ∷ taken) h e = by (is_aligned-with block order taken h parts.1) (nat_lt block b)
   where
     parts : (nat_eq (b % 2 ^ o) 0 ≡ true) × (is_aligned taken ≡ true)
-    parts = both (nat_eq (b % 2 ^ o) 0) (is_aligned taken) e
+    parts = and_parts (nat_eq (b % 2 ^ o) 0) (is_aligned taken) e
 
     by : is_aligned (with_taken block order taken) ≡ true → (t : Bool)
         → is_aligned (if t then (block, order) ∷ (b, o) ∷ taken else (b, o) ∷ with_taken block order taken) ≡ true
-    by rest true = both_hold (nat_eq (block % 2 ^ order) 0) _ (eq-eqb (block % 2 ^ order) 0 h) e
-    by rest false = both_hold (nat_eq (b % 2 ^ o) 0) _ parts.0 rest
+    by rest true = and_from (nat_eq (block % 2 ^ order) 0) _ (eq-eqb (block % 2 ^ order) 0 h) e
+    by rest false = and_from (nat_eq (b % 2 ^ o) 0) _ parts.0 rest
 
 pub is_aligned-without : (block : ℕ) (taken : TakenBlocks) → is_aligned taken ≡ true
     → is_aligned (without_taken block taken) ≡ true
@@ -187,12 +186,12 @@ is_aligned-without block [] e = refl
 is_aligned-without block ((b, o) ∷ taken) e = by (is_aligned-without block taken parts.1) (nat_eq b block)
   where
     parts : (nat_eq (b % 2 ^ o) 0 ≡ true) × (is_aligned taken ≡ true)
-    parts = both (nat_eq (b % 2 ^ o) 0) (is_aligned taken) e
+    parts = and_parts (nat_eq (b % 2 ^ o) 0) (is_aligned taken) e
 
     by : is_aligned (without_taken block taken) ≡ true → (t : Bool)
         → is_aligned (if t then taken else (b, o) ∷ without_taken block taken) ≡ true
     by rest true = parts.1
-    by rest false = both_hold (nat_eq (b % 2 ^ o) 0) _ parts.0 rest
+    by rest false = and_from (nat_eq (b % 2 ^ o) 0) _ parts.0 rest
 
 pub is_aligned-taken : (block order : ℕ) (taken : TakenBlocks) → order_in taken block ≡ Some order
     → is_aligned taken ≡ true → block % 2 ^ order ≡ 0
@@ -201,12 +200,12 @@ is_aligned-taken block order ((b, o) ∷ taken) e h = by (λ found. is_aligned-t
     (nat_eq b block) refl e
   where
     parts : (nat_eq (b % 2 ^ o) 0 ≡ true) × (is_aligned taken ≡ true)
-    parts = both (nat_eq (b % 2 ^ o) 0) (is_aligned taken) h
+    parts = and_parts (nat_eq (b % 2 ^ o) 0) (is_aligned taken) h
 
     by : (order_in taken block ≡ Some order → block % 2 ^ order ≡ 0) → (t : Bool) → nat_eq b block ≡ t
         → (if t then Some o else order_in taken block) ≡ Some order → block % 2 ^ order ≡ 0
     by later true same found = ap (λ x. x % 2 ^ order) (sym (eqb-true b block same))
-        ∙ ap (λ x. b % 2 ^ x) (sym (inner o order found)) ∙ eqb-true (b % 2 ^ o) 0 parts.0
+        ∙ ap (λ x. b % 2 ^ x) (sym (same_Some o order found)) ∙ eqb-true (b % 2 ^ o) 0 parts.0
     by later false other found = later found
 
 taken_at_head : (block order : ℕ) (taken : TakenBlocks) → order_in ((block, order) ∷ taken) block ≡ Some order

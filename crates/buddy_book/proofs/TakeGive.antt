@@ -2,20 +2,11 @@
 use Rattle.std.proofs.Common.{◌≡◌, ℕ, zero, suc, ◌+◌, ◌*◌, ◌%◌, ◌/◌, ◌<◌, ◌≤◌, Bool, true, false, refl, sym, ap, ◌∙◌}
 use Rattle.std.proofs.Common.{arith, List, [], ◌∷◌, length, Option, Some, None, eq-eqb, if◌then◌else◌}
 use Rattle.std.proofs.Math.Nat.{add-mod_right, mod-add-div, mul-mod_left}
-use Rattle.std.proofs.lemmas.Bool.{leb-true, le-leb, eqb-true}
-use Rattle.std.specs.Prelude.{nat_eq, nat_le, ◌&&◌, is_none}
+use Rattle.std.proofs.lemmas.Bool.{leb-true, le-leb, eqb-true, and_parts, and_from}
+use Rattle.std.specs.Prelude.{nat_eq, nat_le, is_none}
 use Rattle.buddy_book.specs.Book.{Book, upper_half, take_first, below_taken, take_past, is_buddy, lower_half, merged}
 use Rattle.buddy_book.specs.Book.{give_first, give_past}
 use Rattle.buddy_book.specs.Shown.{is_sound_list, is_sound, IsAdditive, list_weight, weight}
-
--- the two parts of a test that holds
-pub both : (a b : Bool) → a && b ≡ true → (a ≡ true) × (b ≡ true)
-both true true e = (refl, refl)
-both true false e = cc
-both false b e = cc
-
-pub both_hold : (a b : Bool) → a ≡ true → b ≡ true → a && b ≡ true
-both_hold a b e f = ap (λ x. x && b) e ∙ f
 
 -- what a sound list says of its head
 pub record SoundHead (top size block : ℕ) (free : List ℕ) : Type 0 where
@@ -27,9 +18,9 @@ pub record SoundHead (top size block : ℕ) (free : List ℕ) : Type 0 where
 pub sound_head : (top size block : ℕ) (free : List ℕ) → is_sound_list top size (block ∷ free) ≡ true
     → SoundHead top size block free
 sound_head top size block free e =
-    let one = both (nat_eq (block % size) 0) _ e in
-    let two = both (nat_le (block + size) top) _ one.1 in
-    let three = both (is_none (lower_half size block free)) _ two.1 in
+    let one = and_parts (nat_eq (block % size) 0) _ e in
+    let two = and_parts (nat_le (block + size) top) _ one.1 in
+    let three = and_parts (is_none (lower_half size block free)) _ two.1 in
     record {
       aligned = eqb-true (block % size) 0 one.0;
       fits = leb-true (block + size) top two.0;
@@ -40,9 +31,9 @@ sound_head top size block free e =
 pub sound_list : (top size block : ℕ) (free : List ℕ) → SoundHead top size block free
     → is_sound_list top size (block ∷ free) ≡ true
 sound_list top size block free h =
-    both_hold (nat_eq (block % size) 0) _ (eq-eqb (block % size) 0 h.aligned)
-    (both_hold (nat_le (block + size) top) _ (le-leb (block + size) top h.fits)
-    (both_hold (is_none (lower_half size block free)) _ h.unmerged h.rest))
+    and_from (nat_eq (block % size) 0) _ (eq-eqb (block % size) 0 h.aligned)
+    (and_from (nat_le (block + size) top) _ (le-leb (block + size) top h.fits)
+    (and_from (is_none (lower_half size block free)) _ h.unmerged h.rest))
 
 -- none is none
 none_is : {A : Type 0} (o : Option A) → is_none o ≡ true → o ≡ None
@@ -70,9 +61,9 @@ abbrev pub TookIf : ℕ → ℕ → Book → Option (ℕ × Book) → Type 0
 TookIf top size book None = Unit {0}
 TookIf top size book (Some (block, after)) = Took top size block book after
 
-upper_merges : (size low : ℕ) → low % (2 * size) ≡ 0 → lower_half size (low + size) (low ∷ []) ≡ Some low
+pub upper_merges : (size low : ℕ) → low % (2 * size) ≡ 0 → lower_half size (low + size) (low ∷ []) ≡ Some low
 upper_merges size low h =
-    let buddy : is_buddy size low (low + size) ≡ true = both_hold (nat_eq (low + size) (low + size)) _
+    let buddy : is_buddy size low (low + size) ≡ true = and_from (nat_eq (low + size) (low + size)) _
     (eq-eqb (low + size) (low + size) refl) (eq-eqb (low % (2 * size)) 0 h) in
     ap (λ b. if b then Some low else None) buddy
 
@@ -85,7 +76,7 @@ after_upper top size higher (Some (low, after)) t =
       fits = let h = t.fits in omega arith;
       undone = ap (merged (low + size) (low ∷ []) after (λ l. give_first (2 * size) l after))
           (upper_merges size low t.aligned) ∙ ap (λ b. [] ∷ b) t.undone;
-      sound = both_hold (is_sound_list top size (low ∷ [])) _
+      sound = and_from (is_sound_list top size (low ∷ [])) _
           (sound_list top size low [] (record {
             aligned = of_double size low t.aligned;
             fits = let h = t.fits in
@@ -101,14 +92,14 @@ pub take_first_took : (top size : ℕ) (book : Book) → is_sound top size book 
     → TookIf top size book (take_first size book)
 take_first_took top size [] e = tt
 take_first_took top size ((block ∷ free) ∷ higher) e =
-    let parts = both (is_sound_list top size (block ∷ free)) _ e in
+    let parts = and_parts (is_sound_list top size (block ∷ free)) _ e in
     let head = sound_head top size block free parts.0 in
     record {
       aligned = head.aligned;
       fits = head.fits;
       undone = ap (merged block free higher (λ l. give_first (2 * size) l higher))
           (none_is (lower_half size block free) head.unmerged);
-      sound = both_hold (is_sound_list top size free) _ head.rest parts.1;
+      sound = and_from (is_sound_list top size free) _ head.rest parts.1;
       weights = λ f additive. omega arith;
       count = refl;
     }
@@ -145,7 +136,7 @@ pub lower_half-some : (size block low : ℕ) (free : List ℕ) → lower_half si
 lower_half-some size block low [] e = cc
 lower_half-some size block low (a ∷ []) e =
     let c = chosen (is_buddy size a block) a low e in
-    let parts = both (nat_eq block (a + size)) _ c.0 in
+    let parts = and_parts (nat_eq block (a + size)) _ c.0 in
     record {
       alone = ap (λ x. x ∷ []) c.1;
       upper = eqb-true block (a + size) parts.0 ∙ ap (λ x. x + size) c.1;
@@ -179,7 +170,7 @@ module _ (top : ℕ) (has_room : 0 < top) where
   merged_gave size block free higher sound_free sound_higher aligned fits next None is_half =
       record {
         undone = refl;
-        sound = both_hold (is_sound_list top size (block ∷ free)) _
+        sound = and_from (is_sound_list top size (block ∷ free)) _
             (sound_list top size block free (record {
               aligned = aligned;
               fits = fits;
@@ -195,7 +186,7 @@ module _ (top : ℕ) (has_room : 0 < top) where
       → Gave top size block book (give_first size block book)
   give_first_gave size block [] e ends aligned fits = absurd (omega arith)
   give_first_gave size block (free ∷ higher) e ends aligned fits =
-      let parts = both (is_sound_list top size free) _ e in
+      let parts = and_parts (is_sound_list top size free) _ e in
       merged_gave size block free higher parts.0 parts.1 aligned fits
       (λ low a f. give_first_gave (2 * size) low higher parts.1 ends a f) (lower_half size block free) refl
 
@@ -227,7 +218,7 @@ after_below top lower size free higher e (Some (block, after)) t =
       aligned = t.aligned;
       fits = t.fits;
       undone = ap (λ b. free ∷ b) t.undone;
-      sound = both_hold (is_sound_list top size free) _ e t.sound;
+      sound = and_from (is_sound_list top size free) _ e t.sound;
       weights = λ f additive. let w = t.weights f additive in omega arith;
       count = ap suc t.count;
     }
@@ -245,7 +236,7 @@ pub take_past_took : (top lower size : ℕ) (book : Book) → is_sound top size 
 take_past_took top zero size book e = after_first top size book (take_first size book) (take_first_took top size book e)
 take_past_took top (suc lower) size [] e = tt
 take_past_took top (suc lower) size (free ∷ higher) e =
-    let parts = both (is_sound_list top size free) _ e in
+    let parts = and_parts (is_sound_list top size free) _ e in
     after_below top lower size free higher parts.0 (take_past lower (doubled lower (2 * size)) higher)
     (take_past_took top lower (2 * size) higher parts.1)
 
@@ -258,11 +249,11 @@ give_past_gave top room zero size block book e ends below aligned fits =
     record { undone = gave.undone; sound = gave.sound; weights = gave.weights; count = gave.count }
 give_past_gave top room (suc lower) size block [] e ends below aligned fits = absurd (omega arith)
 give_past_gave top room (suc lower) size block (free ∷ higher) e ends below aligned fits =
-    let parts = both (is_sound_list top size free) _ e in
+    let parts = and_parts (is_sound_list top size free) _ e in
     let gave = give_past_gave top room lower (2 * size) block higher parts.1 ends (omega arith) aligned fits in
     record {
       undone = ap (below_taken free) gave.undone;
-      sound = both_hold (is_sound_list top size free) _ parts.0 gave.sound;
+      sound = and_from (is_sound_list top size free) _ parts.0 gave.sound;
       weights = λ f additive. let w = gave.weights f additive in omega arith;
       count = ap suc gave.count;
     }

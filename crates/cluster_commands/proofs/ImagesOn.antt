@@ -6,7 +6,7 @@ use Rattle.pisa_cluster.specs.pisa_isa.Notes.{NotedImage}
 use Rattle.command_plan.specs.pisa_image.declared.error.ImageError.{ImageError}
 use Rattle.command_plan.specs.pisa_image.Reading.{image_at}
 use Rattle.cluster_commands.specs.ClusterPlans.{with_image, images_at}
-use Rattle.cluster_commands.proofs.Fronts.{front_line}
+use Rattle.std.proofs.lemmas.List.{drop_more}
 
 -- images before what is read
 abbrev pub with_front : List Segments → Result (List Segments) ImageError → Result (List Segments) ImageError
@@ -28,4 +28,4 @@ image_read f items i d front n image total lt is same so_far =
     ap (λ m. with_front (front ++ m ∷ []) (images_at (map f (drop (i + 1) items)))) same
     ∙ sym (with_next front n (images_at (map f (drop (i + 1) items))))
     ∙ ap (λ r. with_front front (with_image r (images_at (map f (drop (i + 1) items))))) (sym is)
-    ∙ ap (λ ts. with_front front (images_at ts)) (sym (front_line f items i d lt)) ∙ so_far
+    ∙ ap (λ ts. with_front front (images_at ts)) (sym (ap (map f) (drop_more items i d lt))) ∙ so_far

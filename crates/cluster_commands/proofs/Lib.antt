@@ -1,4 +1,3 @@
-pub mod Fronts
 pub mod Reading
 pub mod StepsOn
 pub mod EventsOn

@@ -1,7 +1,7 @@
 -- Reading the lines of a script one after the other, as a loop does.
 use Rattle.std.proofs.Common.{◌≡◌, ◌∙◌, refl, sym, ap, ℕ, ◌+◌, ◌<◌, ◌≤◌, List, [], ◌∷◌, length, map, drop, get_or}
 use Rattle.std.proofs.Common.{length-drop, Result, Ok, Err, arith}
-use Rattle.std.proofs.lemmas.List.{nil_from_length, length-map}
+use Rattle.std.proofs.lemmas.List.{nil_from_length, length-map, drop_more}
 use Rattle.std.proofs.lemmas.List.Splits.{length-slice_split}
 use Rattle.std.proofs.lemmas.List.Sums.{count_by-le-length}
 use Rattle.std.specs.Prelude.{nat_eq}
@@ -10,7 +10,6 @@ use Rattle.cluster_commands.specs.declared.error.ScriptError.{ScriptError}
 use Rattle.cluster_commands.specs.declared.error.ScriptError.TheVariants.{BadEvent, NoMemory}
 use Rattle.cluster_commands.specs.ClusterScripts.{with_line, events_from, Fails}
 use Rattle.command_plan.specs.pisa_scripts.Lines.{pieces}
-use Rattle.cluster_commands.proofs.Fronts.{front_line}
 
 pub fails_with : (e : ScriptError) (inner whole : Result (List Event) ScriptError)
     → ((r : ScriptError) → inner ≡ Err r → whole ≡ Err r) → Fails e inner → Fails e whole
@@ -40,14 +39,14 @@ pub goes_on : {A : Type 0} (processors : ℕ) (f : A → List ℕ) (line : ℕ) 
     → events_from processors (line + 1) more (map f (drop (i + 1) items)) ≡ total
 goes_on processors f line commands more items i d total inside e so_far =
     sym (line_read processors line commands more (f (get_or items i d)) (map f (drop (i + 1) items)) e)
-    ∙ ap (events_from processors line commands) (sym (front_line f items i d inside)) ∙ so_far
+    ∙ ap (events_from processors line commands) (sym (ap (map f) (drop_more items i d inside))) ∙ so_far
 
 pub stops : {A : Type 0} (processors : ℕ) (f : A → List ℕ) (line : ℕ) (commands : List Event) (items : List A) (i : ℕ)
     (d : A) (r : ScriptError) (total : Result (List Event) ScriptError)
     → i < length items → with_line processors line commands (f (get_or items i d)) ≡ Err r
     → events_from processors line commands (map f (drop i items)) ≡ total → total ≡ Err r
 stops processors f line commands items i d r total inside e so_far =
-    sym so_far ∙ ap (events_from processors line commands) (front_line f items i d inside)
+    sym so_far ∙ ap (events_from processors line commands) (ap (map f) (drop_more items i d inside))
     ∙ line_refused processors line commands (f (get_or items i d)) (map f (drop (i + 1) items)) r e
 
 pub is_done : {A : Type 0} (processors : ℕ) (f : A → List ℕ) (line : ℕ) (commands : List Event) (items : List A) (i : ℕ)

@@ -1,7 +1,7 @@
 -- Reading the lines of a script one after the other, as a loop does.
 use Rattle.std.proofs.Common.{◌≡◌, ◌∙◌, refl, sym, ap, ℕ, ◌+◌, ◌<◌, ◌≤◌, List, [], ◌∷◌, length, map, drop, get_or}
-use Rattle.std.proofs.Common.{length-drop, Result, Ok, Err, add-one, drop-cons, arith}
-use Rattle.std.proofs.lemmas.List.{nil_from_length, length-map}
+use Rattle.std.proofs.Common.{length-drop, Result, Ok, Err, arith}
+use Rattle.std.proofs.lemmas.List.{nil_from_length, length-map, drop_more}
 use Rattle.std.proofs.lemmas.List.Splits.{length-slice_split}
 use Rattle.std.proofs.lemmas.List.Sums.{count_by-le-length}
 use Rattle.std.specs.Prelude.{nat_eq}
@@ -15,10 +15,6 @@ pub fails_with : (e : ScriptError) (inner whole : Result (List Command) ScriptEr
     → ((r : ScriptError) → inner ≡ Err r → whole ≡ Err r) → Fails e inner → Fails e whole
 fails_with NoMemory inner whole go f = tt
 fails_with (BadCommand line) inner whole go f = go (BadCommand line) f
-
-front_line : {A : Type 0} (f : A → List ℕ) (items : List A) (i : ℕ) (d : A) → i < length items
-    → map f (drop i items) ≡ f (get_or items i d) ∷ map f (drop (i + 1) items)
-front_line f items i d more = rw (add-one, drop-cons items i d) refl
 
 line_read : (line : ℕ) (commands more : List Command) (text : List ℕ) (texts : List (List ℕ))
     → with_line line commands text ≡ Ok more
@@ -42,14 +38,14 @@ pub goes_on : {A : Type 0} (f : A → List ℕ) (line : ℕ) (commands more : Li
     → commands_from (line + 1) more (map f (drop (i + 1) items)) ≡ total
 goes_on f line commands more items i d total inside e so_far =
     sym (line_read line commands more (f (get_or items i d)) (map f (drop (i + 1) items)) e)
-    ∙ ap (commands_from line commands) (sym (front_line f items i d inside)) ∙ so_far
+    ∙ ap (commands_from line commands) (sym (ap (map f) (drop_more items i d inside))) ∙ so_far
 
 pub stops : {A : Type 0} (f : A → List ℕ) (line : ℕ) (commands : List Command) (items : List A) (i : ℕ) (d : A)
     (r : ScriptError) (total : Result (List Command) ScriptError)
     → i < length items → with_line line commands (f (get_or items i d)) ≡ Err r
     → commands_from line commands (map f (drop i items)) ≡ total → total ≡ Err r
 stops f line commands items i d r total inside e so_far =
-    sym so_far ∙ ap (commands_from line commands) (front_line f items i d inside)
+    sym so_far ∙ ap (commands_from line commands) (ap (map f) (drop_more items i d inside))
     ∙ line_refused line commands (f (get_or items i d)) (map f (drop (i + 1) items)) r e
 
 pub is_done : {A : Type 0} (f : A → List ℕ) (line : ℕ) (commands : List Command) (items : List A) (i : ℕ)

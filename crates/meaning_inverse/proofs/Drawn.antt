@@ -19,6 +19,7 @@ use Rattle.meaning_inverse.proofs.Undone.{SameOn}
 use Rattle.meaning_inverse.proofs.Moves.{live_written}
 use Rattle.meaning_inverse.proofs.Calls.{frame_alike}
 use Rattle.meaning_inverse.proofs.Places.{dropped, added, made, not_drawn, block_without}
+use Rattle.std.proofs.lemmas.Option.{same_Some}
 
 -- two numbers change places
 abbrev swap_number : ℕ → ℕ → ℕ → ℕ
@@ -135,9 +136,6 @@ none_mapped : (f : Object → Object) (o : Option Object) → option_map f o ≡
 none_mapped f None e = refl
 none_mapped f (Some o) e = cc
 
-inner : {A : Type 0} (x y : A) → Some x ≡ Some y → x ≡ y
-inner x y e = ap (λ o. elim o as (λ _. _) [ Some z ↦ z | None ↦ x ]) e
-
 values_alike : (f g : ℕ → ℕ) (cells : List Value) → ((i n : ℕ) → slice_get cells i ≡ Some (Name n) → f n ≡ g n)
     → map (renamed f) cells ≡ map (renamed g) cells
 values_alike f g [] h = refl
@@ -166,7 +164,7 @@ retaken h log name order block given book e takes = by (place h log) refl e
           at = at;
           was = f;
           is = ap (after_request (Taken name order)) f ∙ ap (λ b. with_block name at.blocks (take b order))
-              (inner at.book given g) ∙ ap (with_block name at.blocks) takes;
+              (same_Some at.book given g) ∙ ap (with_block name at.blocks) takes;
         }
 
 pub record Redrawn (h : ℕ) (f : Names) (a b b' : State) (cell : Cell) (size : ℕ) (head : Head) (cells : List Value) :

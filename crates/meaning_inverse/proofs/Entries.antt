@@ -39,7 +39,7 @@ use Rattle.meaning_reached.proofs.meaning_sound_laws.Removal.{reference, one_nam
 use Rattle.meaning_reached.specs.class_rules.Program.{with_parameters}
 use Rattle.meaning_inverse.proofs.Ground.{entered}
 use Rattle.meaning_reached.proofs.meaning_sound_laws.Invocations.{IsCall, begun_sound, body_checks, body_plain, means_callee, more, callee}
-use Rattle.std.proofs.lemmas.Bool.{or_left}
+use Rattle.std.proofs.lemmas.Bool.{or_left, and_parts}
 use Rattle.meaning_reached.proofs.meaning_sound_laws.Calls.{receiver_parts, call_parts, all_mean, args_have, apart_cells, all_apart_cells}
 use Rattle.meaning_reached.proofs.meaning_sound_laws.Calls.{all_own_cells, meant_own, apart_after, all_apart_after}
 use Rattle.meaning_reached.proofs.meaning_sound_laws.Keeping.{exec_keeps}
@@ -63,11 +63,6 @@ under setting C l = record {
   inside = C.inside;
   means = means_under l C.locals C.shape C.means;
 }
-
-and_true : (a b : Bool) → a && b ≡ true → (a ≡ true) × (b ≡ true)
-and_true true true e = (refl, refl)
-and_true true false e = cc
-and_true false b e = cc
 
 module _ (setting : Setting) (classes : KnowsClasses setting.program) (C : Context setting) where
   abbrev program : Source
@@ -118,7 +113,7 @@ module _ (setting : Setting) (classes : KnowsClasses setting.program) (C : Conte
       (local_in_own_expression at)) _ c.1 in
       let apart = neither_true (occurs var.name.text value) (occurs var.name.text end_value)
       (was_held _ (local_in_own_expression at) d.0) in
-      let same = and_true (same_type var.kind end_var.kind) (bytes_eq var.name.text end_var.name.text)
+      let same = and_parts (same_type var.kind end_var.kind) (bytes_eq var.name.text end_var.name.text)
       (was_held _ (type_differs end_var.name.at) c.0) in
       (apart.0, apart.1, sym (same_name var.name.text end_var.name.text same.1))
 

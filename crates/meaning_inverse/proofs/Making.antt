@@ -44,6 +44,7 @@ use Rattle.meaning_inverse.proofs.Apart.{item_typed}
 use Rattle.meaning_inverse.proofs.Apart.{place_apart, cell_kind_of}
 use Rattle.meaning_inverse.proofs.Facts.{no_own_element, VariableSame, length_of_array, length_then, place_stays}
 use Rattle.meaning_inverse.proofs.Facts.{variable_apart, variable_written, variable_then}
+use Rattle.std.proofs.lemmas.Bool.{and_parts}
 
 -- ---- zeros of a type
 
@@ -53,11 +54,6 @@ zero_of (Word w) false e z = cc
 zero_of Nil true e z = cc
 zero_of Nil false e z = refl
 zero_of (Name n) t e z = cc
-
-both : (a b : Bool) → a && b ≡ true → (a ≡ true) × (b ≡ true)
-both true true e = (refl, refl)
-both true false e = cc
-both false b e = cc
 
 int_of_type : (program : Source) (k : VarType) → (if is_int (kind_of (table_of program) k) then Word 0 else Nil)
     ≡ zero_value k
@@ -77,7 +73,7 @@ zeros_of program store [] [] h z = refl
 zeros_of program store [] (v ∷ cells) h z = absurd h
 zeros_of program store (var ∷ vars) [] h z = absurd h
 zeros_of program store (var ∷ vars) (v ∷ cells) h z =
-    let parts = both (is_zero v) (all_zero cells) z in
+    let parts = and_parts (is_zero v) (all_zero cells) z in
     ap (λ x. x ∷ cells) (zero_of v (is_int (kind_of_var program var))
     (word_of_kind program store v (kind_of_var program var) h.0) parts.0 ∙ int_of_type program var.kind)
     ∙ ap (λ l. zero_value var.kind ∷ l) (zeros_of program store vars cells h.1 parts.1)
@@ -89,7 +85,7 @@ zeros_alike program store zero k [] h z = refl
 zeros_alike program store zero k (v ∷ cells) h z = absurd h
 zeros_alike program store (suc n) k [] h z = absurd h
 zeros_alike program store (suc n) k (v ∷ cells) h z =
-    let parts = both (is_zero v) (all_zero cells) z in
+    let parts = and_parts (is_zero v) (all_zero cells) z in
     ap (λ x. x ∷ cells) (zero_of v (is_int k) (word_of_kind program store v k h.0) parts.0)
     ∙ ap (λ l. (if is_int k then Word 0 else Nil) ∷ l) (zeros_alike program store n k cells h.1 parts.1)
 

@@ -19,6 +19,7 @@ use Rattle.meaning_inverse.proofs.Cells.{written_same}
 use Rattle.meaning_reached.specs.roopl_semantics.Laws.{HasNamesOnce as IsUnique}
 use Rattle.meaning_inverse.proofs.Later.{IsSound, named_without, named_without_same, later_dropped}
 use Rattle.meaning_inverse.proofs.Seen.{Names, Sees, same_names}
+use Rattle.std.proofs.lemmas.Option.{same_Some}
 
 order_from_least : (tries k words : ℕ) → k ≤ order_from tries k words
 order_from_least zero k words = omega arith
@@ -42,16 +43,13 @@ block_without ((k, b) ∷ blocks) n m e = by (block_without blocks n m e) (nat_e
     by again true f = rw (ap (λ x. nat_eq x m) (eqb-true k n f) ∙ e) refl
     by again false f = ap (λ x. if nat_eq k m then b else x) again
 
-inner : {A : Type 0} (x y : A) → Some x ≡ Some y → x ≡ y
-inner x y e = ap (λ o. elim o as (λ _. _) [ Some z ↦ z | None ↦ x ]) e
-
 given_book : (p q : Option Placing) (n n' o : ℕ) → book_of q ≡ book_of p → block_in q n' ≡ block_in p n
     → book_of (after_request (Given n' o) q) ≡ book_of (after_request (Given n o) p)
 given_book None None n n' o e h = refl
 given_book None (Some q) n n' o e h = cc
 given_book (Some p) None n n' o e h = cc
-given_book (Some p) (Some q) n n' o e h = ap (λ b. Some (give b o (block_of q.blocks n'))) (inner q.book p.book e)
-    ∙ ap (λ k. Some (give p.book o k)) (inner (block_of q.blocks n') (block_of p.blocks n) h)
+given_book (Some p) (Some q) n n' o e h = ap (λ b. Some (give b o (block_of q.blocks n'))) (same_Some q.book p.book e)
+    ∙ ap (λ k. Some (give p.book o k)) (same_Some (block_of q.blocks n') (block_of p.blocks n) h)
 
 given_block : (p q : Option Placing) (n n' m m' o : ℕ) → nat_eq n m ≡ false → nat_eq n' m' ≡ false
     → block_in q m' ≡ block_in p m → block_in (after_request (Given n' o) q) m'

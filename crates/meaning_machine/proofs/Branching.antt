@@ -13,6 +13,7 @@ use Rattle.meaning_machine.specs.Placed.{RunsIn, side, first, again, object, loc
 use Rattle.meaning_machine.specs.Placed.{IsBranchPart, Branches, BranchesStepBack}
 use Rattle.meaning_machine.proofs.Back.{if_entered, if_left, loop_entered, loop_left, loop_again, loop_turned}
 use Rattle.meaning_machine.proofs.Placing.{Ends, ends_after, ends_done}
+use Rattle.std.proofs.lemmas.Bool.{not-false}
 
 -- what holds after a run that is done
 ends_with : {A B : Type 0} (P : B → Type 0) (r : Run A) (f : A → Run B)
@@ -26,10 +27,6 @@ ends_past : {B : Type 0} (P : B → Type 0) (code : ℕ) (b : Bool) (f : Unit {0
     → Ends P (fault_if code b >>= f)
 ends_past P code true f h = tt
 ends_past P code false f h = ends_after P 0 (f tt) (h refl)
-
-is_true : (b : Bool) → not b ≡ false → b ≡ true
-is_true true e = refl
-is_true false e = cc
 
 module _ (setting : Setting) (past : Statements) (params : ℕ) (around : List Open) (st : State) where
   -- a choice or a loop begins
@@ -45,7 +42,7 @@ module _ (setting : Setting) (past : Statements) (params : ℕ) (around : List O
       (evaluated setting.program entry st) _
       (λ v c e. ends_past (StepsBack setting (before past (Then (From at entry one two exit) rest) params around st))
       loop_fault (not (holds v)) _
-      (λ no. loop_entered setting past rest params around st at entry one two exit v c e (is_true (holds v) no)))
+      (λ no. loop_entered setting past rest params around st at entry one two exit v c e (not-false (holds v) no)))
   branch_begins _ rest h = absurd h
 
   -- the block of a choice or a loop is past

@@ -14,8 +14,9 @@ use Rattle.meaning_inverse.proofs.Runs.{Runs, Does, done_then, passes}
 use Rattle.meaning_inverse.proofs.Later.{Ends, ends_on, ends_done}
 use Rattle.meaning_inverse.proofs.Nested.{some_nodes}
 use Rattle.meaning_inverse.proofs.Ground.{Ground}
-use Rattle.meaning_reversed.proofs.Undoing.{is_true, ends_unfailed, ends_valued, unwound_gone, leads, AllBack, Leads}
+use Rattle.meaning_reversed.proofs.Undoing.{ends_unfailed, ends_valued, unwound_gone, leads, AllBack, Leads}
 use Rattle.meaning_reversed.proofs.Undoing.{step_by_step, OnPast, BlocksBack, good_behind}
+use Rattle.std.proofs.lemmas.Bool.{not-false}
 
 module _ (setting : Setting) where
   -- what a choice does, put together
@@ -222,7 +223,7 @@ module _ (setting : Setting) where
           (ends_unfailed loop_fault (not (holds v))) (λ u enters.
           ends_done y 0 (Leads setting k x) (
             leads setting x y refl (loop_entered setting past rest params around st at entry one two exit v
-                (nodes entry) e (is_true (holds v) enters)),
+                (nodes entry) e (not-false (holds v) enters)),
             loop_back k k (let z : k ≤ k = omega arith in z) le st good (λ i li end cost turns.
                 on i li end (nodes entry + cost) (from_does at entry one two exit st end v cost e enters turns)),
           )))

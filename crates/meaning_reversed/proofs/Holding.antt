@@ -21,8 +21,9 @@ use Rattle.meaning_inverse.proofs.Scopes.{value_under, reopened, constructed_inv
 use Rattle.meaning_inverse.proofs.Ground.{Ground}
 use Rattle.meaning_machine.specs.Reversed.{begun_back}
 use Rattle.meaning_reversed.specs.ReverseLaws.{LeadsTo}
-use Rattle.meaning_reversed.proofs.Undoing.{is_true, ends_unfailed, ends_valued, unwound_gone, undone_block}
+use Rattle.meaning_reversed.proofs.Undoing.{ends_unfailed, ends_valued, unwound_gone, undone_block}
 use Rattle.meaning_reversed.proofs.Undoing.{Leads, step_by_step, OnPast, BlocksBack}
+use Rattle.std.proofs.lemmas.Bool.{not-false}
 
 abbrev value_or : Result Value ℕ → Value
 value_or (Ok x) = x
@@ -106,7 +107,7 @@ module _ (setting : Setting) (s : Statement) (name : List ℕ) (value : Expressi
           (runs.by cost (let z : cost ≤ cost = omega arith in z)) in
           reopened name (frame_names st.frame) end later.names
           ∙ ap (λ x. opened name x (closed end)) (is_same_value (read end (Slot 0)) w
-          (is_true (same_value (read end (Slot 0)) w) check))
+          (not-false (same_value (read end (Slot 0)) w) check))
 
       -- the statement, and all that comes after it
       pub scope_back : (k : ℕ) → k ≤ n → (st : State) → IsSound st

@@ -1,7 +1,7 @@
 -- `new` and `delete` undone: the reversed machine leads to exactly the same state, object ids
 -- included.
 use Rattle.std.proofs.Common.{◌≡◌, ℕ, ◌+◌, refl, sym, ap, subst, ◌∙◌, arith, true, false, Bool, not, List, [], ◌∷◌}
-use Rattle.std.proofs.Common.{length, replicate, Some, None, option_map, unwrap_or, Ok, nat_eq, eqb-true}
+use Rattle.std.proofs.Common.{length, replicate, Some, option_map, unwrap_or, Ok, nat_eq, eqb-true}
 use Rattle.std.proofs.Common.{eq-eqb, le-ltb, if◌then◌else◌}
 use Rattle.std.proofs.lemmas.Bool.{lt-ltb, eqb-false}
 use Rattle.meaning_machine.specs.rpp_words.Words.{is_less}
@@ -33,11 +33,9 @@ use Rattle.meaning_inverse.proofs.Drawn.{IsApart}
 use Rattle.meaning_inverse.proofs.Places.{dropped, added, made, not_drawn}
 use Rattle.meaning_inverse.proofs.Heap.{aside, not_false}
 use Rattle.meaning_machine.specs.Reversed.{untaken, put_back, ungiven, undeleted, unmade}
+use Rattle.std.proofs.lemmas.Option.{same_Some}
 
 -- ---- stores
-
-inner : {A : Type 0} (x y : A) → Some x ≡ Some y → x ≡ y
-inner x y e = ap (λ o. elim o as (λ _. _) [ Some z ↦ z | None ↦ x ]) e
 
 -- an object whose object id is above all others comes first
 put_front : (store : Store) (name : ℕ) (object : Object) → Descending name store
@@ -61,7 +59,7 @@ put_where_it_was bound ((n, other) ∷ store) name object d e =
         let same = eqb-true n name f in
         let P : ℕ → Type 0 = λ k. Descending k store in
         put_front store name object (subst P same d.1) ∙ ap (λ k. (k, object) ∷ store) (sym same)
-        ∙ ap (λ o. (n, o) ∷ store) (sym (inner other object h))
+        ∙ ap (λ o. (n, o) ∷ store) (sym (same_Some other object h))
     by again false f h =
         let below = below_bound n store name d.1 (live_named store name object h) in
         ap (λ t. if t then (name, object) ∷ ((n, other) ∷ without store name) else (n, other)

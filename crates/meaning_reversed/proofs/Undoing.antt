@@ -1,5 +1,5 @@
 -- That each of so many steps from a place is undone, and how it is shown: step by step.
-use Rattle.std.proofs.Common.{◌≡◌, ℕ, zero, suc, ◌+◌, ◌≤◌, ◌∙◌, arith, refl, sym, ap, Bool, true, false, not, List}
+use Rattle.std.proofs.Common.{◌≡◌, ℕ, zero, suc, ◌+◌, ◌≤◌, ◌∙◌, arith, refl, sym, ap, Bool, false, List}
 use Rattle.meaning_machine.specs.rpp_tree.Tree.{Expression, Statement, Statements, End, Then, nodes}
 use Rattle.meaning_inverse.specs.inverse_rules.Inverse.{inverse}
 use Rattle.meaning_machine.specs.roopl_semantics.Run.{Run, Done, after_cost, spend, fault_if}
@@ -17,10 +17,6 @@ use Rattle.meaning_machine.specs.Reversed.{back}
 use Rattle.meaning_reversed.specs.ReverseLaws.{LeadsTo, is_over}
 
 -- ---- what holds for the results of runs
-
-pub is_true : (b : Bool) → not b ≡ false → b ≡ true
-is_true true e = refl
-is_true false e = cc
 
 -- a run ends in what it is done with
 pub ends_so : {A : Type 0} (r : Run A) → Ends r (λ a. (c : ℕ) × (r ≡ Done a c))

@@ -1,11 +1,9 @@
 -- The marks of fragments on the cells of the image that is linked of them.
 use Rattle.std.proofs.Common.{◌≡◌, ℕ, zero, suc, ◌+◌, ◌≤◌, ◌<◌, true, List, [], ◌∷◌, ◌++◌, length, refl, sym, ap}
 use Rattle.std.proofs.Common.{◌∙◌, subst, arith, length-append, append_assoc, take, drop, get_or}
-use Rattle.std.specs.Prelude.{nat_le}
 use Rattle.std.specs.List.{list_all}
 use Rattle.std.specs.List.Sorted.{IsPermutation}
-use Rattle.std.proofs.lemmas.Bool.{and_from}
-use Rattle.std.proofs.lemmas.Bool.Decides.{nat_tests}
+use Rattle.std.proofs.lemmas.Bool.{and_from, le-leb}
 use Rattle.std.proofs.lemmas.List.Sums.{AllPass-from_list_all, list_all-from_AllPass}
 use Rattle.std.proofs.lemmas.List.Sorted.{length_permutation, All-permutation}
 use Rattle.code_conventions.specs.pisa_isa.declared.notes.TheConstants.{MOST_MARKS, LAST_PLACE}
@@ -115,15 +113,12 @@ link_within main bs h k =
     (moved 1 (length main.cells) m main.marks (omega arith) h)
     (routines_within (1 + length main.cells + 1) m bs (omega arith) k)
 
-le_test : (a b : ℕ) → a ≤ b → nat_le a b ≡ true
-le_test a b h = grind (arith, nat_tests)
-
 each_fits : (n : ℕ) (ks : List Mark) → AllWithin n ks → list_all (mark_fits n) ks ≡ true
 each_fits n [] h = refl
 each_fits n (k ∷ ks) h =
     and_from (mark_fits n k) (list_all (mark_fits n) ks)
-    (and_from (is_within n k) _ (and_from _ _ (le_test k.first k.end h.0) (le_test k.end n h.1.0))
-    (le_test k.at LAST_PLACE h.1.1)) (each_fits n ks h.2)
+    (and_from (is_within n k) _ (and_from _ _ (le-leb k.first k.end h.0) (le-leb k.end n h.1.0))
+    (le-leb k.at LAST_PLACE h.1.1)) (each_fits n ks h.2)
 
 abbrev notes : List Mark → List FieldName → NoteLists
 notes marks names = record { marks = marks; names = names }
@@ -148,7 +143,7 @@ linked_fits main bs image marks names code few same none h k =
     (AllPass-from_list_all (mark_fits (length image.code)) (link_marks main bs) all)) in
     let Fit : List FieldName → Type 0 = λ ns. fits image (notes marks ns) ≡ true in
     subst Fit (sym none) (fits_by image (notes marks []) (record {
-      few_marks = le_test (length marks) MOST_MARKS (omega arith);
+      few_marks = le-leb (length marks) MOST_MARKS (omega arith);
       each_mark = each;
       few_names = refl;
       names = refl;

@@ -5,7 +5,7 @@ use Rattle.std.specs.Prelude.{nat_le, nat_lt, ◌&&◌}
 use Rattle.std.specs.List.{All, flat_map, list_all, AllByRecursion}
 use Rattle.std.proofs.lemmas.List.Elements.{All-from_recursion}
 use Rattle.std.specs.Char.{is_ascii_alphabetic}
-use Rattle.std.proofs.lemmas.Bool.{and_parts, and_from}
+use Rattle.std.proofs.lemmas.Bool.{and_parts, and_from, le-leb}
 use Rattle.std.proofs.lemmas.Bool.Decides.{nat_tests}
 use Rattle.std.proofs.lemmas.List.{append-nil}
 use Rattle.std.proofs.lemmas.List.Concat.{flat_map-cons}
@@ -42,9 +42,6 @@ between_takes low high at bytes x fits e =
     let p = and_parts (nat_le low x.0) (nat_le x.0 high) t.2 in
     record { takes = t.0; from = grind (arith, nat_tests); to = grind (arith, nat_tests) }
 
-le_test : (a b : ℕ) → a ≤ b → nat_le a b ≡ true
-le_test a b h = grind (arith, nat_tests)
-
 from_le_test : (a b : ℕ) → nat_le a b ≡ true → a ≤ b
 from_le_test a b h = grind (arith, nat_tests)
 
@@ -58,7 +55,7 @@ pub between_again : (low high at n : ℕ) (rest : List ℕ) → low ≤ n → n 
     → number_between low high at (word_bytes n ++ rest) ≡ Ok (n, rest)
 between_again low high at n rest from to word =
     tested_again (λ k. nat_le low k && nat_le k high) (ImageField at) at n rest word
-    (and_from _ _ (le_test low n from) (le_test n high to))
+    (and_from _ _ (le-leb low n from) (le-leb n high to))
 
 -- marks
 
@@ -81,7 +78,7 @@ mark_takes cells at bytes x fits e =
     let ab = takes_then bytes (word_bytes a.0.0) a.0.1 (word_bytes b.0.0) b.0.1 ta.takes tb.takes in
     let abc = takes_then bytes (word_bytes a.0.0 ++ word_bytes b.0.0) b.0.1 (word_bytes c.0.0) c.0.1 ab tc.takes in
     let fit : mark_fits cells mark ≡ true = and_from (is_within cells mark) _
-    (and_from _ _ (le_test _ _ tb.from) (le_test _ _ tb.to)) (le_test _ _ tc.to) in
+    (and_from _ _ (le-leb _ _ tb.from) (le-leb _ _ tb.to)) (le-leb _ _ tc.to) in
     subst (λ (y : Mark × List ℕ). Takes bytes (mark_bytes y.0) y.1 × (mark_fits cells y.0 ≡ true)) (ok_is made x c.2)
     (abc, fit)
 
@@ -227,8 +224,8 @@ name_takes statics left at bytes x fits e =
     let most = tb.to in
     let len = tc.len in
     let fit : name_fits statics left name ≡ true =
-    and_from _ _ (and_from _ _ (and_from _ _ (le_test FIXED_CELLS a.0.0 from)
-    (lt_test (a.0.0 - FIXED_CELLS) statics (omega arith))) (le_test (length c.0.0) left (omega arith))) tc.name
+    and_from _ _ (and_from _ _ (and_from _ _ (le-leb FIXED_CELLS a.0.0 from)
+    (lt_test (a.0.0 - FIXED_CELLS) statics (omega arith))) (le-leb (length c.0.0) left (omega arith))) tc.name
     in
     subst (NameRead statics left bytes) (ok_is made x c.2) (record { takes = abc; fit = fit })
 
@@ -423,8 +420,8 @@ notes_take cells statics at bytes x fits e =
     let marks_len = tb.len in
     let names_len = td.len in
     let fit : notes_fit cells statics notes ≡ true =
-    and_from _ _ (and_from (marks_fit cells b.0.0) _ (and_from _ _ (le_test (length b.0.0) MOST_MARKS (omega arith))
-    tb.fit) (le_test (length d.0.0) MOST_NAMES (omega arith))) td.fit in
+    and_from _ _ (and_from (marks_fit cells b.0.0) _ (and_from _ _ (le-leb (length b.0.0) MOST_MARKS (omega arith))
+    tb.fit) (le-leb (length d.0.0) MOST_NAMES (omega arith))) td.fit in
     subst (NotesRead cells statics bytes) (ok_is made x d.2) (record { takes = all; fit = fit })
 
 -- the offset after notes

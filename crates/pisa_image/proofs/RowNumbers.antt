@@ -2,7 +2,7 @@
 use Rattle.std.proofs.Common.{◌≡◌, refl, ap, ℕ, zero, suc, ◌+◌, ◌-◌, arith, Bool, true, false, cond, List, [], ◌∷◌}
 use Rattle.std.proofs.Common.{Option, Some, None}
 use Rattle.std.specs.Prelude.{nat_eq, ◌&&◌, slice_get}
-use Rattle.std.proofs.lemmas.Bool.{eqb-true}
+use Rattle.std.proofs.lemmas.Bool.{eqb-true, and_parts}
 use Rattle.std.proofs.lemmas.Bool.Decides.{nat_tests}
 use Rattle.pisa_isa.specs.declared.cell.Op.{Op}
 use Rattle.pisa_isa.specs.declared.cell.Op.TheVariants.{Add, Sub, Xor, Neg, Addi, Xori, Rl, Rr, Rlv, Rrv, Andx, Orx}
@@ -57,10 +57,6 @@ count_up : ℕ → List Op → Bool
 count_up n [] = true
 count_up n (op ∷ rows) = nat_eq (number_of op) n && count_up (suc n) rows
 
-both : (b c : Bool) → (b && c) ≡ true → (b ≡ true) × (c ≡ true)
-both true c e = (refl, e)
-both false c e = absurd cc
-
 numbered : (n : ℕ) (rows : List Op) → count_up n rows ≡ true → Numbered n rows
 unfolding count_up
 numbered n [] e = record { at_place = λ k op s. absurd (nothing k op s) }
@@ -69,7 +65,7 @@ numbered n [] e = record { at_place = λ k op s. absurd (nothing k op s) }
     nothing zero op s = cc
     nothing (suc k) op s = cc
 numbered n (op ∷ rows) e =
-    let g = both (nat_eq (number_of op) n) (count_up (suc n) rows) e in
+    let g = and_parts (nat_eq (number_of op) n) (count_up (suc n) rows) e in
     let rest = numbered (suc n) rows g.1 in
     record { at_place = λ k x s. here k x s (eqb-true (number_of op) n g.0) rest }
   where

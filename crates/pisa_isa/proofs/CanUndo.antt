@@ -1,5 +1,5 @@
 -- What stepping back needs, if a step led here.
-use Rattle.std.proofs.Common.{◌≡◌, ◌≢◌, ◌∙◌, sym, ap, refl, ℕ, ◌^◌, ◌<◌, Bool, true, false, not, cond, arith, List}
+use Rattle.std.proofs.Common.{◌≡◌, ◌≢◌, ◌∙◌, sym, ap, refl, ℕ, ◌^◌, ◌<◌, Bool, true, false, not, arith, List}
 use Rattle.std.proofs.Common.{length, get_or, ℤ, pos, negsuc, ◌+ℤ◌, ◌≤ℤ◌, ◌<ℤ◌, Option, Some, None, length-set}
 use Rattle.std.proofs.lemmas.List.{get_or-set_other}
 use Rattle.std.proofs.lemmas.List.Elements.{All-get_or}
@@ -17,6 +17,7 @@ use Rattle.pisa_isa.specs.Machine.{effect_at, row, row_of, faced, has_cell, fetc
 use Rattle.pisa_isa.proofs.Facing.{has_cell-from_none, IsCell-faced}
 use Rattle.pisa_isa.proofs.Effect.{state, cell}
 use Rattle.pisa_isa.proofs.Back.{Apart-cell, moved-twice, effect-pc, IsCell-fetch}
+use Rattle.rpp_words.proofs.Ranges.{by_test}
 
 -- the step that led here was made at this cell
 pub record CameBy (code : List Cell) (m : State) : Type 0 where
@@ -31,24 +32,19 @@ pub record CameBy (code : List Cell) (m : State) : Type 0 where
 stride_bounds : (br : ℕ) → br < 2 ^ 32 → (pos 0 ≤ℤ (stride br +ℤ pos (2 ^ 31))) × (stride br ≤ℤ pos (2 ^ 31))
 stride_bounds br h = (grind (arith, ints, nat_tests), grind (arith, ints, nat_tests))
 
--- what keeps its range
-taken_word : (t : Bool) (a b : ℕ) → a < 2 ^ 32 → b < 2 ^ 32 → cond t a b < 2 ^ 32
-taken_word true a b h k = h
-taken_word false a b h k = k
-
 row-br : (op : Op) (a b c i : ℕ) (m : State) → IsState m → a < 32 → (row op a b c i m).br < 2 ^ 32
 row-br Swapbr a b c i m s h = All-get_or IsWord m.regs a 0 (omega (arith, s.count)) s.words
 row-br Rbra a b c i m s h = omega arith
 row-br Bra a b c i m s h = omega arith
-row-br Beq a b c i m s h = taken_word (is_taken Beq (get_or m.regs a 0) (get_or m.regs b 0)) _ _ (omega arith) s.br_word
-row-br Bne a b c i m s h = taken_word (is_taken Bne (get_or m.regs a 0) (get_or m.regs b 0)) _ _ (omega arith) s.br_word
-row-br Bgez a b c i m s h = taken_word (is_taken Bgez (get_or m.regs a 0) (get_or m.regs b 0)) _ _ (omega arith)
+row-br Beq a b c i m s h = by_test (is_taken Beq (get_or m.regs a 0) (get_or m.regs b 0)) _ _ (omega arith) s.br_word
+row-br Bne a b c i m s h = by_test (is_taken Bne (get_or m.regs a 0) (get_or m.regs b 0)) _ _ (omega arith) s.br_word
+row-br Bgez a b c i m s h = by_test (is_taken Bgez (get_or m.regs a 0) (get_or m.regs b 0)) _ _ (omega arith)
     s.br_word
-row-br Bgtz a b c i m s h = taken_word (is_taken Bgtz (get_or m.regs a 0) (get_or m.regs b 0)) _ _ (omega arith)
+row-br Bgtz a b c i m s h = by_test (is_taken Bgtz (get_or m.regs a 0) (get_or m.regs b 0)) _ _ (omega arith)
     s.br_word
-row-br Blez a b c i m s h = taken_word (is_taken Blez (get_or m.regs a 0) (get_or m.regs b 0)) _ _ (omega arith)
+row-br Blez a b c i m s h = by_test (is_taken Blez (get_or m.regs a 0) (get_or m.regs b 0)) _ _ (omega arith)
     s.br_word
-row-br Bltz a b c i m s h = taken_word (is_taken Bltz (get_or m.regs a 0) (get_or m.regs b 0)) _ _ (omega arith)
+row-br Bltz a b c i m s h = by_test (is_taken Bltz (get_or m.regs a 0) (get_or m.regs b 0)) _ _ (omega arith)
     s.br_word
 row-br _ a b c i m s h = s.br_word
 

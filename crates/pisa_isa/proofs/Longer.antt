@@ -10,6 +10,7 @@ use Rattle.pisa_isa.specs.Ends.{IsCleanFinish, MeetsEndsOnce}
 use Rattle.pisa_isa.proofs.Keeps.{first_step}
 use Rattle.pisa_isa.proofs.Ends.{finished_at}
 use Rattle.std.proofs.lemmas.Option.{same_Some}
+use Rattle.std.proofs.lemmas.Bool.{and_left}
 
 -- a run that did not use up its steps is the same with more
 
@@ -49,14 +50,6 @@ run-steps code (suc k) n m e h =
     ∙ ap (after_step None m) (run-steps code k n (next code m) e f.1)
     ∙ ap (λ i. record (run code n e) { spent = i }) s
 
--- as many states are visited as steps are counted
-
--- a run that meets START only first and FINISH only last finishes cleanly
-
-not_there : (a b c : Bool) → a ≡ false → ((a && b) && c) ≡ false
-not_there true b c e = absurd (cc)
-not_there false b c e = refl
-
 not_back : (a b c : Bool) → (a ≡ true → b ≡ false) → ((a && b) && c) ≡ false
 not_back true true c h = absurd (let e = h refl in cc)
 not_back true false c h = refl
@@ -65,10 +58,11 @@ not_back false b c h = refl
 forward_there : (code : List Cell) (m : State) → stop code m ≡ Some Finished → m.back ≡ false
 forward_there code m h = (finished_at code m h).1.forward
 
+-- a run that meets START only first and FINISH only last finishes cleanly
 pub clean_of_ends : (code : List Cell) (n : ℕ) (m : State) → (run code n m).why ≡ Finished → MeetsEndsOnce code n m
     → IsCleanFinish code n m
 clean_of_ends code n m fin ends = record {
   finished = fin;
-  begins_once = λ k d h. not_there _ _ _ (ends.start_is_first k d h);
+  begins_once = λ k d h. and_left _ _ (and_left _ _ (ends.start_is_first k d h));
   never_backward = λ k d h. not_back _ _ _ (λ t. forward_there code _ (ends.finish_is_last k d h t));
 }

@@ -9,6 +9,7 @@ use Rattle.pisa_isa.specs.declared.image.TheConstants.{MOST_CELLS, MOST_STATICS}
 use Rattle.pisa_isa.specs.declared.cell.Cell.{Cell}
 use Rattle.pisa_isa.specs.Table.{IsInRange, IsCell, is_one_to_one}
 use Rattle.pisa_isa.specs.Image.{Segments, IsImage, is_start, is_finish, start_of, refusal_by, first_seal_refusal}
+use Rattle.std.proofs.lemmas.Bool.{not-false}
 
 record PassesAll (o : Option ℕ) (starts finishes : ℕ) : Type 0 where
   all_one_to_one : o ≡ None
@@ -30,16 +31,12 @@ none_passes p xs e = none_below (position_or_len p xs) (length xs) e
     none_below : (k n : ℕ) → cond (nat_lt k n) (Some k) None ≡ None → n ≤ k
     none_below k n e = grind (arith, nat_tests)
 
-not_false : (b : Bool) → not b ≡ false → b ≡ true
-not_false true e = refl
-not_false false e = cc
-
 cells_of : (code : List Cell) → All IsInRange code → position (λ c. not (is_one_to_one c)) code ≡ None → All IsCell code
 cells_of code ranges e =
     let all = none_passes (λ c. not (is_one_to_one c)) code e in
     λ k d h. record {
       in_range = ranges k d h;
-      one_to_one = not_false _ (fails_before_first (λ c. not (is_one_to_one c)) code k d (omega arith));
+      one_to_one = not-false _ (fails_before_first (λ c. not (is_one_to_one c)) code k d (omega arith));
     }
 
 pub IsImage-sealed : (code : List Cell) (statics : List ℕ) → length code ≤ MOST_CELLS → length statics ≤ MOST_STATICS

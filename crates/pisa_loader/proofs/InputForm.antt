@@ -1,10 +1,10 @@
 -- What is read from a line is what its form says, and a line of the form is read so.
-use Rattle.std.proofs.Common.{◌≡◌, ◌∙◌, refl, sym, ap, subst, ℕ, suc, ◌+◌, Bool, true, false, not, ◌&&◌, ◌||◌, cond}
+use Rattle.std.proofs.Common.{◌≡◌, ◌∙◌, refl, sym, ap, subst, ℕ, suc, ◌+◌, Bool, true, false, not, ◌||◌, cond}
 use Rattle.std.proofs.Common.{List, [], ◌∷◌, ◌++◌, length, Option, Some, None, arith, inl, inr}
 use Rattle.std.specs.Prelude.{nat_eq, ◌⊎◌}
 use Rattle.std.specs.List.{prefix_len, take_while, list_all}
 use Rattle.std.specs.Option.{option_and_then}
-use Rattle.std.proofs.lemmas.Bool.{eqb-true, false_from_ne_true, true_from_ne_false}
+use Rattle.std.proofs.lemmas.Bool.{eqb-true, false_from_ne_true, true_from_ne_false, and_parts}
 use Rattle.std.proofs.lemmas.Bool.Decides.{nat_tests}
 use Rattle.std.proofs.lemmas.Option.{cond_some}
 use Rattle.std.proofs.lemmas.List.{take_at, drop_at, take-append-drop}
@@ -14,10 +14,6 @@ use Rattle.pisa_loader.specs.InputLines.{is_of, behind, after, word_up_to, digit
 use Rattle.pisa_loader.specs.InputLines.{entry}
 use Rattle.rpp_words.specs.Texts.{decimal_from}
 use Rattle.pisa_loader.specs.InputGrammar.{are_blanks, is_name, is_numeral, sign, Parts, line_of, AreParts, Sets}
-
-both : (b c : Bool) → (b && c) ≡ true → (b ≡ true) × (c ≡ true)
-both true c e = (refl, e)
-both false c e = absurd cc
 
 either : (b c : Bool) → (b || c) ≡ true → (b ≡ true) ⊎ (c ≡ true)
 either true c e = inl refl
@@ -33,7 +29,7 @@ front_is : (p : ℕ → Bool) (xs ys : List ℕ) → list_all p xs ≡ true → 
 front_is p [] [] all s = refl
 front_is p [] (y ∷ ys) all s = rw s refl
 front_is p (x ∷ xs) ys all s =
-    let g = both (p x) (list_all p xs) all in
+    let g = and_parts (p x) (list_all p xs) all in
     let rest : prefix_len p (xs ++ ys) ≡ length xs = front_is p xs ys g.1 s in
     let one : cond (p x) (1 + prefix_len p (xs ++ ys)) 0 ≡ 1 + prefix_len p (xs ++ ys) =
     ap (λ b. cond b (1 + prefix_len p (xs ++ ys)) 0) g.0 in
@@ -77,7 +73,7 @@ blank_not p b s t h = elim (blank_is b h) [ inl x ↦ ap p x ∙ s | inr y ↦ a
 blanks_stop : (p : ℕ → Bool) (xs ys : List ℕ) → p 32 ≡ false → p 9 ≡ false → are_blanks xs ≡ true → Stops p ys
     → Stops p (xs ++ ys)
 blanks_stop p [] ys s t all h = h
-blanks_stop p (x ∷ xs) ys s t all h = blank_not p x s t (both (is_of Blank x) (list_all (is_of Blank) xs) all).0
+blanks_stop p (x ∷ xs) ys s t all h = blank_not p x s t (and_parts (is_of Blank x) (list_all (is_of Blank) xs) all).0
 
 -- a line of the form
 
@@ -86,19 +82,19 @@ letter_in_name b e = rw e refl
 
 name_passes : (name : List ℕ) → is_name name ≡ true → list_all (is_of InName) name ≡ true
 name_passes [] e = refl
-name_passes (b ∷ rest) e = let g = both (is_of Letter b) (list_all (is_of InName) rest) e in
+name_passes (b ∷ rest) e = let g = and_parts (is_of Letter b) (list_all (is_of InName) rest) e in
     rw (letter_in_name b g.0, g.1) refl
 
 name_stops_blanks : (name rest : List ℕ) → is_name name ≡ true → Stops (is_of Blank) (name ++ rest)
 name_stops_blanks [] rest e = absurd cc
 name_stops_blanks (b ∷ name) rest e = not_blank (is_of Letter) b refl refl
-    (both (is_of Letter b) (list_all (is_of InName) name) e).0
+    (and_parts (is_of Letter b) (list_all (is_of InName) name) e).0
 
 begins_with_letter : (name rest : List ℕ) → is_name name ≡ true
     → nat_eq (prefix_len (is_of Letter) (name ++ rest)) 0 ≡ false
 begins_with_letter [] rest e = absurd cc
 begins_with_letter (b ∷ name) rest e =
-    let g = both (is_of Letter b) (list_all (is_of InName) name) e in
+    let g = and_parts (is_of Letter b) (list_all (is_of InName) name) e in
     rw g.0 (not_zero (prefix_len (is_of Letter) (name ++ rest)))
   where
     not_zero : (n : ℕ) → nat_eq (1 + n) 0 ≡ false
@@ -130,7 +126,7 @@ digits_read minus (d ∷ ds) rest e all =
   where
     stops_at : (rest : List ℕ) → are_blanks rest ≡ true → Stops (is_of Digit) rest
     stops_at [] all = tt
-    stops_at (b ∷ bs) all = blank_not (is_of Digit) b refl refl (both (is_of Blank b) (list_all (is_of Blank) bs) all).0
+    stops_at (b ∷ bs) all = blank_not (is_of Digit) b refl refl (and_parts (is_of Blank b) (list_all (is_of Blank) bs) all).0
 
     more : (n k : ℕ) → n ≡ suc k → nat_eq n 0 ≡ false
     more n k e = grind (arith, nat_tests)
@@ -141,7 +137,7 @@ number_read true digits rest e all = digits_read true digits rest e all
 number_read false [] rest e all = absurd cc
 number_read false (d ∷ ds) rest e all =
     let no_minus : nat_eq d 45 ≡ false = false_from_ne_true (nat_eq d 45)
-    (λ h. clash (sym (both (is_of Digit d) (list_all (is_of Digit) ds) e).0 ∙ ap (is_of Digit) (eqb-true d 45 h)))
+    (λ h. clash (sym (and_parts (is_of Digit d) (list_all (is_of Digit) ds) e).0 ∙ ap (is_of Digit) (eqb-true d 45 h)))
     in
     ap (λ b. cond b (digits_word true (ds ++ rest)) (digits_word false (d ∷ (ds ++ rest)))) no_minus
     ∙ digits_read false (d ∷ ds) rest e all
@@ -154,7 +150,7 @@ sign_stops_blanks : (minus : Bool) (digits rest : List ℕ) → is_numeral digit
 sign_stops_blanks true digits rest e = refl
 sign_stops_blanks false [] rest e = absurd cc
 sign_stops_blanks false (d ∷ ds) rest e = not_blank (is_of Digit) d refl refl
-    (both (is_of Digit d) (list_all (is_of Digit) ds) e).0
+    (and_parts (is_of Digit d) (list_all (is_of Digit) ds) e).0
 
 abbrev value_part : Parts → List ℕ
 value_part p = p.behind_sign ++ (sign p.minus ++ (p.digits ++ p.after))

@@ -1,8 +1,8 @@
 -- Reading the lines of an input one after the other, as a loop does.
 use Rattle.std.proofs.Common.{◌≡◌, ◌∙◌, refl, sym, ap, ℕ, ◌+◌, ◌<◌, ◌≤◌, Bool, List, [], ◌∷◌, length, map, drop, get_or}
-use Rattle.std.proofs.Common.{length-drop, Option, Result, Ok, Err, add-one, drop-cons, arith}
+use Rattle.std.proofs.Common.{length-drop, Option, Result, Ok, Err, arith}
 use Rattle.std.specs.List.{slice_split}
-use Rattle.std.proofs.lemmas.List.{nil_from_length, length-map}
+use Rattle.std.proofs.lemmas.List.{nil_from_length, length-map, drop_more}
 use Rattle.std.proofs.lemmas.List.Splits.{length-slice_split}
 use Rattle.std.proofs.lemmas.List.Sums.{count_by-le-length}
 use Rattle.rpp_words.specs.declared.input.FieldWord.{FieldWord}
@@ -27,10 +27,6 @@ pub no_line : (fields : List InputField) (line : ℕ) (words : List FieldWord)
 unfolding words_from
 no_line fields line words = refl
 
-front_line : {A : Type 0} (f : A → List ℕ) (items : List A) (i : ℕ) (d : A) → i < length items
-    → map f (drop i items) ≡ f (get_or items i d) ∷ map f (drop (i + 1) items)
-front_line f items i d more = rw (add-one, drop-cons items i d) refl
-
 pub goes_on : {A : Type 0} (f : A → List ℕ) (fields : List InputField) (line : ℕ)
     (seen words more_words : List FieldWord) (o : Option FieldWord) (items : List A) (i : ℕ) (d : A)
     (total : Result (List FieldWord) LoadError)
@@ -42,7 +38,7 @@ goes_on f fields line seen words more_words o items i d total more same e w so_f
     let read : line_word fields line words (f (get_or items i d)) ≡ Ok o =
     ap (λ (xs : List FieldWord). line_word fields line xs (f (get_or items i d))) (sym same) ∙ e in
     rw w (sym (line_read fields line words (f (get_or items i d)) (map f (drop (i + 1) items)) o read)
-    ∙ ap (words_from fields line words) (sym (front_line f items i d more)) ∙ so_far)
+    ∙ ap (words_from fields line words) (sym (ap (map f) (drop_more items i d more))) ∙ so_far)
 
 pub stops : {A : Type 0} (f : A → List ℕ) (fields : List InputField) (line : ℕ) (seen words : List FieldWord)
     (items : List A) (i : ℕ) (d : A) (r : LoadError) (total : Result (List FieldWord) LoadError)
@@ -51,7 +47,7 @@ pub stops : {A : Type 0} (f : A → List ℕ) (fields : List InputField) (line :
 stops f fields line seen words items i d r total more same e so_far =
     let read : line_word fields line words (f (get_or items i d)) ≡ Err r =
     ap (λ (xs : List FieldWord). line_word fields line xs (f (get_or items i d))) (sym same) ∙ e in
-    sym so_far ∙ ap (words_from fields line words) (front_line f items i d more)
+    sym so_far ∙ ap (words_from fields line words) (ap (map f) (drop_more items i d more))
     ∙ line_refused fields line words (f (get_or items i d)) (map f (drop (i + 1) items)) r read
 
 pub is_done : {A : Type 0} (f : A → List ℕ) (fields : List InputField) (line : ℕ) (words : List FieldWord)

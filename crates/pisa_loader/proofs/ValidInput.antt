@@ -1,10 +1,10 @@
 -- What is read are words for known fields, for none twice.
-use Rattle.std.proofs.Common.{◌≡◌, refl, ap, subst, ℕ, ◌+◌, ◌^◌, Bool, true, false, not, ◌&&◌, ◌||◌, cond, List, []}
+use Rattle.std.proofs.Common.{◌≡◌, refl, ap, subst, ℕ, ◌+◌, ◌^◌, Bool, true, false, not, ◌||◌, cond, List, []}
 use Rattle.std.proofs.Common.{◌∷◌, ◌++◌, Option, Some, None, Result, Ok, Err, arith}
 use Rattle.std.specs.Prelude.{nat_eq, nat_le, nat_lt, IfOk, IsTrue}
 use Rattle.std.specs.List.{All, list_all, slice_split}
 use Rattle.std.specs.Str.{bytes_eq}
-use Rattle.std.proofs.lemmas.Bool.{eq-eqb}
+use Rattle.std.proofs.lemmas.Bool.{eq-eqb, and_parts}
 use Rattle.std.proofs.lemmas.Bool.Decides.{nat_tests}
 use Rattle.std.proofs.lemmas.Option.{cond_some}
 use Rattle.std.proofs.lemmas.List.Elements.{All-append, All-cons}
@@ -100,10 +100,6 @@ apart : (b c : Bool) → (b || c) ≡ false → (b ≡ false) × (c ≡ false)
 apart true c e = absurd cc
 apart false c e = (refl, e)
 
-parts : (b c : Bool) → (b && c) ≡ true → (b ≡ true) × (c ≡ true)
-parts true c e = (refl, e)
-parts false c e = absurd cc
-
 set_more : (words : List FieldWord) (r : FieldWord) (field : ℕ) → is_set words field ≡ false
     → nat_eq r.field field ≡ false → is_set (words ++ r ∷ []) field ≡ false
 set_more [] r field e d = rw d refl
@@ -117,7 +113,7 @@ once_more : (words : List FieldWord) (r : FieldWord) → set_none_twice words �
     → set_none_twice (words ++ r ∷ []) ≡ true
 once_more [] r e s = refl
 once_more (x ∷ words) r e s =
-    let g = parts (not (is_set words x.field)) (set_none_twice words) e in
+    let g = and_parts (not (is_set words x.field)) (set_none_twice words) e in
     let h = apart (nat_eq x.field r.field) (is_set words r.field) s in
     let free : is_set (words ++ r ∷ []) x.field ≡ false =
     set_more words r x.field (unset (is_set words x.field) g.0) (turn_ne x.field r.field h.0) in

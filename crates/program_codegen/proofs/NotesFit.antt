@@ -4,7 +4,7 @@ use Rattle.std.proofs.Common.{List, [], ◌∷◌, length, arith, lit≤, length
 use Rattle.std.specs.Prelude.{sum_by, nat_le, nat_lt, ◌&&◌, if◌then◌else◌}
 use Rattle.std.specs.List.{list_all}
 use Rattle.std.specs.Char.{is_ascii_alphabetic}
-use Rattle.std.proofs.lemmas.Bool.{and_from}
+use Rattle.std.proofs.lemmas.Bool.{and_from, le-leb}
 use Rattle.std.proofs.lemmas.Bool.Decides.{nat_tests}
 use Rattle.std.proofs.lemmas.List.{length-replicate}
 use Rattle.std.proofs.lemmas.List.Elements.{All-tail, All-weaker}
@@ -31,9 +31,6 @@ use Rattle.refine_program.specs.roopl_semantics.StandsFor.{StandsFor}
 use Rattle.refine_program.proofs.roopl_semantics_laws.MainPlace.{class_inside}
 use Rattle.program_codegen.specs.Notes.{field_names, HasMarks, AreNotes}
 use Rattle.program_codegen.proofs.FieldSums.{field_count, name_count, field_names_sum}
-
-at_most : (a b : ℕ) → a ≤ b → nat_le a b ≡ true
-at_most a b h = grind (arith, nat_tests)
 
 -- ---- names
 
@@ -85,9 +82,9 @@ each_name statics left cell (var ∷ vars) low within few named =
         and_from (nat_le FIXED_CELLS cell && nat_lt (cell - FIXED_CELLS) statics && nat_le (length var.name.text) left)
         (is_name var.name.text)
         (and_from (nat_le FIXED_CELLS cell && nat_lt (cell - FIXED_CELLS) statics) (nat_le (length var.name.text) left)
-        (and_from (nat_le FIXED_CELLS cell) (nat_lt (cell - FIXED_CELLS) statics) (at_most FIXED_CELLS cell low)
+        (and_from (nat_le FIXED_CELLS cell) (nat_lt (cell - FIXED_CELLS) statics) (le-leb FIXED_CELLS cell low)
         (let h : cell - FIXED_CELLS < statics = omega arith in grind (arith, nat_tests)))
-        (at_most (length var.name.text) left (omega (arith, sizes))))
+        (le-leb (length var.name.text) left (omega (arith, sizes))))
         (is_one (is_name var.name.text) (omega (arith, names)))
 
     by : (b : Bool) → ((less : ℕ) → sum_by (field_count length) vars ≤ less
@@ -126,7 +123,7 @@ notes_fit program image notes accepted fit stands few =
     fits_by image (record { marks = notes.marks; names = field_names FIRST_FIELD fields }) (record {
       few_marks = before.few_marks;
       each_mark = before.each_mark;
-      few_names = at_most (length (field_names FIRST_FIELD fields)) MOST_NAMES
+      few_names = le-leb (length (field_names FIRST_FIELD fields)) MOST_NAMES
           (omega (arith, length-field_names FIRST_FIELD fields, few));
       names = each_name (length image.statics) MOST_NAME_BYTES FIRST_FIELD fields (lit≤ tt) (omega (arith, long))
           (omega (arith, bytes, limits.name_bytes)) (omega (arith, names, none));

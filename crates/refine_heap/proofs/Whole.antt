@@ -15,7 +15,7 @@ use Rattle.buddy_pisa.specs.rpp_words.Words.{IsWord}
 use Rattle.buddy_pisa.specs.buddy_book.Shown.{TakenBlocks, is_sound_list, is_sound, weight, taken_weight, IsKept, cover}
 use Rattle.buddy_pisa.specs.buddy_book.Shown.{first_address}
 use Rattle.buddy_pisa.specs.buddy_book.Place.{Placing}
-use Rattle.buddy_pisa.proofs.buddy_book_laws.TakeGive.{both, sound_head}
+use Rattle.buddy_pisa.proofs.buddy_book_laws.TakeGive.{sound_head}
 use Rattle.buddy_pisa.proofs.buddy_book_laws.Kept.{cover-additive}
 use Rattle.roopl_semantics.specs.Store.{Store, object_at, main_name}
 use Rattle.roopl_semantics.specs.Layout.{overlaid, object_words, with_book, with_objects, heap_words, static_words}
@@ -26,6 +26,7 @@ use Rattle.refine_heap.proofs.Overlays.{overlaid_length, overlaid_before, overla
 use Rattle.refine_heap.proofs.Overlays.{FitList, FitLists, lists_agree, book_other, book_linked}
 use Rattle.std.proofs.lemmas.Nat.{pow_pos}
 use Rattle.buddy_pisa.specs.rpp_words.declared.input.TheConstants.{FIXED_CELLS, MOST_HEAP}
+use Rattle.std.proofs.lemmas.Bool.{and_parts}
 
 -- ---- the objects
 
@@ -69,7 +70,7 @@ sound_fit top size (block ∷ free) h = let s = sound_head top size block free h
 sound_fits : (top size : ℕ) (book : Book) → is_sound top size book ≡ true → FitLists top size book
 sound_fits top size [] h = tt
 sound_fits top size (free ∷ higher) h =
-    let b = both (is_sound_list top size free) _ h in
+    let b = and_parts (is_sound_list top size free) _ h in
     (sound_fit top size free b.0, sound_fits top (2 * size) higher b.1)
 
 record Heap (base size : ℕ) (book : Book) (words : List ℕ) : Type 0 where

@@ -1,7 +1,7 @@
 -- Reading names one after the other, as a loop does.
 use Rattle.std.proofs.Common.{◌≡◌, ◌∙◌, refl, sym, ap, ℕ, ◌+◌, ◌<◌, ◌≤◌, List, [], ◌∷◌, length, map, drop, get_or}
-use Rattle.std.proofs.Common.{length-drop, Result, Ok, Err, add-one, drop-cons, arith}
-use Rattle.std.proofs.lemmas.List.{nil_from_length}
+use Rattle.std.proofs.Common.{length-drop, Result, Ok, Err, arith}
+use Rattle.std.proofs.lemmas.List.{nil_from_length, drop_more}
 use Rattle.pisa_loader.specs.declared.input.InputField.{InputField}
 use Rattle.wrap_commands.specs.declared.error.NamesError.{NamesError}
 use Rattle.wrap_commands.specs.declared.error.NamesError.TheVariants.{UnknownResult, NoMemory}
@@ -28,10 +28,6 @@ no_name : (fields results : List InputField) → results_from fields results [] 
 unfolding results_from
 no_name fields results = refl
 
-front_name : {A : Type 0} (f : A → List ℕ) (items : List A) (i : ℕ) (d : A) → i < length items
-    → map f (drop i items) ≡ f (get_or items i d) ∷ map f (drop (i + 1) items)
-front_name f items i d more = rw (add-one, drop-cons items i d) refl
-
 pub goes_on : {A : Type 0} (f : A → List ℕ) (fields seen results more : List InputField) (items : List A) (i : ℕ)
     (d : A) (total : Result (List InputField) NamesError)
     → i < length items → seen ≡ results → with_result seen (field_of_name fields (f (get_or items i d))) ≡ Ok more
@@ -41,7 +37,7 @@ goes_on f fields seen results more items i d total inside same e so_far =
     let read : with_result results (field_of_name fields (f (get_or items i d))) ≡ Ok more =
     ap (λ (xs : List InputField). with_result xs (field_of_name fields (f (get_or items i d)))) (sym same) ∙ e in
     sym (name_read fields results more (f (get_or items i d)) (map f (drop (i + 1) items)) read)
-    ∙ ap (results_from fields results) (sym (front_name f items i d inside)) ∙ so_far
+    ∙ ap (results_from fields results) (sym (ap (map f) (drop_more items i d inside))) ∙ so_far
 
 pub stops : {A : Type 0} (f : A → List ℕ) (fields seen results : List InputField) (items : List A) (i : ℕ) (d : A)
     (r : NamesError) (total : Result (List InputField) NamesError)
@@ -50,7 +46,7 @@ pub stops : {A : Type 0} (f : A → List ℕ) (fields seen results : List InputF
 stops f fields seen results items i d r total inside same e so_far =
     let read : with_result results (field_of_name fields (f (get_or items i d))) ≡ Err r =
     ap (λ (xs : List InputField). with_result xs (field_of_name fields (f (get_or items i d)))) (sym same) ∙ e in
-    sym so_far ∙ ap (results_from fields results) (front_name f items i d inside)
+    sym so_far ∙ ap (results_from fields results) (ap (map f) (drop_more items i d inside))
     ∙ name_refused fields results (f (get_or items i d)) (map f (drop (i + 1) items)) r read
 
 pub is_done : {A : Type 0} (f : A → List ℕ) (fields results : List InputField) (items : List A) (i : ℕ)
