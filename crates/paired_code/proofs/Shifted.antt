@@ -10,8 +10,8 @@ use Rattle.code_conventions.specs.pisa_isa.declared.notes.TheConstants.{MOST_MAR
 use Rattle.code_conventions.specs.pisa_isa.declared.notes.Mark.{Mark}
 use Rattle.code_conventions.specs.pisa_isa.declared.notes.FieldName.{FieldName}
 use Rattle.code_conventions.specs.pisa_isa.Image.{Segments}
-use Rattle.code_conventions.specs.pisa_isa.Notes.{NoteLists, is_within, mark_fits, fits}
-use Rattle.code_conventions.proofs.pisa_isa_laws.Noting.{fits_by}
+use Rattle.code_conventions.specs.pisa_isa.Notes.{is_within, mark_fits, fits}
+use Rattle.code_conventions.proofs.pisa_isa_laws.Noting.{fits_by, notes}
 use Rattle.paired_code.specs.Link.{routines_size, link_code, link_size}
 use Rattle.paired_code.specs.Code.{Code, AllWithin, EachWithin, shift, bodies, routine_marks, link_marks}
 use Rattle.paired_code.specs.Code.{marks_size}
@@ -119,9 +119,6 @@ each_fits n (k ∷ ks) h =
     and_from (mark_fits n k) (list_all (mark_fits n) ks)
     (and_from (is_within n k) _ (and_from _ _ (le-leb k.first k.end h.0) (le-leb k.end n h.1.0))
     (le-leb k.at LAST_PLACE h.1.1)) (each_fits n ks h.2)
-
-abbrev notes : List Mark → List FieldName → NoteLists
-notes marks names = record { marks = marks; names = names }
 
 -- the marks fit the image, in whatever order
 pub linked_fits : (main : Code) (bs : List Code) (image : Segments) (marks : List Mark) (names : List FieldName)

@@ -13,7 +13,7 @@ use Rattle.pisa_isa.specs.declared.notes.Mark.{Mark}
 use Rattle.pisa_isa.specs.declared.notes.FieldName.{FieldName}
 use Rattle.pisa_isa.specs.Image.{Segments}
 use Rattle.pisa_isa.specs.Notes.{NoteLists, no_notes, is_name, mark_fits, name_fits, names_fit, fits}
-use Rattle.pisa_isa.proofs.Noting.{fitting, fits_by}
+use Rattle.pisa_isa.proofs.Noting.{fitting, fits_by, notes}
 use Rattle.pisa_asm.specs.declared.error.AsmError.TheVariants.{BadNote}
 use Rattle.pisa_asm.specs.Numerals.{unsigned_number}
 use Rattle.pisa_asm.specs.Mnemonics.{mark_word, name_word}
@@ -93,10 +93,6 @@ pub name_complete : (words : List (List ℕ)) (n : FieldName) (t : NameText word
 name_complete words n t = rw (unsigned_complete t.cell n.cell t.is_cell, t.is_text) refl
 
 -- notes put together
-
-abbrev pub notes : List Mark → List FieldName → NoteLists
-notes marks names = record { marks = marks; names = names }
-
 same_notes : (m m' : List Mark) (n n' : List FieldName) → m ≡ m' → n ≡ n' → notes m n ≡ notes m' n'
 same_notes m m' n n' e f = ap (λ ms. notes ms n) e ∙ ap (λ ns. notes m' ns) f
 

@@ -19,7 +19,7 @@ use Rattle.pisa_isa.specs.Image.{Segments, IsImage}
 use Rattle.pisa_isa.specs.Notes.{NoteLists, NotedImage, no_notes, is_name, is_within, mark_fits, name_fits, names_fit}
 use Rattle.pisa_isa.specs.Notes.{fits}
 use Rattle.pisa_isa.proofs.Ranges.{a_below, b_below, c_below, imm_word}
-use Rattle.pisa_isa.proofs.Noting.{fitting}
+use Rattle.pisa_isa.proofs.Noting.{fitting, notes}
 use Rattle.pisa_asm.specs.declared.item.Item.{Item}
 use Rattle.pisa_asm.specs.declared.item.Item.TheVariants.{Code, Static, Marked, Named}
 use Rattle.pisa_asm.specs.Lines.{lines_of, content_of, words_of}
@@ -35,7 +35,7 @@ use Rattle.pisa_asm.proofs.Spelling.{mark_spaced, name_spaced, mnemonic_word, op
 use Rattle.pisa_asm.proofs.Spelling.{mark_is_words, name_is_words, both}
 use Rattle.pisa_asm.proofs.Respacing.{IsSpacedLine, spaced_line, line_front}
 use Rattle.pisa_asm.proofs.Rereading.{item_read, static_read, mark_read, name_read, no_label}
-use Rattle.pisa_asm.proofs.Noting.{notes, same_fits, fits_front, names_joined, marks_joined}
+use Rattle.pisa_asm.proofs.Noting.{same_fits, fits_front, names_joined, marks_joined}
 
 -- a line without labels that reads as an item
 record ReadsAs (line : List ℕ) (item : Item) : Type 0 where

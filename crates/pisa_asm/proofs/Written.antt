@@ -46,6 +46,7 @@ use Rattle.pisa_asm.proofs.Noting.{mark_sound, mark_complete, name_sound, name_c
 use Rattle.pisa_asm.proofs.Noting.{marks_joined, names_joined, same_fits, fits_front, passed, let_pass}
 use Rattle.pisa_asm.proofs.Labeling.{Split, split_sound, NoLabels, item_no_labels, after_complete, names_complete}
 use Rattle.pisa_asm.proofs.Labeling.{placed, Placed, labels_sound, labels_complete, new-append, new_front, new_behind}
+use Rattle.pisa_isa.proofs.Noting.{noted as noted_image}
 
 -- what follows the labels, as it is read and as it is written
 
@@ -354,9 +355,6 @@ noted_fits number image before behind (line ∷ lines) f h =
     behind h in
     let t = ok_then (noted_item number image before k.0) (λ longer. noted (number + 1) image longer lines) behind k.2 in
     noted_fits (number + 1) image t.0 behind lines (item_fits_on number image before t.0 k.0 f t.1) t.2
-
-abbrev noted_image : Segments → NoteLists → NotedImage
-noted_image image notes = record { image = image; notes = notes }
 
 abbrev with_notes : List (List ℕ) → Segments → Result NotedImage AsmError
 with_notes lines image = and_then (noted 1 image no_notes lines) (λ notes. Ok (noted_image image notes))

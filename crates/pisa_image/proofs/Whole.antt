@@ -1,14 +1,14 @@
 -- What is read as an image is its bytes, and its bytes are read as it.
-use Rattle.std.proofs.Common.{◌≡◌, ℕ, ◌+◌, ◌*◌, ◌<◌, ◌≤◌, Bool, true, false, cond, eqb, not, List, [], ◌∷◌, ◌++◌}
+use Rattle.std.proofs.Common.{◌≡◌, ℕ, ◌+◌, ◌*◌, ◌≤◌, Bool, true, false, cond, eqb, List, [], ◌∷◌, ◌++◌}
 use Rattle.std.proofs.Common.{length, Option, Some, None, Result, Ok, Err, refl, sym, ap, subst, ◌∙◌, append_assoc}
 use Rattle.std.proofs.Common.{arith, inl, inr}
-use Rattle.std.specs.Prelude.{◌⊎◌, count_by, nat_eq, nat_lt, position, IfOk}
-use Rattle.std.specs.List.{All, flat_map, AllByRecursion, position_or_len}
+use Rattle.std.specs.Prelude.{◌⊎◌, count_by, nat_eq, IfOk}
+use Rattle.std.specs.List.{All, flat_map, AllByRecursion}
 use Rattle.std.proofs.lemmas.Bool.{eqb-true}
 use Rattle.std.proofs.lemmas.Bool.Decides.{nat_tests}
 use Rattle.std.proofs.lemmas.List.{append-nil, nil_from_length}
 use Rattle.std.proofs.lemmas.List.Elements.{recursion_from_All}
-use Rattle.std.proofs.lemmas.List.Sums.{passes_at_first, sum_by-cons}
+use Rattle.std.proofs.lemmas.List.Sums.{sum_by-cons}
 use Rattle.pisa_isa.specs.rpp_words.Words.{IsWord}
 use Rattle.pisa_isa.specs.declared.cell.Op.{Op}
 use Rattle.pisa_isa.specs.declared.cell.Op.TheVariants.{Start}
@@ -16,11 +16,10 @@ use Rattle.pisa_isa.specs.declared.cell.Cell.{Cell}
 use Rattle.pisa_isa.specs.declared.image.TheConstants.{MOST_CELLS, MOST_STATICS}
 use Rattle.pisa_isa.specs.declared.image.SealError.{SealError}
 use Rattle.pisa_isa.specs.declared.image.SealError.TheVariants as seal
-use Rattle.pisa_isa.specs.Table.{IsCell, is_one_to_one}
+use Rattle.pisa_isa.specs.Table.{IsCell}
 use Rattle.pisa_isa.specs.Notes.{NoteLists, NotedImage, no_notes, fits}
 use Rattle.pisa_isa.specs.Image.{Segments, IsImage, is_start_op, is_finish_op, is_start, is_finish, refusal_by}
 use Rattle.pisa_isa.specs.Image.{first_seal_refusal}
-use Rattle.pisa_isa.proofs.Sealed.{some_cell}
 use Rattle.pisa_image.specs.declared.reading.TheConstants.{MARK, VERSION, OLD_VERSION}
 use Rattle.pisa_image.specs.declared.error.ImageError.{ImageError}
 use Rattle.pisa_image.specs.declared.error.ImageError.TheVariants.{NoStart, NoFinish, ImageMagic}
@@ -35,6 +34,7 @@ use Rattle.pisa_image.proofs.Many.{IsBytes, Takes, takes_then, bind_ok, ok_is, m
 use Rattle.pisa_image.proofs.Words.{read_as, word_takes, word_again}
 use Rattle.pisa_image.proofs.NoteBytes.{between_takes, between_again, notes_take, notes_again}
 use Rattle.pisa_image.proofs.Cells.{passed, tested_takes, tested_again, cell_takes, cell_again}
+use Rattle.pisa_isa.proofs.Sealed.{every_one_to_one}
 
 -- the header
 
@@ -133,20 +133,6 @@ segments_again code statics rest are_cells are_words =
     rw (many_again cell_at 8 cell_bytes IsCell cell_again code 16 (words_bytes statics ++ rest) are_cells, words) refl
 
 -- the seal
-
-no_place : (k n : ℕ) → (k < n → ⊥) → cond (nat_lt k n) (Some k) None ≡ None
-no_place k n h = grind (arith, nat_tests)
-
-not_true : (b : Bool) → b ≡ true → not b ≡ true → ⊥
-not_true true e h = cc
-not_true false e h = cc
-
-every_one_to_one : (code : List Cell) → All IsCell code → position (λ c. not (is_one_to_one c)) code ≡ None
-every_one_to_one code cells =
-    let k : ℕ = position_or_len (λ c. not (is_one_to_one c)) code in
-    no_place k (length code) (λ h.
-    let d : Cell = some_cell code k h in
-    not_true _ (cells k d h).one_to_one (passes_at_first (λ c. not (is_one_to_one c)) code d h))
 
 by_counts : (code : List Cell) → All IsCell code → first_seal_refusal code
     ≡ refusal_by None (count_by is_start code) (count_by is_finish code)

@@ -14,6 +14,7 @@ use Rattle.pisa_isa.specs.Flipped.{flipped, flipped_image}
 use Rattle.pisa_isa.specs.Notes.{NoteLists, NotedImage, is_within, mark_fits, marks_fit, names_fit, fits, turned_mark}
 use Rattle.pisa_isa.specs.Notes.{turned_notes, flipped_noted}
 use Rattle.pisa_isa.proofs.Flips.{length-flipped, flipped-flipped}
+use Rattle.pisa_isa.specs.declared.notes.FieldName.{FieldName}
 
 record Within (cells : ℕ) (m : Mark) : Type 0 where
   ordered : m.first ≤ m.end
@@ -97,7 +98,12 @@ pub notes_twice : (n : NotedImage) → fits n.image n.notes ≡ true
     → turned_notes (length n.image.code) (turned_notes (length n.image.code) n.notes) ≡ n.notes
 notes_twice n e = rw (marks_twice (length n.image.code) n.notes.marks (fitting n.image n.notes e).each_mark) refl
 
-abbrev noted : Segments → NoteLists → NotedImage
+-- notes put together
+abbrev pub notes : List Mark → List FieldName → NoteLists
+notes marks names = record { marks = marks; names = names }
+
+-- an image and what is noted of it
+abbrev pub noted : Segments → NoteLists → NotedImage
 noted image notes = record { image = image; notes = notes }
 
 same_noted : (a b : Segments) (s t : NoteLists) → a ≡ b → s ≡ t → noted a s ≡ noted b t

@@ -9,11 +9,11 @@ use Rattle.pisa_isa.specs.Machine.{State, IsCode, IsState, stop, next, fetch}
 use Rattle.pisa_isa.specs.Runs.{End, IsReached, counted, stop_at_bound, after_step, run, made_in, started, back_by}
 use Rattle.pisa_isa.proofs.Keeps.{reached_after, steps-IsState}
 
-counted-le : (e : Stop) → counted e ≤ 1
+pub counted-le : (e : Stop) → counted e ≤ 1
 counted-le Finished = omega arith
 counted-le _ = omega arith
 
-counted-stop_at_bound : (o : Option Cell) (pc : _) → counted (stop_at_bound o pc) ≡ 0
+pub counted-stop_at_bound : (o : Option Cell) (pc : _) → counted (stop_at_bound o pc) ≡ 0
 counted-stop_at_bound None pc = refl
 counted-stop_at_bound (Some c) pc = refl
 

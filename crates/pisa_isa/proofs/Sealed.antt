@@ -84,7 +84,8 @@ not_true : (b : Bool) → b ≡ true → not b ≡ true → ⊥
 not_true true e h = cc
 not_true false e h = cc
 
-every_one_to_one : (code : List Cell) → All IsCell code → position (λ c. not (is_one_to_one c)) code ≡ None
+-- no cell of an image can be refused
+pub every_one_to_one : (code : List Cell) → All IsCell code → position (λ c. not (is_one_to_one c)) code ≡ None
 every_one_to_one code cells =
     let k : ℕ = position_or_len (λ c. not (is_one_to_one c)) code in
     no_place k (length code) (λ h.

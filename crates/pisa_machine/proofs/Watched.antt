@@ -1,7 +1,7 @@
 -- A run that probes watch, step by step.
 use Rattle.std.proofs.Common.{◌≡◌, ◌∙◌, sym, ap, subst, refl, ℕ, zero, suc, ◌+◌, ◌-◌, ◌<◌, length, take, List, [], ◌∷◌}
 use Rattle.std.proofs.Common.{◌++◌, Option, Some, None, map, replicate, zero-add, arith, append_assoc}
-use Rattle.std.specs.Prelude.{ℤ, IsSome}
+use Rattle.std.specs.Prelude.{IsSome}
 use Rattle.std.specs.List.{slice_set}
 use Rattle.std.proofs.lemmas.List.{map-append, append-nil, take_more_set}
 use Rattle.pisa_isa.specs.declared.cell.Cell.{Cell}
@@ -19,6 +19,7 @@ use Rattle.rpp_probes.specs.Tally.{Watch, going, lines_at, left_after, lines_aft
 use Rattle.rpp_probes.proofs.Folds.{left_none, left_more, left_append, lines_more, lines_append, left_one, lines_one}
 use Rattle.pisa_machine.specs.Position.{Position, stepped}
 use Rattle.pisa_machine.specs.Told.{step_at, counted_steps, BreaksOff}
+use Rattle.pisa_isa.proofs.Reached.{counted-stop_at_bound}
 
 -- ---- states that are visited
 
@@ -43,10 +44,6 @@ visited-stops : (code : List Cell) (k : ℕ) (m : State) (why : Stop) → 0 < k 
     → visited code k m ≡ replicate (counted why) m
 visited-stops code zero m why h is = absurd (omega arith)
 visited-stops code (suc k) m why h is = ap (λ o. before_step o m (visited code k (next code m))) is
-
-counted_bound : (o : Option Cell) (pc : ℤ) → counted (stop_at_bound o pc) ≡ 0
-counted_bound None pc = refl
-counted_bound (Some c) pc = refl
 
 differ : {A : Type 0} (n : ℕ) → n ≡ 0 → n ≡ 1 → A
 differ n none one = absurd (omega (none, one, arith))
@@ -192,7 +189,7 @@ short_made code self None n base is has =
     let e : made_in (later n (run code 1 self.state)) ≡ n + 1 - counted
     (stop_at_bound (fetch code (next code self.state).pc) (next code self.state).pc) =
     ap (λ o. made_in (later n (after_step o self.state (run code 0 (next code self.state))))) is in
-    let bound = counted_bound (fetch code (next code self.state).pc) (next code self.state).pc in
+    let bound = counted-stop_at_bound (fetch code (next code self.state).pc) (next code self.state).pc in
     omega (arith, e, bound, has)
 short_made code self (Some why) n base is has =
     let e : made_in (later n (run code 1 self.state)) ≡ n + counted why - counted why =
