@@ -27,11 +27,11 @@ map-reverse (x ∷ xs) =
     ∙ ap (λ l. l ++ statement_of x ∷ []) (map-reverse xs)
     ∙ sym (reverse-append (statement_of x ∷ []) (map statement_of xs))
 
-joined-end : (a : Statements) → joined a End ≡ a
+pub joined-end : (a : Statements) → joined a End ≡ a
 joined-end End = refl
 joined-end (Then x a) = ap (Then x) (joined-end a)
 
-joined_assoc : (a b c : Statements) → joined (joined a b) c ≡ joined a (joined b c)
+pub joined_assoc : (a b c : Statements) → joined (joined a b) c ≡ joined a (joined b c)
 joined_assoc End b c = refl
 joined_assoc (Then x a) b c = ap (Then x) (joined_assoc a b c)
 

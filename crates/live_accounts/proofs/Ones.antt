@@ -3,21 +3,16 @@ use Rattle.std.proofs.Common.{◌≡◌, ℕ, zero, suc, ◌+◌, ◌-◌, refl,
 use Rattle.std.proofs.Common.{◌++◌, length, length-append, Some, inl, inr, nat_le}
 use Rattle.std.proofs.lemmas.Bool.{leb-true, leb-false}
 use Rattle.source_execution.specs.rpp_tree.Tree.{Statements, End, Then}
-use Rattle.source_execution.specs.roopl_semantics.Run.{Run, Done, Fault, More, after_cost, ◌>>=◌}
+use Rattle.source_execution.specs.roopl_semantics.Run.{Run, Done, after_cost, ◌>>=◌}
 use Rattle.source_execution.specs.roopl_semantics.Store.{State}
 use Rattle.source_execution.specs.roopl_semantics.Execution.{Setting}
 use Rattle.source_execution.specs.meaning_points.Points.{Point, behind}
 use Rattle.source_execution.specs.meaning_machine.Machine.{Config, next, walk, stepped, closing, point_of, seen}
 use Rattle.source_execution.specs.meaning_machine.SourceLaws.{set_for, start_of}
-use Rattle.source_execution.proofs.meaning_machine_laws.Steps.{plus, walk_plus, seen_plus}
+use Rattle.source_execution.proofs.meaning_machine_laws.Steps.{plus, walk_plus, seen_plus, after_zero}
 use Rattle.source_execution.specs.Standing.{IsOver, next_place}
 use Rattle.source_debugger.specs.Stacks.{IsPosition}
 use Rattle.live_accounts.specs.AccountLaws.{AreOne, PositionsAreOne}
-
-free_of_cost : {A : Type 0} (r : Run A) → after_cost 0 r ≡ r
-free_of_cost (Done a c) = ap (λ n. Done a n) (omega arith)
-free_of_cost (Fault code c) = ap (λ n. Fault code n) (omega arith)
-free_of_cost More = refl
 
 plus_is : (a b : ℕ) → plus a b ≡ a + b
 plus_is zero b = omega arith
@@ -29,7 +24,7 @@ module _ (setting : Setting) where
   stays zero x over = refl
   stays (suc n) x over =
       let here : next setting x ≡ Done x 0 = ap (stepped setting x) over.rest ∙ ap (closing setting x) over.around in
-      ap (λ (r : Run Config). r >>= walk setting n) here ∙ free_of_cost (walk setting n x) ∙ stays n x over
+      ap (λ (r : Run Config). r >>= walk setting n) here ∙ after_zero (walk setting n x) ∙ stays n x over
 
   -- a step from where a statement begins passes a trace point
   passes : (params place : ℕ) (st : State) (rest : Statements) (more : List Point) → next_place rest ≡ Some place

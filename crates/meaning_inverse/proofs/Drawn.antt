@@ -101,7 +101,7 @@ pub gone_log : (st : State) (cell : Cell) (n order : ℕ) → (gone st cell n or
 gone_log st (Slot i) n order = refl
 gone_log st (Part k i) n order = refl
 
-written_log : (st : State) (cell : Cell) (v : Value) → (written st cell v).log ≡ st.log
+pub written_log : (st : State) (cell : Cell) (v : Value) → (written st cell v).log ≡ st.log
 written_log st (Slot i) v = refl
 written_log st (Part k i) v = refl
 

@@ -103,7 +103,7 @@ elements_moved_back (c ∷ cells) (v ∷ values) st f = ends_then (fault_if touc
     (λ u. elements_moved_back cells values (written st c v) (elements_written st c v f))
 
 -- a check that passed, an evaluation, a place
-checked_ends : (code : ℕ) (t : Bool) → Ends (fault_if code t) (λ u. t ≡ false)
+pub checked_ends : (code : ℕ) (t : Bool) → Ends (fault_if code t) (λ u. t ≡ false)
 checked_ends code t = record { by = λ u c e. (passed_check code t u c e).0 }
 
 evaluated_ends : (setting : Setting) (e : Expression) (st : State)

@@ -114,7 +114,7 @@ both_false : (a b : Bool) → a ≡ false → b ≡ false → a || b ≡ false
 both_false true b e h = cc
 both_false false b e h = h
 
-of_class_is : (head : Head) (number : ℕ) → is_of_class head (Some number) ≡ true → head ≡ OfClass number
+pub of_class_is : (head : Head) (number : ℕ) → is_of_class head (Some number) ≡ true → head ≡ OfClass number
 of_class_is (OfClass class) number e = ap (λ n. OfClass n) (eqb-true class number e)
 of_class_is (OfInts l) number e = cc
 of_class_is (OfObjects class l) number e = cc

@@ -1,7 +1,7 @@
 -- Conditionals and loops undone.
-use Rattle.std.proofs.Common.{◌≡◌, ℕ, zero, suc, ◌+◌, ◌<◌, ◌≤◌, refl, sym, ap, subst, ◌∙◌, arith, true, false, Bool}
+use Rattle.std.proofs.Common.{◌≡◌, ℕ, zero, suc, ◌+◌, ◌≤◌, refl, sym, ap, subst, ◌∙◌, arith, true, false, Bool}
 use Rattle.std.proofs.Common.{not, if◌then◌else◌, Ok}
-use Rattle.meaning_reached.specs.rpp_tree.Tree.{Expression, Number, Null, Variable, Element, Binary, Statements, If, From, End, Then}
+use Rattle.meaning_reached.specs.rpp_tree.Tree.{Expression, Statements, If, From, End, Then}
 use Rattle.meaning_reached.specs.rpp_tree.Tree.{nodes}
 use Rattle.meaning_reached.specs.inverse_rules.Inverse.{inverse}
 use Rattle.meaning_reached.specs.roopl_semantics.Run.{Run, Done, ◌>>=◌, give, fault_if}
@@ -15,6 +15,7 @@ use Rattle.meaning_inverse.proofs.Later.{IsSound, Later, later_itself, later_the
 use Rattle.meaning_inverse.proofs.Seen.{Names, Sees, evaluated_seen, same_truth}
 use Rattle.meaning_inverse.proofs.Ground.{Ground}
 use Rattle.meaning_inverse.proofs.Undone.{SameOn, same_then, Undone, BlockUndone}
+use Rattle.meaning_reached.proofs.roopl_semantics_laws.CostBound.{some_nodes}
 
 fi_checks : (p q : Bool) → (if p then not q else q) ≡ false → q ≡ p
 fi_checks true true e = refl
@@ -38,13 +39,6 @@ chosen_inverse true true taken other e = refl
 chosen_inverse true false taken other e = cc
 chosen_inverse false true taken other e = cc
 chosen_inverse false false taken other e = refl
-
-pub some_nodes : (e : Expression) → 0 < nodes e
-some_nodes (Number at word) = omega arith
-some_nodes (Null at) = omega arith
-some_nodes (Variable name) = omega arith
-some_nodes (Element name index) = omega arith
-some_nodes (Binary at op left right) = omega arith
 
 module _ (setting : Setting) (G : Ground setting) where
   -- blocks of so much fuel are undone

@@ -12,22 +12,15 @@ use Rattle.meaning_machine.specs.Machine.{Config, Open, Chosen, First, Again, pa
 use Rattle.meaning_machine.specs.Machine.{turned_first, left, simply, entered, begun}
 use Rattle.meaning_machine.specs.MachineLaws.{before}
 use Rattle.meaning_machine.specs.Turned.{each_undone, turned_open, turn, unwound, StepsBack}
-
-pub joined_end : (a : Statements) → joined a End ≡ a
-joined_end End = refl
-joined_end (Then s a) = ap (Then s) (joined_end a)
-
-pub joined_joined : (a b c : Statements) → joined (joined a b) c ≡ joined a (joined b c)
-joined_joined End b c = refl
-joined_joined (Then s a) b c = ap (Then s) (joined_joined a b c)
+use Rattle.meaning_points.proofs.inverse_rules_laws.Inverses.{joined-end, joined_assoc}
 
 pub undone_from : (past rest : Statements) → inverse (unwound past rest) ≡ joined (inverse rest) (each_undone past)
-undone_from End rest = sym (joined_end (inverse rest))
+undone_from End rest = sym (joined-end (inverse rest))
 undone_from (Then s past) rest = undone_from past (Then s rest)
-    ∙ joined_joined (inverse rest) (Then (inverse_statement s) End) (each_undone past)
+    ∙ joined_assoc (inverse rest) (Then (inverse_statement s) End) (each_undone past)
 
 -- the statements past, undone, are the block undone
-undone_block : (past block : Statements) → unwound past End ≡ block → inverse block ≡ each_undone past
+pub undone_block : (past block : Statements) → unwound past End ≡ block → inverse block ≡ each_undone past
 undone_block past block e = ap inverse (sym e) ∙ undone_from past End
 
 same_side : (b : Bool) → (if b then not b else b) ≡ false

@@ -6,7 +6,7 @@ use Rattle.meaning_points.specs.rpp_tree.Tree.{Expression, Null, Lvalue, Whole, 
 use Rattle.meaning_points.specs.rpp_tree.Tree.{From, Construct, Local, Delete, Call, End, Then, joined, Procedure}
 use Rattle.meaning_points.specs.class_rules.Classes.{method_named}
 use Rattle.meaning_points.specs.inverse_rules.Inverse.{inverse_statement, inverse}
-use Rattle.meaning_points.proofs.inverse_rules_laws.Inverses.{inverse-joined}
+use Rattle.meaning_points.proofs.inverse_rules_laws.Inverses.{inverse-joined, joined_assoc}
 use Rattle.meaning_points.specs.roopl_semantics.Run.{Run, Done, Fault, More, after_cost, ◌>>=◌, give, spend, fault_if}
 use Rattle.meaning_points.specs.roopl_semantics.Store.{State, is_nil, number_of, same_value}
 use Rattle.meaning_points.specs.roopl_semantics.Value.{Cell, Slot, nil_fault, cell_named, own_class, read, evaluated}
@@ -19,7 +19,7 @@ use Rattle.meaning_machine.specs.Machine.{closing, stepped, next}
 use Rattle.meaning_machine.specs.MachineLaws.{before}
 use Rattle.meaning_machine.specs.Turned.{each_undone, turned_part, turned_open, turn, unwound}
 use Rattle.meaning_machine.specs.Placed.{RunsIn, side, first, again, object, local, element, body, StandsIn, IsPlaced}
-use Rattle.meaning_machine.proofs.Back.{joined_joined, undone_from}
+use Rattle.meaning_machine.proofs.Back.{undone_from}
 
 -- ---- what holds for the end of a run, if it has one
 
@@ -185,7 +185,7 @@ unwound_undone : (rest b : Statements) → unwound (each_undone rest) b ≡ join
 unwound_undone End b = refl
 unwound_undone (Then s rest) b =
     unwound_undone rest (Then (inverse_statement s) b)
-    ∙ sym (joined_joined (inverse rest) (Then (inverse_statement s) End) b)
+    ∙ sym (joined_assoc (inverse rest) (Then (inverse_statement s) End) b)
 
 -- the reversed block is the inverse block
 turned_block : (past rest : Statements) → unwound (each_undone rest) (each_undone past) ≡ inverse (unwound past rest)

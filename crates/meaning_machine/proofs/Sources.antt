@@ -10,6 +10,7 @@ use Rattle.meaning_points.specs.roopl_semantics.Source.{main_body, starting, sou
 use Rattle.meaning_points.specs.roopl_semantics.Execution.{Setting, exec}
 use Rattle.meaning_points.proofs.roopl_semantics_laws.CostBound.{exec_done_within, exec_fault_within}
 use Rattle.meaning_points.proofs.roopl_semantics_laws.MoreFuel.{within_done, within_fault, done_within, fault_within}
+use Rattle.meaning_points.proofs.roopl_semantics_laws.MoreFuel.{cost_or_zero}
 use Rattle.meaning_points.specs.Points.{points}
 use Rattle.meaning_points.specs.Trail.{trail}
 use Rattle.meaning_machine.specs.Machine.{Config, closing, stepped, next, walk}
@@ -19,11 +20,6 @@ use Rattle.meaning_machine.proofs.Steps.{plus, after_zero, walk_plus}
 use Rattle.meaning_machine.proofs.Following.{followed}
 
 -- ---- parts of runs
-
-abbrev cost_of : {A : Type 0} → Run A → ℕ
-cost_of (Done result cost) = cost
-cost_of (Fault code cost) = cost
-cost_of More = 0
 
 abbrev code_of : {A : Type 0} → Run A → ℕ
 code_of (Done result cost) = 0
@@ -205,7 +201,7 @@ module _ (program : Source) (limits : Limits) (input : List FieldWord) (fuel : �
   over_by (Done last c) is f steps to cost e rest around h =
       let same = met f.steps steps _ _ f.walks e (refl, refl) (rest, around) in
       let state : last ≡ to.state = ap (state_or first) same in
-      let paid : c ≡ cost = ap cost_of same in
+      let paid : c ≡ cost = ap cost_or_zero same in
       done_sooner to.state cost (is ∙ ap (λ st. Done st c) state ∙ ap (λ n. Done to.state n) paid) h
   over_by (Fault code c) is f steps to cost e rest around h =
       let no = met f.steps steps _ _ f.walks e tt (rest, around) in cc
@@ -227,7 +223,7 @@ module _ (program : Source) (limits : Limits) (input : List FieldWord) (fuel : �
   fault_by (Fault last c) is f steps code cost e h =
       let same = met f.steps steps _ _ f.walks e tt tt in
       let why : last ≡ code = ap code_of same in
-      let paid : c ≡ cost = ap cost_of same in
+      let paid : c ≡ cost = ap cost_or_zero same in
       fault_sooner code cost (is ∙ ap (λ k. Fault k c) why ∙ ap (λ n. Fault code n) paid) h
   fault_by More is f steps code cost e h =
       let l = f.enough in

@@ -4,25 +4,20 @@ use Rattle.std.proofs.Common.{refl}
 use Rattle.roopl_semantics.specs.rpp_tree.declared.tree.VarType.TheVariants as kind
 use Rattle.roopl_semantics.specs.rpp_tree.declared.tree.BinOp.TheVariants as op
 use Rattle.roopl_semantics.specs.rpp_tree.declared.tree.UpdateOp.TheVariants as update
-use Rattle.roopl_semantics.specs.rpp_tree.Tree.{Number, Variable, Binary, Whole, Item, Object as AnObject, Objects, Update, If, From}
+use Rattle.roopl_semantics.specs.rpp_tree.Tree.{Number, Variable, Binary, Whole, Item, Object as AnObject, Objects, Update, From}
 use Rattle.roopl_semantics.specs.rpp_tree.Tree.{Construct, New, Call, Skip, Source}
 use Rattle.roopl_semantics.specs.Run.{Run, Done, Fault, More}
 use Rattle.roopl_semantics.specs.Store.{State}
 use Rattle.roopl_semantics.proofs.Testing.{named, var, procedure, class_text, block, program}
 use Rattle.meaning_points.specs.Trail.{trail}
+use Rattle.roopl_semantics.proofs.IntRows.{adds-text, fi-after_then-text}
 
 -- the place and the depth of each trace point of a run
 abbrev seen : Source → ℕ → ℕ → List (ℕ × ℕ)
 seen text heap deep = map (λ point. (point.place, point.state.depth))
     (trail text (record { heap = heap; deep = deep }) [] 1000).points
 
--- `class P int x method main() x += 5`
-abbrev pub one_update-text : Source
-one_update-text = program (class_text (named 6 (codes "P")) None ((var kind.Int (named 12 (codes "x"))) ∷ [])
-    (procedure (named 21 (codes "main")) [] (block ((Update 28 update.Add (Whole (named 28 (codes "x")))
-    (Number 33 5)) ∷ [])) ∷ []) ∷ [])
-
-one_update : seen one_update-text 1 1 ≡ (28, 1) ∷ []
+one_update : seen adds-text 1 1 ≡ (28, 1) ∷ []
 one_update = refl
 
 -- `class P int x method main() call q() uncall q() method q() x += 1 x += 2`
@@ -82,17 +77,8 @@ elements-text = program (class_text (named 6 (codes "P")) None
 elements : seen elements-text 3 2 ≡ (28, 1) ∷ (39, 1) ∷ (50, 1) ∷ (50, 1) ∷ (50, 1) ∷ (90, 2) ∷ (50, 1) ∷ []
 elements = refl
 
--- `class P int x method main() if x = 0 then x += 1 else skip fi x = 0`
-abbrev pub asserts-text : Source
-asserts-text = program (class_text (named 6 (codes "P")) None ((var kind.Int (named 12 (codes "x"))) ∷ [])
-    (procedure (named 21 (codes "main")) [] (block ((If 28
-    (Binary 33 op.Equal (Variable (named 31 (codes "x"))) (Number 35 0))
-    (block ((Update 42 update.Add (Whole (named 42 (codes "x"))) (Number 47 1)) ∷ []))
-    (block ((Skip 54) ∷ [])) (Binary 64 op.Equal (Variable (named 62 (codes "x"))) (Number 66 0))) ∷ []))
-    ∷ []) ∷ [])
-
 -- a fault has no trace point
-asserts : seen asserts-text 1 1 ≡ (28, 1) ∷ (42, 1) ∷ []
+asserts : seen fi-after_then-text 1 1 ≡ (28, 1) ∷ (42, 1) ∷ []
 asserts = refl
 
 -- the place, the depth and the number of variables of each trace point of a run, and the fault that

@@ -1,9 +1,9 @@
 -- A call keeps every live object reached.
 use Rattle.std.proofs.Common.{◌≡◌, ◌∙◌, sym, ap, subst, refl, ℕ, zero, suc, ◌+◌, ◌<◌, Bool, true, false, List, [], ◌∷◌}
 use Rattle.std.proofs.Common.{◌++◌, map, length, arith}
-use Rattle.std.proofs.lemmas.Bool.{eqb-true, ltb-true, ltb-false}
+use Rattle.std.proofs.lemmas.Bool.{ltb-true, ltb-false}
 use Rattle.std.proofs.lemmas.List.{map-append}
-use Rattle.std.specs.Prelude.{nat_eq, nat_lt, is_some, not, if◌then◌else◌}
+use Rattle.std.specs.Prelude.{nat_lt, is_some, not, if◌then◌else◌}
 use Rattle.meaning_sound.specs.rpp_tree.declared.tree.Var.{Var}
 use Rattle.meaning_sound.specs.rpp_tree.Tree.{Statements, Procedure, Source}
 use Rattle.meaning_sound.specs.class_rules.declared.kind.Kind.{Kind}
@@ -27,12 +27,13 @@ use Rattle.meaning_sound.proofs.Cells.{heads_written, typed_written, kind_stays}
 use Rattle.meaning_sound.proofs.AfterWrites.{read_other, read_same}
 use Rattle.meaning_sound.proofs.Runs.{Ends, ends_then, ends_check, ends_more}
 use Rattle.meaning_sound.proofs.Blocks.{KeepsAll}
-use Rattle.meaning_sound.proofs.Moves.{CellsHave, ApartFrom, AllApart, IsOwn, AllOwn, cells_kept}
+use Rattle.meaning_sound.proofs.Moves.{CellsHave, ApartFrom, AllApart, AllOwn, cells_kept}
 use Rattle.meaning_sound.proofs.Invocations.{IsCall, caller, given, more, callee, begun, after, returned, out}
 use Rattle.meaning_sound.proofs.Invocations.{given_fit, bound_values, begun_sound, body_checks, body_plain}
 use Rattle.meaning_sound.proofs.Invocations.{means_callee, after_typed, cells_after, returned_fit}
 use Rattle.meaning_reached.specs.Reached.{is_within, is_rooted, IsClosed, Reaches}
 use Rattle.meaning_reached.proofs.Rooted.{own_rooted, closed_before}
+use Rattle.meaning_sound.proofs.Objects.{one_is}
 
 -- a runner keeps every live object reached
 pub record ReachesAll (setting : Setting) (run : Runner) : Type 0 where
@@ -67,13 +68,6 @@ within_front names (v ∷ vs) ws h = (h.0, within_front names vs ws h.1)
 within_back : (names : ℕ → Bool) (vs ws : List Value) → AllWithin names (vs ++ ws) → AllWithin names ws
 within_back names [] ws h = h
 within_back names (v ∷ vs) ws h = within_back names vs ws h.1
-
-one_is : (m n : ℕ) → 0 < one_if_name m (Name n) → n ≡ m
-one_is m n h = by (nat_eq n m) refl h
-  where
-    by : (b : Bool) → nat_eq n m ≡ b → 0 < (if b then 1 else 0) → n ≡ m
-    by true e q = eqb-true n m e
-    by false e q = absurd (let z : 0 < 0 = q in omega arith)
 
 value_holds : (names : ℕ → Bool) (v : Value) (m : ℕ) → is_within names v ≡ true → 0 < one_if_name m v → names m ≡ true
 value_holds names (Word w) m h p = absurd (let z : 0 < 0 = p in omega arith)

@@ -11,7 +11,7 @@ use Rattle.meaning_sound.specs.roopl_semantics.Store.{Value, Nil, Object, Bindin
 use Rattle.meaning_sound.specs.roopl_semantics.Store.{no_object}
 use Rattle.meaning_sound.specs.roopl_semantics.Store.{changed_at}
 use Rattle.meaning_sound.specs.roopl_semantics.Value.{Cell, Slot, Part, value_at, read, written}
-use Rattle.meaning_sound.specs.roopl_semantics.Execution.{Setting, same_cell, all_zero, new_object, opened, closed}
+use Rattle.meaning_sound.specs.roopl_semantics.Execution.{Setting, same_cell, opened, closed}
 use Rattle.meaning_sound.specs.roopl_semantics.Execution.{counted}
 use Rattle.meaning_sound.specs.Sound.{is_live, cell_kind, Typed}
 use Rattle.meaning_sound.proofs.Stores.{same_number, differs, changed_here, changed_other}
@@ -20,14 +20,11 @@ use Rattle.meaning_sound.proofs.Makes.{is_array}
 use Rattle.meaning_sound.proofs.AfterWrites.{same_cell_is, read_other, read_same, read_moved}
 use Rattle.meaning_reached.specs.Reached.{is_within, is_rooted, IsClosed, Reaches}
 use Rattle.meaning_reached.proofs.Rooted.{IsVisible, kinds_apart, visible_rooted, closed_before}
+use Rattle.meaning_sound.proofs.Objects.{clash}
 
 pub or_either : (a b : Bool) {A : Type 0} → (a || b) ≡ true → (a ≡ true → A) → (b ≡ true → A) → A
 or_either true b h f g = f refl
 or_either false b h f g = g h
-
-pub clash : (b : Bool) → b ≡ true → b ≡ false → ⊥
-clash true h k = cc
-clash false h k = cc
 
 pub cell_turned : (a b : Cell) → same_cell a b ≡ false → same_cell b a ≡ false
 cell_turned a b e = by (same_cell b a) refl

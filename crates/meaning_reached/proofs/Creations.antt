@@ -20,7 +20,8 @@ use Rattle.meaning_sound.proofs.AfterWrites.{same_cell_is, read_other, read_same
 use Rattle.meaning_sound.proofs.Removal.{counted_heads}
 use Rattle.meaning_reached.specs.Reached.{is_within, is_rooted, IsClosed, Reaches}
 use Rattle.meaning_reached.proofs.Rooted.{IsVisible, visible_rooted, closed_before}
-use Rattle.meaning_reached.proofs.Changes.{clash, reaches_on, stays_under, closed_uncounted}
+use Rattle.meaning_reached.proofs.Changes.{reaches_on, stays_under, closed_uncounted}
+use Rattle.meaning_sound.proofs.Objects.{clash}
 
 zero_within : (names : ℕ → Bool) (v : Value) → is_zero v ≡ true → is_within names v ≡ true
 zero_within names (Word w) h = refl

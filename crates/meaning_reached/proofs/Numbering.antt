@@ -14,8 +14,9 @@ use Rattle.meaning_sound.specs.roopl_semantics.Laws.{one_if_name, holders_among,
 use Rattle.meaning_sound.specs.roopl_semantics.Report.{newly_met, walked, numbered}
 use Rattle.meaning_sound.specs.Sound.{head_of, is_live, Descending}
 use Rattle.meaning_sound.proofs.Stores.{same_number, other_number, differs, here, there, none_above, holders_inside}
-use Rattle.meaning_reached.proofs.Changes.{or_either, clash}
+use Rattle.meaning_reached.proofs.Changes.{or_either}
 use Rattle.meaning_reached.proofs.Callings.{AllWithin}
+use Rattle.meaning_sound.proofs.Objects.{clash}
 
 -- ---- membership
 
@@ -171,7 +172,8 @@ record Walked (store : Store) (met end : List ℕ) : Type 0 where
   pub done : (n : ℕ) → is_in end n ≡ true → AllWithin (is_in end) (object_at store n).cells
   pub count : length end + unmet end store ≡ length met + unmet met store
 
-held_at : (store : Store) (n m : ℕ) → 0 < holders_among m (object_at store n).cells → 0 < holders m store
+-- what an object of a store holds is held
+pub held_at : (store : Store) (n m : ℕ) → 0 < holders_among m (object_at store n).cells → 0 < holders m store
 held_at store n m h = by (object_named store n) refl h
   where
     by : (o : Option Object) → object_named store n ≡ o → 0 < holders_among m (unwrap_or o no_object).cells

@@ -12,11 +12,12 @@ use Rattle.meaning_machine.specs.MachineLaws.{gone, before}
 use Rattle.meaning_machine.proofs.Back.{if_entered, if_left, loop_entered, loop_left, loop_again, loop_turned}
 use Rattle.meaning_inverse.proofs.Runs.{Runs, Does, done_then, passes}
 use Rattle.meaning_inverse.proofs.Later.{Ends, ends_on, ends_done}
-use Rattle.meaning_inverse.proofs.Nested.{some_nodes}
 use Rattle.meaning_inverse.proofs.Ground.{Ground}
-use Rattle.meaning_reversed.proofs.Undoing.{ends_unfailed, ends_valued, unwound_gone, leads, AllBack, Leads}
+use Rattle.meaning_reversed.proofs.Undoing.{ends_valued, unwound_gone, leads, AllBack, Leads}
 use Rattle.meaning_reversed.proofs.Undoing.{step_by_step, OnPast, BlocksBack, good_behind}
 use Rattle.std.proofs.lemmas.Bool.{not-false}
+use Rattle.meaning_machine.proofs.roopl_semantics_laws.CostBound.{some_nodes}
+use Rattle.meaning_inverse.proofs.ElementsKept.{checked_ends}
 
 module _ (setting : Setting) where
   -- what a choice does, put together
@@ -128,7 +129,7 @@ module _ (setting : Setting) where
               (if holds v then not (holds w) else holds w) >>= (λ u. give y)) _ (Leads setting i z)
               (ends_valued setting last end) (λ w f.
               ends_on (fault_if fi_fault (if holds v then not (holds w) else holds w)) (λ u. give y) _
-              (Leads setting i z) (ends_unfailed fi_fault (if holds v then not (holds w) else holds w)) (λ u agree.
+              (Leads setting i z) (checked_ends fi_fault (if holds v then not (holds w) else holds w)) (λ u agree.
               ends_done y 0 (Leads setting i z) (
                 leads setting z y refl (if_left setting (gone b End) past rest params around end at test taken other
                     last (holds v) w (nodes last) (unwound_gone b End) f agree),
@@ -196,7 +197,7 @@ module _ (setting : Setting) where
                     ends_on (evaluated setting.program entry next) (λ w. fault_if loop_fault (holds w) >>=
                     (λ u. give y)) _ (Leads setting r q) (ends_valued setting entry next) (λ w f.
                     ends_on (fault_if loop_fault (holds w)) (λ u. give y) _ (Leads setting r q)
-                    (ends_unfailed loop_fault (holds w)) (λ u enters.
+                    (checked_ends loop_fault (holds w)) (λ u enters.
                     ends_done y 0 (Leads setting r q) (
                       leads setting q y refl (loop_turned setting past rest params around next at entry one two exit
                           (gone two End) w (nodes entry) (unwound_gone two End) f enters),
@@ -220,7 +221,7 @@ module _ (setting : Setting) where
           ends_on (evaluated setting.program entry st) (λ v. fault_if loop_fault (not (holds v)) >>= (λ u. give y)) _
           (Leads setting k x) (ends_valued setting entry st) (λ v e.
           ends_on (fault_if loop_fault (not (holds v))) (λ u. give y) _ (Leads setting k x)
-          (ends_unfailed loop_fault (not (holds v))) (λ u enters.
+          (checked_ends loop_fault (not (holds v))) (λ u enters.
           ends_done y 0 (Leads setting k x) (
             leads setting x y refl (loop_entered setting past rest params around st at entry one two exit v
                 (nodes entry) e (not-false (holds v) enters)),

@@ -17,7 +17,7 @@ use Rattle.meaning_machine.specs.roopl_semantics.Execution.{invoked}
 use Rattle.meaning_machine.specs.Machine.{Config, Open, Calling, entered, next}
 use Rattle.meaning_machine.specs.MachineLaws.{before}
 use Rattle.meaning_machine.specs.Turned.{each_undone, turned_open, turn, unwound}
-use Rattle.meaning_machine.proofs.Back.{call_entered}
+use Rattle.meaning_machine.proofs.Back.{call_entered, undone_block}
 use Rattle.meaning_inverse.proofs.Runs.{in_parts, done_then, done_result, Runs, Does, does_of}
 use Rattle.meaning_inverse.proofs.Runs.{runs_then, runs_end}
 use Rattle.meaning_inverse.proofs.Later.{Later, exec_later, statement_later, frame_names}
@@ -27,7 +27,6 @@ use Rattle.meaning_inverse.proofs.Moves.{bound_names, bound_values}
 use Rattle.meaning_inverse.proofs.Moves.{rebound}
 use Rattle.meaning_machine.specs.Reversed.{begun_back}
 use Rattle.meaning_reversed.specs.ReverseLaws.{LeadsTo, is_over}
-use Rattle.meaning_reversed.proofs.Undoing.{undone_block}
 
 -- the step out of a method: it leads past the call, which has run, and is undone
 pub record CallLeft (setting : Setting) (past rest : Statements) (params : ℕ) (around : List Open)

@@ -21,9 +21,11 @@ use Rattle.meaning_inverse.proofs.Scopes.{value_under, reopened, constructed_inv
 use Rattle.meaning_inverse.proofs.Ground.{Ground}
 use Rattle.meaning_machine.specs.Reversed.{begun_back}
 use Rattle.meaning_reversed.specs.ReverseLaws.{LeadsTo}
-use Rattle.meaning_reversed.proofs.Undoing.{ends_unfailed, ends_valued, unwound_gone, undone_block}
+use Rattle.meaning_reversed.proofs.Undoing.{ends_valued, unwound_gone}
 use Rattle.meaning_reversed.proofs.Undoing.{Leads, step_by_step, OnPast, BlocksBack}
 use Rattle.std.proofs.lemmas.Bool.{not-false}
+use Rattle.meaning_machine.proofs.Back.{undone_block}
+use Rattle.meaning_inverse.proofs.ElementsKept.{checked_ends}
 
 abbrev value_or : Result Value ℕ → Value
 value_or (Ok x) = x
@@ -135,7 +137,7 @@ module _ (setting : Setting) (s : Statement) (name : List ℕ) (value : Expressi
                 (not (same_value (read end (Slot 0)) w)) >>= (λ u. give q)) _ (Leads setting i z)
                 (ends_valued setting end_value end) (λ w f.
                 ends_on (fault_if delocal_fault (not (same_value (read end (Slot 0)) w))) (λ u. give q) _
-                (Leads setting i z) (ends_unfailed delocal_fault (not (same_value (read end (Slot 0)) w)))
+                (Leads setting i z) (checked_ends delocal_fault (not (same_value (read end (Slot 0)) w)))
                 (λ u check.
                 let formed = shape st end v w cost sound runs check in
                 let is_w = (given_done (nodes end_value) (value_in setting.program end end_value) w (nodes end_value)

@@ -13,7 +13,7 @@ use Rattle.meaning_machine.specs.buddy_book.Place.{Log, count_taken}
 use Rattle.meaning_machine.specs.roopl_semantics.Run.{Run, Done, ◌>>=◌, spend, fault_if}
 use Rattle.meaning_machine.specs.roopl_semantics.Store.{Value, Word, Nil, Name, Head, OfClass, OfInts, OfObjects, Object, Store, State}
 use Rattle.meaning_machine.specs.roopl_semantics.Store.{is_nil, number_of, object_named, object_at, no_object, changed_at, without}
-use Rattle.meaning_machine.specs.roopl_semantics.Value.{Cell, Slot, Part, with_value, read, written, value as value_in, cell_of}
+use Rattle.meaning_machine.specs.roopl_semantics.Value.{Cell, Part, with_value, read, written, value as value_in, cell_of}
 use Rattle.meaning_machine.specs.roopl_semantics.Value.{evaluated, found, nil_fault}
 use Rattle.meaning_machine.specs.roopl_semantics.Elements.{index_elements, own_element, share_array, kept_apart}
 use Rattle.meaning_machine.specs.roopl_semantics.Execution.{Setting, Runner, statement, allocated, freed, new_array, delete_array}
@@ -29,9 +29,9 @@ use Rattle.meaning_inverse.proofs.Later.{IsSound, Ends, ends_then, ends_on, ends
 use Rattle.meaning_inverse.proofs.Ground.{Ground, NewArrayFacts, DeleteArrayFacts, number_named, new_cells}
 use Rattle.meaning_inverse.proofs.Calls.{live_read}
 use Rattle.meaning_inverse.proofs.Copies.{is_nil_value}
-use Rattle.meaning_inverse.proofs.Drawn.{IsApart}
+use Rattle.meaning_inverse.proofs.Drawn.{IsApart, written_log}
 use Rattle.meaning_inverse.proofs.Places.{dropped, added, made, not_drawn}
-use Rattle.meaning_inverse.proofs.Heap.{aside, not_false}
+use Rattle.meaning_inverse.proofs.Heap.{aside, not_false, of_class_is}
 use Rattle.meaning_machine.specs.Reversed.{untaken, put_back, ungiven, undeleted, unmade}
 use Rattle.std.proofs.lemmas.Option.{same_Some}
 
@@ -109,17 +109,13 @@ rid_of_made st cell size head cells s (IsPart k i object e h) nil =
     }) (eq-eqb name name refl)
     ∙ ap (written st (Part k i)) (sym nil) ∙ written_same st (Part k i)
 
-log_of_written : (st : State) (cell : Cell) (v : Value) → (written st cell v).log ≡ st.log
-log_of_written st (Slot i) v = refl
-log_of_written st (Part k i) v = refl
-
 untaken_made : (st : State) (cell : Cell) (size : ℕ) (head : Head) (cells : List Value) → IsSound st → IsCell st cell
     → read st cell ≡ Nil
     → untaken (made st cell size head cells).log cell (made st cell size head cells) ≡ Done st 0
 untaken_made st cell size head cells s there nil =
     let name = 2 + count_taken st.log in
     let more = added st size head cells in
-    ap (λ l. untaken l cell (written more cell (Name name))) (log_of_written more cell (Name name))
+    ap (λ l. untaken l cell (written more cell (Name name))) (written_log more cell (Name name))
     ∙ ap (λ x. Done (rid x name st.log) 0) (written_twice more cell (Name name) Nil)
     ∙ ap (λ x. Done x 0) (rid_of_made st cell size head cells s there nil)
 
@@ -156,7 +152,7 @@ ungiven_gone : (st : State) (cell : Cell) (name order : ℕ) (object : Object) (
     ≡ Done st 0
 ungiven_gone st cell name order object head cells bound d named is there apart holds =
     let b = written (dropped st name order) cell Nil in
-    ap (λ l. ungiven l cell head cells b) (log_of_written (dropped st name order) cell Nil)
+    ap (λ l. ungiven l cell head cells b) (written_log (dropped st name order) cell Nil)
     ∙ ap (λ o. Done (restored b cell name o st.log) 0) (sym is)
     ∙ ap (λ x. Done x 0) (restored_gone st cell name order object bound d named there apart holds)
 
@@ -183,11 +179,6 @@ passes_apart program target st = record {
 
 passes : (code : ℕ) (test : Bool) → Ends (fault_if code test) (λ u. test ≡ false)
 passes code test = record { by = λ u cost e. (passed_check code test u cost e).0 }
-
-class_is : (head : Head) (number : ℕ) → is_of_class head (Some number) ≡ true → head ≡ OfClass number
-class_is (OfClass class) number e = ap (λ n. OfClass n) (eqb-true class number e)
-class_is (OfInts l) number e = cc
-class_is (OfObjects class l) number e = cc
 
 -- an object of one variable whose head and cells are these
 is_new : (object : Object) (head : Head) (cells : List Value) → object.head ≡ head → object.count ≡ 1
@@ -313,7 +304,7 @@ module _ (setting : Setting) (G : Ground setting) (C : G.Context) (a : State) (g
         let thing = object_at a.store (number_of (read a cell)) in
         let is_thing : thing ≡ object = ap (λ v. object_at a.store (number_of v)) facts.is_name
         ∙ ap (λ o. unwrap_or o no_object) live.there in
-        let head_is : object.head ≡ OfClass number = class_is object.head number
+        let head_is : object.head ≡ OfClass number = of_class_is object.head number
         (ap (λ o. is_of_class o.head (Some number)) (sym is_thing) ∙ ap (is_of_class thing.head) (sym facts.known)
         ∙ not_false (is_of_class thing.head (class_number setting.program class.text)) fits) in
         let count_is : object.count ≡ 1 = ap (λ o. o.count) (sym is_thing)

@@ -1,16 +1,14 @@
 -- That each of so many steps from a place is undone, and how it is shown: step by step.
-use Rattle.std.proofs.Common.{◌≡◌, ℕ, zero, suc, ◌+◌, ◌≤◌, ◌∙◌, arith, refl, sym, ap, Bool, false, List}
+use Rattle.std.proofs.Common.{◌≡◌, ℕ, zero, suc, ◌+◌, ◌≤◌, ◌∙◌, arith, refl, sym, ap, false, List}
 use Rattle.meaning_machine.specs.rpp_tree.Tree.{Expression, Statement, Statements, End, Then, nodes}
-use Rattle.meaning_inverse.specs.inverse_rules.Inverse.{inverse}
-use Rattle.meaning_machine.specs.roopl_semantics.Run.{Run, Done, after_cost, spend, fault_if}
+use Rattle.meaning_machine.specs.roopl_semantics.Run.{Run, Done, after_cost, spend}
 use Rattle.meaning_machine.specs.roopl_semantics.Store.{State}
 use Rattle.meaning_machine.specs.roopl_semantics.Value.{value as value_in, evaluated}
 use Rattle.meaning_machine.specs.roopl_semantics.Execution.{Setting}
 use Rattle.meaning_machine.specs.Machine.{Config, Open, begun, next}
 use Rattle.meaning_machine.specs.MachineLaws.{gone, before}
-use Rattle.meaning_machine.specs.Turned.{each_undone, turn, unwound, StepsBack}
-use Rattle.meaning_machine.proofs.Back.{undone_from}
-use Rattle.meaning_inverse.proofs.Runs.{Runs, Does, given_done, passed_check, runs_end, runs_then}
+use Rattle.meaning_machine.specs.Turned.{turn, unwound, StepsBack}
+use Rattle.meaning_inverse.proofs.Runs.{Runs, Does, given_done, runs_end, runs_then}
 use Rattle.meaning_inverse.proofs.Later.{Ends, ends_then}
 use Rattle.meaning_inverse.proofs.Ground.{Ground}
 use Rattle.meaning_machine.specs.Reversed.{back}
@@ -25,9 +23,6 @@ ends_so r = record { by = λ a c e. (c, e) }
 pub ends_spent : {A : Type 0} (c : ℕ) (r : Run A) (P : A → Type 0) → Ends r P → Ends (after_cost c r) P
 ends_spent c r P h = ends_then (spend c) (λ u. r) P (λ u. h)
 
-pub ends_unfailed : (code : ℕ) (t : Bool) → Ends (fault_if code t) (λ u. t ≡ false)
-ends_unfailed code t = record { by = λ u c e. (passed_check code t u c e).0 }
-
 pub ends_valued : (setting : Setting) (e : Expression) (st : State)
     → Ends (evaluated setting.program e st) (λ v. evaluated setting.program e st ≡ Done v (nodes e))
 ends_valued setting e st = record {
@@ -41,10 +36,6 @@ ends_valued setting e st = record {
 pub unwound_gone : (b past : Statements) → unwound (gone b past) End ≡ unwound past b
 unwound_gone End past = refl
 unwound_gone (Then s b) past = unwound_gone b (Then s past)
-
--- the statements past, undone, are the block undone
-pub undone_block : (past block : Statements) → unwound past End ≡ block → inverse block ≡ each_undone past
-undone_block past block e = ap inverse (sym e) ∙ undone_from past End
 
 module _ (setting : Setting) where
   -- ---- steps that lead back

@@ -31,7 +31,7 @@ named_live : (program : Source) (k : Kind) (o : Option Head) → named_fits prog
 named_live program k None h = absurd (cc)
 named_live program k (Some head) h = refl
 
-one_is : (m n : ℕ) → 0 < one_if_name m (Name n) → n ≡ m
+pub one_is : (m n : ℕ) → 0 < one_if_name m (Name n) → n ≡ m
 one_is m n h = by (nat_eq n m) refl h
   where
     by : (b : Bool) → nat_eq n m ≡ b → 0 < (if b then 1 else 0) → n ≡ m

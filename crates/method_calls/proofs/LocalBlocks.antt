@@ -38,6 +38,7 @@ use Rattle.refine_form.proofs.Rows.{here, next, will_row}
 use Rattle.method_calls.proofs.Addresses.{mk, will_find_word, will_leave_word}
 use Rattle.refine_form.specs.paired_code.Rows.{line}
 use Rattle.method_calls.proofs.Exchanges.{exchanges}
+use Rattle.refine_form.proofs.inverse_rules_laws.Inverses.{joined-end, joined_assoc}
 
 -- ---- a word changes places with a word of the frame
 
@@ -310,16 +311,8 @@ local_law w IsInit f thousand counts s at var value body end_var end_value same_
 
 -- ---- statements that mean such a block
 
-joined_assoc : (a b c : Statements) → joined (joined a b) c ≡ joined a (joined b c)
-joined_assoc End b c = refl
-joined_assoc (Then x a) b c = ap (Then x) (joined_assoc a b c)
-
-joined_end : (a : Statements) → joined a End ≡ a
-joined_end End = refl
-joined_end (Then x a) = ap (Then x) (joined_end a)
-
 pub inverse_joined : (a b : Statements) → inverse (joined a b) ≡ joined (inverse b) (inverse a)
-inverse_joined End b = sym (joined_end (inverse b))
+inverse_joined End b = sym (joined-end (inverse b))
 inverse_joined (Then x a) b = ap (λ z. joined z (Then (inverse_statement x) End)) (inverse_joined a b)
     ∙ joined_assoc (inverse b) (inverse a) (Then (inverse_statement x) End)
 

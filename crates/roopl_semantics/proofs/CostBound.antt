@@ -72,7 +72,7 @@ pub alike_on : {A B : Type 0} (bound : ℕ) (r : Run A) (f g : A → Run B) → 
     → Alike bound (r >>= f) (r >>= g)
 alike_on bound r f g h = alike_then bound r r f g (alike_itself bound r) h
 
-some_nodes : (e : Expression) → 0 < nodes e
+pub some_nodes : (e : Expression) → 0 < nodes e
 some_nodes (Number at word) = omega arith
 some_nodes (Null at) = omega arith
 some_nodes (Variable name) = omega arith

@@ -20,7 +20,7 @@ pub record IsFaultWithin {A : Type 0} (fuel : ℕ) (r : Run A) (code cost : ℕ)
   pub in_fuel : cost ≤ fuel
 
 -- the cost of a run that is over, else 0
-abbrev cost_or_zero : {A : Type 0} → Run A → ℕ
+abbrev pub cost_or_zero : {A : Type 0} → Run A → ℕ
 cost_or_zero (Done result cost) = cost
 cost_or_zero (Fault code cost) = cost
 cost_or_zero More = 0

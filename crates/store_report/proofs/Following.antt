@@ -1,20 +1,18 @@
 -- The report from the cells is the report of the store.
 use Rattle.std.proofs.Common.{◌≡◌, ◌∙◌, sym, ap, subst, refl, ℕ, zero, suc, ◌+◌, ◌<◌, ◌≤◌, true, List, [], ◌∷◌, ◌++◌}
-use Rattle.std.proofs.Common.{map, length, Option, Some, None, arith}
+use Rattle.std.proofs.Common.{map, length, arith}
 use Rattle.std.proofs.lemmas.List.{length-append}
 use Rattle.std.specs.Prelude.{nat_eq, codes}
-use Rattle.std.specs.Option.{unwrap_or}
 use Rattle.std.specs.Fmt.{decimal}
 use Rattle.refine_frame.specs.rpp_words.Texts.{line_end}
 use Rattle.rpp_tree.specs.declared.tree.VarType.{VarType}
 use Rattle.rpp_tree.specs.Tree.{Source}
 use Rattle.refine_frame.specs.code_conventions.declared.memory.TheConstants.{COUNT_WORD, HEADER_WORDS}
-use Rattle.static_layout.specs.roopl_semantics.Store.{Value, Word, Nil, Name, Head, Object, Store, main_name, no_object}
-use Rattle.static_layout.specs.roopl_semantics.Store.{object_named}
+use Rattle.static_layout.specs.roopl_semantics.Store.{Value, Word, Nil, Name, Head, Object, Store, main_name}
 use Rattle.static_layout.specs.roopl_semantics.Store.{object_at}
 use Rattle.static_layout.specs.roopl_semantics.Source.{main_fields}
 use Rattle.static_layout.specs.roopl_semantics.Agreement.{renamed}
-use Rattle.static_layout.specs.roopl_semantics.Laws.{holders_among, holders}
+use Rattle.static_layout.specs.roopl_semantics.Laws.{holders}
 use Rattle.static_layout.specs.roopl_semantics.Report.{newly_met, walked, numbered, number_shown, field_lines}
 use Rattle.static_layout.specs.roopl_semantics.Report.{head_shown, cell_lines}
 use Rattle.static_layout.specs.roopl_semantics.Report.{object_lines, live_line, live_count, report}
@@ -24,20 +22,12 @@ use Rattle.static_layout.specs.roopl_semantics.Walk.{reached_within, reached}
 use Rattle.pisa_machine.specs.pisa_isa.Loaded.{statics_at}
 use Rattle.pisa_machine.specs.pisa_isa.Machine.{word_at}
 use Rattle.refine_frame.specs.meaning_sound.Sound.{is_live, Descending, AllFit, cell_kinds}
-use Rattle.refine_frame.proofs.meaning_sound_laws.Stores.{live_object, holders_inside}
-use Rattle.meaning_reached.proofs.Numbering.{unmet, unmet_all, new_count}
+use Rattle.refine_frame.proofs.meaning_sound_laws.Stores.{live_object}
+use Rattle.meaning_reached.proofs.Numbering.{unmet, unmet_all, new_count, held_at}
 use Rattle.store_report.specs.Told.{values_told, head_told, object_told, address_of, lines_told, report_told}
 use Rattle.store_report.proofs.Texts.{AllGood, ValueGood, ValuesGood, number_there, fields_there, lines_there}
 use Rattle.store_report.proofs.Telling.{IsGood, Facts, there, kind_told, told_apart, head_is_told, Match, Rel}
 use Rattle.store_report.proofs.Telling.{rel_append, Tells, tells_from, HoldGood, values_are_told, newly_told}
-
-held_at : (store : Store) (n m : ℕ) → 0 < holders_among m (object_at store n).cells → 0 < holders m store
-held_at store n m h = by (object_named store n) refl h
-  where
-    by : (o : Option Object) → object_named store n ≡ o → 0 < holders_among m (unwrap_or o no_object).cells
-        → 0 < holders m store
-    by None e q = absurd (let z : 0 < 0 = q in omega arith)
-    by (Some o) e q = let a = holders_inside m store n o e in omega arith
 
 -- a walk with steps enough does not depend on how many
 walks_alike : (bound : ℕ) (store : Store) → Descending bound store
