@@ -1,15 +1,11 @@
 -- Reading the lines of a script one after the other, as a loop does.
 use Rattle.std.proofs.Common.{◌≡◌, ◌∙◌, refl, sym, ap, ℕ, ◌+◌, ◌<◌, ◌≤◌, List, [], ◌∷◌, length, map, drop, get_or}
 use Rattle.std.proofs.Common.{length-drop, Result, Ok, Err, arith}
-use Rattle.std.proofs.lemmas.List.{nil_from_length, length-map, drop_more}
-use Rattle.std.proofs.lemmas.List.Splits.{length-slice_split}
-use Rattle.std.proofs.lemmas.List.Sums.{count_by-le-length}
-use Rattle.std.specs.Prelude.{nat_eq}
+use Rattle.std.proofs.lemmas.List.{nil_from_length, drop_more}
 use Rattle.cluster_commands.specs.declared.script.Event.{Event}
 use Rattle.cluster_commands.specs.declared.error.ScriptError.{ScriptError}
 use Rattle.cluster_commands.specs.declared.error.ScriptError.TheVariants.{BadEvent, NoMemory}
 use Rattle.cluster_commands.specs.ClusterScripts.{with_line, events_from, Fails}
-use Rattle.command_plan.specs.pisa_scripts.Lines.{pieces}
 
 pub fails_with : (e : ScriptError) (inner whole : Result (List Event) ScriptError)
     → ((r : ScriptError) → inner ≡ Err r → whole ≡ Err r) → Fails e inner → Fails e whole
@@ -56,15 +52,3 @@ is_done {A = A} processors f line commands items i total le so_far =
     let none : drop i items ≡ [] = nil_from_length (drop i items) (omega (arith, length-drop i items)) in
     sym so_far ∙ ap (λ (xs : List A). events_from processors line commands (map f xs)) none
     ∙ no_line processors line commands
-
--- there are no more lines than bytes, and one
-pub few_lines : {A : Type 0} (f : A → List ℕ) (items : List A) (at : ℕ) (bytes : List ℕ) → map f items ≡ pieces at bytes
-    → length items ≤ length bytes + 1
-few_lines f items at bytes e =
-    omega (
-      arith,
-      ap length e,
-      length-map items f,
-      length-slice_split (λ b. nat_eq b at) bytes,
-      count_by-le-length (λ b. nat_eq b at) bytes,
-    )

@@ -10,11 +10,11 @@ use Rattle.command_plan.specs.declared.plan.NoPlan.TheVariants.{NoMemory, Unread
 use Rattle.command_plan.specs.Files.{Needed, LacksOne, Unreadable, IsUnread, FirstUnread, OnlyReads}
 use Rattle.rpp_ports.specs.declared.shelf.ShelfFault.TheVariants as fault
 
-rose_before : (b m n : ℕ) → b ≤ m → Rose m n → Rose b n
+pub rose_before : (b m n : ℕ) → b ≤ m → Rose m n → Rose b n
 rose_before b m n h rose = grind (arith, nat_tests)
 
 -- what a cause says if another rise is as good
-cause_by : (told : Option Texts) (name : List ℕ) (limit : ℕ) (R S : Type 0) (why : ShelfFault) → (R → S)
+pub cause_by : (told : Option Texts) (name : List ℕ) (limit : ℕ) (R S : Type 0) (why : ShelfFault) → (R → S)
     → ReadCause told name limit R why → ReadCause told name limit S why
 cause_by told name limit R S fault.NoMemory f c = tt
 cause_by told name limit R S fault.Failed f c = f c

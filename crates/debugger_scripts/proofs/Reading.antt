@@ -1,15 +1,11 @@
 -- Reading the lines of a script one after the other, as a loop does.
 use Rattle.std.proofs.Common.{◌≡◌, ◌∙◌, refl, sym, ap, ℕ, ◌+◌, ◌<◌, ◌≤◌, List, [], ◌∷◌, length, map, drop, get_or}
 use Rattle.std.proofs.Common.{length-drop, Result, Ok, Err, arith}
-use Rattle.std.proofs.lemmas.List.{nil_from_length, length-map, drop_more}
-use Rattle.std.proofs.lemmas.List.Splits.{length-slice_split}
-use Rattle.std.proofs.lemmas.List.Sums.{count_by-le-length}
-use Rattle.std.specs.Prelude.{nat_eq}
+use Rattle.std.proofs.lemmas.List.{nil_from_length, drop_more}
 use Rattle.pisa_scripts.specs.declared.command.Command.{Command}
 use Rattle.debugger_scripts.specs.declared.error.ScriptError.{ScriptError}
 use Rattle.debugger_scripts.specs.declared.error.ScriptError.TheVariants.{BadCommand, NoMemory}
 use Rattle.debugger_scripts.specs.Scripts.{with_line, commands_from, Fails}
-use Rattle.pisa_scripts.specs.Lines.{pieces}
 
 pub fails_with : (e : ScriptError) (inner whole : Result (List Command) ScriptError)
     → ((r : ScriptError) → inner ≡ Err r → whole ≡ Err r) → Fails e inner → Fails e whole
@@ -54,15 +50,3 @@ pub is_done : {A : Type 0} (f : A → List ℕ) (line : ℕ) (commands : List Co
 is_done {A = A} f line commands items i total le so_far =
     let none : drop i items ≡ [] = nil_from_length (drop i items) (omega (arith, length-drop i items)) in
     sym so_far ∙ ap (λ (xs : List A). commands_from line commands (map f xs)) none ∙ no_line line commands
-
--- there are no more lines than bytes, and one
-pub few_lines : {A : Type 0} (f : A → List ℕ) (items : List A) (at : ℕ) (bytes : List ℕ) → map f items ≡ pieces at bytes
-    → length items ≤ length bytes + 1
-few_lines f items at bytes e =
-    omega (
-      arith,
-      ap length e,
-      length-map items f,
-      length-slice_split (λ b. nat_eq b at) bytes,
-      count_by-le-length (λ b. nat_eq b at) bytes,
-    )

@@ -10,11 +10,6 @@ use Rattle.command_plan.specs.declared.plan.Plan.{Plan}
 use Rattle.command_plan.specs.Plans.{planned}
 use Rattle.image_commands.specs.DebugPlans.{start_of, followed, MovesSome, IsScriptPlan, IsScriptShort}
 
--- what holds whatever the result
-pub err_always : {A E : Type 0} (r : Result A E) (P : Type 0) → P → IfErr r (λ _. P)
-err_always (Ok x) P h = tt
-err_always (Err e) P h = h
-
 module _ (read : Result (List Command) ScriptError) (image : Segments) (limits : Limits) (commands : List Command)
     (count counted : ℕ) where
   pub script_plan : {E : Type 0} (r : Result Plan E) → read ≡ Ok commands

@@ -10,7 +10,8 @@ use Rattle.image_searches.specs.declared.moves.Outcome.TheVariants.{Made, Stoppe
 use Rattle.image_searches.specs.declared.moves.Step.TheVariants.{Gone, Stuck}
 use Rattle.image_searches.specs.Steps.{led, is_stuck, led_by, Goes}
 use Rattle.image_searches.specs.Searches.{Found, found, behind_line, points}
-use Rattle.image_searches.proofs.Moving.{one_less, none_left, all_left, led_on}
+use Rattle.image_searches.proofs.Moving.{led_on}
+use Rattle.live_requests.proofs.Left.{one_less, none_left, all_left}
 
 abbrev pub found_at : Position → List ℕ → Outcome → Found
 found_at position text how = record { position = position; text = text; how = how }

@@ -1,18 +1,9 @@
 -- Some moves.
-use Rattle.std.proofs.Common.{◌≡◌, ◌∙◌, ap, ℕ, suc, ◌+◌, ◌-◌, ◌<◌, ◌≤◌}
+use Rattle.std.proofs.Common.{◌≡◌, ◌∙◌, ap, ℕ, suc, ◌+◌, ◌<◌}
 use Rattle.std.proofs.Common.{arith}
 use Rattle.pisa_scripts.specs.declared.command.Command.{Command}
 use Rattle.two_way_debugger.specs.pisa_machine.Position.{Position}
 use Rattle.image_searches.specs.Steps.{led, led_by, MovesSome}
-
-pub one_less : (n i : ℕ) → i < n → n - i ≡ suc (n - (i + 1))
-one_less n i less = omega arith
-
-pub none_left : (n i : ℕ) → n ≤ i → n - i ≡ 0
-none_left n i all = omega arith
-
-pub all_left : (n : ℕ) → n ≡ n - 0
-all_left n = omega arith
 
 one_more : (i : ℕ) → suc i ≡ i + 1
 one_more i = omega arith

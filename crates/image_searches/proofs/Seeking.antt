@@ -15,8 +15,9 @@ use Rattle.image_searches.specs.declared.searches.Turn.TheVariants.{On, Over}
 use Rattle.image_searches.specs.Steps.{led, is_stuck, led_by, Goes}
 use Rattle.image_searches.specs.Searches.{Found, found, and_seek, seek}
 use Rattle.image_searches.specs.Turns.{turn_by, IsTurn}
-use Rattle.image_searches.proofs.Moving.{one_less, none_left, all_left, led_on}
+use Rattle.image_searches.proofs.Moving.{led_on}
 use Rattle.image_searches.proofs.Listing.{found_at}
+use Rattle.live_requests.proofs.Left.{one_less, none_left, all_left}
 
 -- ---- one move
 

@@ -1,24 +1,14 @@
 -- The replies to the lines of a script.
-use Rattle.std.proofs.Common.{◌≡◌, ◌∙◌, refl, sym, ap, ℕ, List, [], ◌∷◌, ◌++◌, None, Ok, inl, inr}
+use Rattle.std.proofs.Common.{◌≡◌, ◌∙◌, sym, ap, ℕ, List, [], ◌∷◌, ◌++◌, None, Ok, inl, inr}
 use Rattle.pisa_scripts.specs.Lines.{pieces, without_returns}
 use Rattle.pisa_scripts.specs.declared.command.Command.{Command}
-use Rattle.pisa_scripts.specs.declared.command.Command.TheVariants.{Step, Back, To, BackTo, Regs, Cells}
 use Rattle.two_way_debugger.specs.pisa_machine.Position.{Position}
 use Rattle.live_requests.specs.debugger_scripts.Scripts.{script_of}
 use Rattle.two_way_debugger.specs.Shown.{shown, walk_of, text_of}
 use Rattle.live_requests.specs.declared.request.Request.{Request}
-use Rattle.live_requests.specs.Limited.{limited}
 use Rattle.live_requests.proofs.ScriptLines.{AreCommands, script_lines}
 use Rattle.live_images.specs.Replies.{answered, said_of}
-
--- without a limit a command is as it is
-unlimited : (command : Command) → limited None command ≡ command
-unlimited (Step n) = refl
-unlimited (Back n) = refl
-unlimited (To place n) = refl
-unlimited (BackTo place n) = refl
-unlimited Regs = refl
-unlimited (Cells from count) = refl
+use Rattle.live_requests.proofs.Unlimited.{unlimited}
 
 -- what a line and those after it say, by its request
 abbrev by_request : (line : List ℕ) → (lines : List (List ℕ)) → Position → Request → List ℕ

@@ -1,2 +1,4 @@
 pub mod Quits
 pub mod ScriptLines
+pub mod Left
+pub mod Unlimited

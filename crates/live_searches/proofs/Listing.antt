@@ -1,6 +1,6 @@
 -- A list of positions that is under way.
 use Rattle.std.proofs.Common.{◌≡◌, ◌∙◌, sym, ap, refl, ℕ, suc, ◌+◌, ◌-◌, ◌<◌, ◌≤◌, List, [], ◌++◌, true}
-use Rattle.std.proofs.Common.{false, Some, None, append-nil, append_assoc, arith}
+use Rattle.std.proofs.Common.{false, Some, None, append-nil, append_assoc}
 use Rattle.std.specs.Prelude.{Option, nat_eq}
 use Rattle.source_debugger.specs.meaning_points.rpp_tree.Views.{source_of}
 use Rattle.source_debugger.specs.meaning_points.rpp_tree.Tree.{Source}
@@ -14,18 +14,10 @@ use Rattle.live_searches.specs.declared.moves.Step.TheVariants.{Gone, Stuck}
 use Rattle.live_searches.specs.Steps.{IsSameRun, Goes}
 use Rattle.live_searches.specs.Searches.{Found, behind_line, points}
 use Rattle.live_searches.proofs.Single.{same_run, told_at_start}
+use Rattle.live_requests.proofs.Left.{one_less, none_left, all_left}
 
 abbrev pub found_at : ℕ → List ℕ → Outcome → Option Found
 found_at position text how = Some (record { position = position; text = text; how = how })
-
-pub one_less : (n i : ℕ) → i < n → n - i ≡ suc (n - (i + 1))
-one_less n i less = omega arith
-
-pub none_left : (n i : ℕ) → n ≤ i → n - i ≡ 0
-none_left n i all = omega arith
-
-pub all_left : (n : ℕ) → n ≡ n - 0
-all_left n = omega arith
 
 behind_twice : (old line : List ℕ) (o : Option Found)
     → behind_line old (behind_line line o) ≡ behind_line (old ++ line) o

@@ -19,7 +19,8 @@ use Rattle.live_searches.specs.Goals.{Mark, mark_at, wanted}
 use Rattle.live_searches.specs.Searches.{Found, and_seek, all_made, seek}
 use Rattle.live_searches.specs.Turns.{IsJudged, IsTurn}
 use Rattle.live_searches.proofs.Single.{leads_told, same_run}
-use Rattle.live_searches.proofs.Listing.{found_at, all_left, one_less, none_left}
+use Rattle.live_searches.proofs.Listing.{found_at}
+use Rattle.live_requests.proofs.Left.{one_less, none_left, all_left}
 
 -- what a search looks for that began with this sight
 abbrev pub looks : Goal → List (List ℕ) → Mark → Standing → ℕ → Bool

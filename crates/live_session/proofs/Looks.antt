@@ -8,7 +8,6 @@ use Rattle.source_debugger.specs.Stacks.{TellsCall}
 use Rattle.source_debugger.specs.declared.failing.Detail.{Detail}
 use Rattle.source_debugger.specs.declared.failing.Detail.TheVariants as details
 use Rattle.source_debugger.specs.Failures.{Account, account_of, shown_of, fails_at}
-use Rattle.live_talks.specs.declared.ends.End.TheVariants as end
 use Rattle.live_session.specs.Replies.{look_reply, value_reply, or_none, replied, RepliesCall}
 use Rattle.live_session.specs.Serving.{Answers, request_for}
 

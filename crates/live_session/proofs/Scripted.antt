@@ -3,15 +3,15 @@ use Rattle.std.proofs.Common.{◌≡◌, ◌∙◌, refl, sym, ap, ℕ, List, []
 use Rattle.std.specs.Prelude.{Option}
 use Rattle.pisa_scripts.specs.Lines.{pieces, without_returns}
 use Rattle.pisa_scripts.specs.declared.command.Command.{Command}
-use Rattle.pisa_scripts.specs.declared.command.Command.TheVariants.{Step, Back, To, BackTo, Regs, Cells}
 use Rattle.source_debugger.specs.meaning_points.rpp_tree.Tree.{Source}
 use Rattle.source_debugger.specs.Failures.{Account}
 use Rattle.source_debugger.specs.Shown.{Told, told, told_by, and_told, behind_text}
 use Rattle.live_requests.specs.debugger_scripts.Scripts.{script_of}
 use Rattle.live_requests.specs.declared.request.Request.{Request}
-use Rattle.live_requests.specs.Limited.{limited, limit_of, limit_after}
+use Rattle.live_requests.specs.Limited.{limit_of, limit_after}
 use Rattle.live_requests.proofs.ScriptLines.{AreCommands, script_lines}
 use Rattle.live_session.specs.Replies.{said_to, said_of}
+use Rattle.live_requests.proofs.Unlimited.{unlimited}
 
 behind_nothing : (o : Option Told) → behind_text [] o ≡ o
 behind_nothing None = refl
@@ -20,15 +20,6 @@ behind_nothing (Some t) = refl
 said_next : (o : Option Told) (f g : ℕ → Option Told) → ((j : ℕ) → f j ≡ g j) → and_told o f ≡ and_told o g
 said_next None f g same = refl
 said_next (Some t) f g same = ap (behind_text t.text) (same t.position)
-
--- a command of which there is no limit
-all_allowed : (command : Command) → limited None command ≡ command
-all_allowed (Step n) = refl
-all_allowed (Back n) = refl
-all_allowed (To place n) = refl
-all_allowed (BackTo place n) = refl
-all_allowed Regs = refl
-all_allowed (Cells from count) = refl
 
 lines_said : (program : Source) (account : Account) (commands : List Command) (lines : List (List ℕ)) (j : ℕ)
     → AreCommands commands lines → said_of program account None lines j ≡ told program account.trail commands j
@@ -41,7 +32,7 @@ lines_said program account commands (line ∷ lines) j (inr (command, rest, is, 
     ap (λ (r : Request). and_told (said_to program account None r line j)
     (said_of program account (limit_after (limit_of r) None) lines)) is
     ∙ ap (λ (c : Command). and_told (told_by program account.trail c j) (said_of program account None lines))
-    (all_allowed command)
+    (unlimited command)
     ∙ said_next (told_by program account.trail command j) (said_of program account None lines)
     (told program account.trail rest) (λ k. lines_said program account rest lines k are)
     ∙ ap (λ (c : List Command). told program account.trail c j) (sym commands_are)

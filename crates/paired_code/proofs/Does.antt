@@ -18,7 +18,8 @@ pub will_first : (im : Image) (d : Bool) (p : List Symbol) (ps : List (List Symb
 will_first im false p ps m Q w = will_seq im p (in_order false ps) m Q w
 will_first im true p ps m Q w = will_seq_back im (in_order true ps) p m Q w
 
-meets_plus : {A : Type 0} {R : A → Memory → Type 0} {b : Rates} {n y c k : ℕ} {t : Told A} {o : Outcome} (x : ℕ)
+-- a part, and what comes after it with a count that is known
+pub meets_plus : {A : Type 0} {R : A → Memory → Type 0} {b : Rates} {n y c k : ℕ} {t : Told A} {o : Outcome} (x : ℕ)
     → c ≤ b.counts * k → k ≤ b.steps * c + x → Meets R b (n - c) y t o → Meets R b n (x + y) (plus c t) (after k o)
 meets_plus {b = b} {c = c} {k = k} x h l (fine {c = c2} {k = k2} r h2 l2) =
     fine r (omega (arith, mul-add b.counts k k2)) (omega (arith, mul-add b.steps c c2))

@@ -20,6 +20,7 @@ use Rattle.rpp_probes.proofs.Folds.{left_none, left_more, left_append, lines_mor
 use Rattle.pisa_machine.specs.Position.{Position, stepped}
 use Rattle.pisa_machine.specs.Told.{step_at, counted_steps, BreaksOff}
 use Rattle.pisa_isa.proofs.Reached.{counted-stop_at_bound}
+use Rattle.pisa_machine.proofs.Legs.{end_of}
 
 -- ---- states that are visited
 
@@ -97,9 +98,6 @@ pub record EndsTold (code : List Cell) (bound : ℕ) (first last : State) (ws no
   pub runs : run code bound first ≡ record { why = why; spent = spent; last = last }
   pub stands : now ≡ left_after (counted_steps code bound first) ws
   pub lines : after ≡ before ++ lines_after (counted_steps code bound first) ws
-
-abbrev pub end_of : Stop → ℕ → State → End
-end_of why spent last = record { why = why; spent = spent; last = last }
 
 -- where the steps are made that it may make
 pub ends_at_bound : (code : List Cell) (bound made : ℕ) (first here : State) (ws now : List Watch)

@@ -1,33 +1,18 @@
 -- Files that are read one after the other.
-use Rattle.std.proofs.Common.{◌≡◌, refl, sym, ap, subst, ◌∙◌, ℕ, ◌≤◌, ◌<◌, List, [], ◌∷◌, Some, None, Ok, Err}
+use Rattle.std.proofs.Common.{◌≡◌, refl, sym, ap, subst, ◌∙◌, ℕ, ◌≤◌, ◌<◌, List, [], ◌∷◌, Some, Ok, Err}
 use Rattle.std.proofs.Common.{inl, inr, arith, length, true, false}
 use Rattle.std.specs.Prelude.{Result, IfErr, string_bytes, Bool, if◌then◌else◌, IsSomeAnd}
 use Rattle.std.specs.declared.option.Option.{Option}
 use Rattle.std.specs.Str.{bytes_eq}
-use Rattle.std.proofs.lemmas.Bool.Decides.{nat_tests}
 use Rattle.std.proofs.lemmas.Slice.Eq.{bytes_eq-Decides}
-use Rattle.command_plan.specs.rpp_ports.Ports.{Texts, Rose, ReadCause}
+use Rattle.command_plan.specs.rpp_ports.Ports.{Texts, Rose}
 use Rattle.command_plan.specs.rpp_ports.Events.{Event}
-use Rattle.command_plan.specs.rpp_ports.declared.shelf.ShelfFault.{ShelfFault}
-use Rattle.command_plan.specs.rpp_ports.declared.shelf.ShelfFault.TheVariants as fault
 use Rattle.command_plan.specs.declared.plan.NoPlan.{NoPlan}
 use Rattle.command_plan.specs.declared.plan.NoPlan.TheVariants.{NoMemory, Unread}
 use Rattle.command_plan.specs.Files.{Needed, LacksOne}
 use Rattle.command_plan.specs.Reads.{read, Gave, FailsAt, StopsAt, ReadsSome, Asks}
 use Rattle.plan_serving.specs.Places.{IsBefore, HasPlaces, place_files}
-
-pub rose_before : (b m n : ℕ) → b ≤ m → Rose m n → Rose b n
-rose_before b m n h rose = grind (arith, nat_tests)
-
--- what a cause says where another rise is as good
-cause_by : (told : Option Texts) (name : List ℕ) (limit : ℕ) (R S : Type 0) (why : ShelfFault) → (R → S)
-    → ReadCause told name limit R why → ReadCause told name limit S why
-cause_by told name limit R S fault.NoMemory f c = tt
-cause_by told name limit R S fault.Failed f c = f c
-cause_by (Some texts) name limit R S fault.Missing f c = c
-cause_by (Some texts) name limit R S fault.TooLong f c = c
-cause_by None name limit R S fault.Missing f c = f c
-cause_by None name limit R S fault.TooLong f c = f c
+use Rattle.command_plan.proofs.TwoReads.{rose_before, cause_by}
 
 fails_by : (told : Option Texts) (file : Needed) (R S : Type 0) (line : List ℕ) (old new : List Event) → (R → S)
     → FailsAt told file R line old new → FailsAt told file S line old new

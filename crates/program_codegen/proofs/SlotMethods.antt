@@ -1,16 +1,16 @@
 -- Each slot of a class leads to a method of the program, which has a routine.
 use Rattle.std.proofs.Common.{◌≡◌, ◌∙◌, sym, ap, subst, refl, ℕ, ◌+◌, ◌^◌, ◌<◌, ◌≤◌, List, [], ◌∷◌, ◌++◌, length}
-use Rattle.std.proofs.Common.{Option, Some, None, arith, slice_get}
+use Rattle.std.proofs.Common.{Some, arith, slice_get}
 use Rattle.std.specs.Prelude.{slice_index}
 use Rattle.std.specs.Option.{unwrap_or}
 use Rattle.rpp_tree.specs.Parts.{source_tokens}
 use Rattle.rpp_tree.specs.Tree.{Procedure, Source}
 use Rattle.refine_program.specs.class_rules.declared.method.MethodId.{MethodId}
-use Rattle.refine_program.specs.class_rules.Chains.{parents, chain_of, line_of}
+use Rattle.refine_program.specs.class_rules.Chains.{parents}
 use Rattle.refine_program.specs.class_rules.Classes.{class_slots, main_of}
 use Rattle.refine_program.specs.class_rules.First.{each_below}
 use Rattle.refine_program.specs.class_rules.Mains.{mains}
-use Rattle.refine_program.specs.class_rules.Members.{Slots, class_at, no_class, slots_of, slots_along}
+use Rattle.refine_program.specs.class_rules.Members.{Slots, class_at, no_class, slots_along}
 use Rattle.refine_program.specs.class_rules.Overrides.{run_at}
 use Rattle.refine_program.specs.class_rules.Program.{IsAccepted}
 use Rattle.refine_program.specs.class_rules.Table.{Table, table_of, slots_in, dispatch_in}
@@ -25,16 +25,13 @@ use Rattle.refine_program.specs.Methods.{methods_before, routine_of}
 use Rattle.refine_program.proofs.Stated.{methods_have_routines}
 use Rattle.program_codegen.proofs.Counts.{entries_few}
 use Rattle.program_codegen.proofs.Tables.{first_read}
+use Rattle.std.proofs.lemmas.Option.{same_Some}
 
 -- a method that is there
 pub record IsMethod (program : Source) (id : MethodId) : Type 0 where
   pub inside : id.class < length program.classes
   pub method : Procedure
   pub there : slice_get (class_at program id.class).methods id.method ≡ Some method
-
-own_inside : (program : Source) (own : ℕ) → own < length program.classes → (number : ℕ) → Some own ≡ Some number
-    → number < length program.classes
-own_inside program own h number e = let s : own ≡ number = cc in subst (λ n. n < length program.classes) s h
 
 pub slot_method : (program : Source) (own slot : ℕ) → own < length program.classes
     → slot < length (class_slots program own) → IsMethod program (run_at (class_slots program own) slot)
@@ -47,7 +44,8 @@ slot_method program own slot own_in low =
     let entry = entries.at slot x.0 (ap (λ l. slice_get (slots_along program [] l) slot) (sym line.is) ∙ x.1) in
     let class_in : x.0.1.class < length program.classes =
     in_range (length program.classes) (length program.classes) (parents program) (Some own) whole x.0.1.class
-    (parents_in program) (own_inside program own own_in) line.chain_is entry.known in
+    (parents_in program) (λ number e. subst (λ n. n < length program.classes) (same_Some own number e) own_in)
+    line.chain_is entry.known in
     subst (IsMethod program) (sym (run_is (class_slots program own) slot x.0 x.1))
     (record { inside = class_in; method = entry.method; there = entry.there })
   where

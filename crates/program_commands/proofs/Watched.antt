@@ -1,6 +1,6 @@
 -- What the probes of `turn` and `profile` observed.
 use Rattle.std.proofs.Common.{◌≡◌, ◌∙◌, sym, ap, subst, subst₂, ℕ, ◌+◌, true, false, List, [], ◌∷◌, ◌++◌, map, Ok, Err}
-use Rattle.std.proofs.Common.{inr, ⊎_elim}
+use Rattle.std.proofs.Common.{inr}
 use Rattle.std.specs.Prelude.{Result, OnOk, IfErr}
 use Rattle.std.proofs.lemmas.List.{map-append}
 use Rattle.image_inverter.specs.pisa_isa.declared.cell.Cell.{Cell}
@@ -31,11 +31,6 @@ pub none_told : {A E : Type 0} (r : Result A E) (steps : List StepAt) (ws : List
     → OnOk r (ws ≡ left_after steps ws)
 none_told (Ok x) steps ws none = sym (ap (λ l. left_after l ws) none ∙ left_none ws)
 none_told (Err e) steps ws none = tt
-
--- what holds whatever the result
-pub err_always : {A E : Type 0} (r : Result A E) (P : Type 0) → P → IfErr r (λ _. P)
-err_always (Ok x) P h = tt
-err_always (Err e) P h = h
 
 pub err_weaken : {A E : Type 0} (r : Result A E) (P Q : Type 0) → (P → Q) → IfErr r (λ _. P) → IfErr r (λ _. Q)
 err_weaken (Ok x) P Q f h = tt

@@ -10,7 +10,7 @@ use Rattle.paired_code.specs.Pieces.{Outcome, Done, Trapped, Bad, Still, Will, a
 use Rattle.paired_code.specs.Does.{Rates, Told, Fine, plus, told_then, Meets, fine, faults, more, in_order}
 use Rattle.paired_code.proofs.Laws.{Next, will_seq, will_seq_back, will_more}
 use Rattle.paired_code.proofs.Mirrored.{will_mirror}
-use Rattle.paired_code.proofs.Does.{will_first}
+use Rattle.paired_code.proofs.Does.{will_first, meets_plus}
 use Rattle.refine_form.specs.Cells.{around}
 
 -- a memory whose registers are known
@@ -49,15 +49,6 @@ meets_as f (more l) = more l
 pub meets_told : {A : Type 0} {R : A → Memory → Type 0} {b : Rates} {n x : ℕ} {o : Outcome} (t t' : Told A) → t ≡ t'
     → Meets R b n x t o → Meets R b n x t' o
 meets_told {R = R} {b = b} {n = n} {x = x} {o = o} t t' e h = subst (λ z. Meets R b n x z o) e h
-
--- a part, and what comes after it with a count that is known
-pub meets_plus : {A : Type 0} {R : A → Memory → Type 0} {b : Rates} {n y c k : ℕ} {t : Told A} {o : Outcome} (x : ℕ)
-    → c ≤ b.counts * k → k ≤ b.steps * c + x → Meets R b (n - c) y t o → Meets R b n (x + y) (plus c t) (after k o)
-meets_plus {b = b} {c = c} {k = k} x h l (fine {c = c2} {k = k2} r h2 l2) =
-    fine r (omega (arith, mul-add b.counts k k2)) (omega (arith, mul-add b.steps c c2))
-meets_plus {b = b} {c = c} x h l (faults {c = c2} l2) = faults (omega (arith, mul-add b.steps c c2))
-meets_plus {b = b} {k = k} x h l (more {k = k2} h2) = more
-    (omega (arith, mul-add b.counts k k2, mul-add b.counts k2 1, mul-add b.counts (k + k2) 1))
 
 next_known : {A B : Type 0} {im : Image} {d : Bool} {R1 : A → Memory → Type 0} {R2 : B → Memory → Type 0} {b : Rates}
     {n : ℕ} {t : Told A} {o : Outcome} (ps : List (List Symbol)) (x y : ℕ) (g : ℕ → A → Told B)

@@ -8,10 +8,10 @@ use Rattle.command_line.specs.command_plan.Plans.{Planned, Written}
 use Rattle.command_line.specs.command_plan.command_ends.declared.status.Broken.{Broken}
 use Rattle.command_line.specs.command_plan.command_ends.declared.status.Broken.TheVariants.{Outside, NoMemory}
 use Rattle.command_line.specs.Lines.{Asked, Turn, Profile}
-use Rattle.plan_serving.proofs.Fetched.{rose_before}
 use Rattle.rpp_command.specs.Plans.{IsPlan, LeavesProbes}
 use Rattle.plan_serving.specs.Left.{LeavesUnwritten, BreaksOff}
 use Rattle.rpp_command.specs.Told.{EndsEarly}
+use Rattle.command_plan.proofs.TwoReads.{rose_before}
 
 -- another rise of the file store's count is as good
 

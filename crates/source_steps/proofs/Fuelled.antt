@@ -6,7 +6,6 @@ use Rattle.std.specs.Prelude.{nat_le, Option, Result, Ok, Err, IfErr}
 use Rattle.std.specs.Result.{IsErrAnd}
 use Rattle.source_store.specs.roopl_semantics.Store.{State}
 use Rattle.source_store.specs.roopl_semantics.Run.{Run, Done, Fault, More, after_cost, ◌>>=◌, give}
-use Rattle.source_store.specs.declared.lack.Lack.TheVariants as lacking
 use Rattle.source_steps.specs.declared.stop.Stop.{Stop}
 use Rattle.source_steps.specs.declared.stop.Stop.TheVariants as stop
 use Rattle.source_steps.specs.Metered.{Metered, Went, Out, left_of, went, stopped, metered, chain, Failed}

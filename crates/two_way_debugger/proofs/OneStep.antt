@@ -1,18 +1,8 @@
 -- How a run that made no step ends, and when two positions are one.
-use Rattle.std.proofs.Common.{◌≡◌, ◌∙◌, ℕ, refl, ap, Option, Some, None}
-use Rattle.pisa_scripts.specs.pisa_isa.declared.cell.Cell.{Cell}
-use Rattle.pisa_scripts.specs.pisa_isa.declared.machine.Stop.{Stop}
+use Rattle.std.proofs.Common.{◌≡◌, ◌∙◌, ℕ, ap}
 use Rattle.pisa_scripts.specs.pisa_isa.Machine.{State}
 use Rattle.pisa_scripts.specs.pisa_isa.Image.{Segments}
-use Rattle.pisa_scripts.specs.pisa_isa.Runs.{End, counted, stop_at_bound}
 use Rattle.pisa_machine.specs.Position.{Position}
-
-abbrev pub end_of : Stop → ℕ → State → End
-end_of why spent last = record { why = why; spent = spent; last = last }
-
-pub bound_counts_none : (o : Option Cell) (m : State) → counted (stop_at_bound o m.pc) ≡ 0
-bound_counts_none None m = refl
-bound_counts_none (Some c) m = refl
 
 abbrev position_of : Segments → State → ℕ → Position
 position_of image state made = record { image = image; state = state; made = made }

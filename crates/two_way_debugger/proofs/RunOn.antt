@@ -10,7 +10,9 @@ use Rattle.two_way_debugger.specs.declared.moves.TheConstants.{LAST_POSITION}
 use Rattle.two_way_debugger.specs.declared.moves.Ending.{Ending}
 use Rattle.two_way_debugger.specs.declared.moves.Ending.TheVariants.{Made, Last, Stopped}
 use Rattle.two_way_debugger.specs.Moves.{Walk, moved, later, unless_ended, walk}
-use Rattle.two_way_debugger.proofs.OneStep.{end_of, bound_counts_none, same_position}
+use Rattle.two_way_debugger.proofs.OneStep.{same_position}
+use Rattle.pisa_machine.proofs.Legs.{end_of}
+use Rattle.pisa_isa.proofs.Reached.{counted-stop_at_bound}
 
 abbrev walked : Position → Ending → ℕ → Walk
 walked q ending spent = record { position = q; ending = ending; spent = spent }
@@ -35,7 +37,7 @@ ran zero k p q why spent room images r count = record { all = all; some = some }
     why_is = ap (λ (e : End). e.why) (sym r)
 
     none : counted why ≡ 0
-    none = ap counted why_is ∙ bound_counts_none (fetch p.image.code p.state.pc) p.state
+    none = ap counted why_is ∙ counted-stop_at_bound (fetch p.image.code p.state.pc) p.state.pc
 
     spent_is : 0 ≡ spent
     spent_is = ap (λ (e : End). e.spent) r

@@ -2,8 +2,9 @@ use Rattle.std.proofs.Common.{◌≡◌, ◌∙◌, ◌≤◌, ◌+◌, sym, ap,
 use Rattle.std.proofs.lemmas.Result.{err_from_is_err_and}
 use Rattle.cluster_commands.specs.ClusterScripts.{with_line, events_from}
 use Rattle.command_plan.specs.pisa_scripts.Lines.{pieces}
-use Rattle.cluster_commands.proofs.Reading.{fails_with, goes_on, stops, is_done, few_lines}
+use Rattle.cluster_commands.proofs.Reading.{fails_with, goes_on, stops, is_done}
 use Rattle.cluster_commands.proofs.script.read_lines.Goals as goal
+use Rattle.pisa_scripts.proofs.Pieces.{few_lines}
 
 abbrev text_of : Bor (List ℕ) → List ℕ
 text_of line = line.now

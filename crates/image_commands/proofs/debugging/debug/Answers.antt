@@ -5,8 +5,8 @@ use Rattle.command_plan.specs.declared.reading.TheConstants.{MOST_IMAGE}
 use Rattle.command_plan.specs.Plans.{planned, WithText}
 use Rattle.command_plan.proofs.GivenTexts.{with_text}
 use Rattle.image_commands.specs.DebugPlans.{IsDebugPlan, IsDebugShort, DebugsFileShort}
-use Rattle.image_commands.proofs.Short.{err_always}
 use Rattle.image_commands.proofs.debugging.debug.Goals as goal
+use Rattle.pisa_scripts.proofs.Errors.{on_err_always}
 
 pub returns-clause-plan : goal.returns-clause-plan
 returns-clause-plan g c =
@@ -27,7 +27,7 @@ returns-in_err-debug_over-clause-short g c =
     let read = c.in_ok-read.read in
     let P : List ℕ → List ℕ → Type 0 = λ bytes text. IsDebugShort (image_at bytes) c.args.room
     text c.args.steps.now c.debug_over.new.steps in
-    err_always c.from_residual-in_err-debug_over.result
+    on_err_always c.from_residual-in_err-debug_over.result
     (DebugsFileShort c.args.image.now c.args.room c.args.script.now c.args.steps.now
     c.debug_over.new.steps told)
     (⊎_elim (λ e. inl e)

@@ -4,8 +4,8 @@ use Rattle.command_plan.proofs.GivenTexts.{with_text}
 use Rattle.program_commands.specs.RunPlans.{IsProfilePlan}
 use Rattle.std.proofs.Common.{[], inr}
 use Rattle.program_commands.specs.ToldShort.{IsProfileShort, ProfilesFileShort}
-use Rattle.program_commands.proofs.Watched.{err_always}
 use Rattle.program_commands.proofs.profiling.profile.Goals as goal
+use Rattle.command_plan.proofs.pisa_scripts_laws.Errors.{on_err_always}
 
 pub returns-clause-plan : goal.returns-clause-plan
 returns-clause-plan g c =
@@ -21,7 +21,7 @@ returns-in_err-profile_text-clause-short g c =
     let told = g.S.Shelf.texts c.args.shelf.now in
     let before = g.P.Probes.watches c.args.probes.now in
     let after = g.P.Probes.watches c.profile_text.new.probes in
-    err_always c.from_residual-in_err-profile_text.result
+    on_err_always c.from_residual-in_err-profile_text.result
     (ProfilesFileShort before after c.args.file.now c.args.sizes
     told)
     (inr (with_text told c.args.file.now MOST_BYTES c.in_ok-text.text.items c.deref.result.now

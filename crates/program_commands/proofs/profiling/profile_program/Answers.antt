@@ -7,8 +7,9 @@ use Rattle.store_report.specs.pisa_machine.Told.{counted_steps}
 use Rattle.command_plan.specs.Plans.{planned}
 use Rattle.program_commands.proofs.Turned.{has_run, run_once, broken_within}
 use Rattle.program_runs.proofs.Weaker.{weaken}
-use Rattle.program_commands.proofs.Watched.{profiles_image, err_always, told_short, loaded_short}
+use Rattle.program_commands.proofs.Watched.{profiles_image, told_short, loaded_short}
 use Rattle.program_commands.proofs.profiling.profile_program.Goals as goal
+use Rattle.command_plan.proofs.pisa_scripts_laws.Errors.{on_err_always}
 
 pub report_run-requires : goal.report_run-requires
 report_run-requires g c =
@@ -55,7 +56,7 @@ returns-in_err-end-clause-short g c =
     let bound = c.args.setting.now.bound in
     let before = g.P.Probes.watches c.args.probes.now in
     let after = g.P.Probes.watches c.run_told.new.probes in
-    err_always c.from_residual-in_err-end.result ((after ≡ before)
+    on_err_always c.from_residual-in_err-end.result ((after ≡ before)
     ⊎ ProfilesShort before after program limits input bound)
     (inr (loaded_short program limits input bound c.in_ok-machine.machine c.in_ok-machine.ensures
     c.run_told.ensures.machine.is_image before after (told_short _ _ _ _ _ _ _ _ _ c.in_err-end.ensures.broken_off)))
@@ -68,7 +69,7 @@ returns-in_err-said-clause-short g c =
     let bound = c.args.setting.now.bound in
     let before = g.P.Probes.watches c.args.probes.now in
     let after = g.P.Probes.watches c.run_told.new.probes in
-    err_always c.from_residual-in_err-said.result ((after ≡ before)
+    on_err_always c.from_residual-in_err-said.result ((after ≡ before)
     ⊎ ProfilesShort before after program limits input bound)
     (inr (loaded_short program limits input bound c.in_ok-machine.machine c.in_ok-machine.ensures
     c.run_told.ensures.machine.is_image before after (inl c.in_ok-end.ensures.told)))
@@ -81,6 +82,6 @@ returns-clause-short g c =
     let bound = c.args.setting.now.bound in
     let before = g.P.Probes.watches c.args.probes.now in
     let after = g.P.Probes.watches c.run_told.new.probes in
-    err_always c.with_probes.result ((after ≡ before) ⊎ ProfilesShort before after program limits input bound)
+    on_err_always c.with_probes.result ((after ≡ before) ⊎ ProfilesShort before after program limits input bound)
     (inr (loaded_short program limits input bound c.in_ok-machine.machine c.in_ok-machine.ensures
     c.run_told.ensures.machine.is_image before after (inl c.in_ok-end.ensures.told)))

@@ -3,7 +3,7 @@ use Rattle.std.specs.Prelude.{◌⊎◌}
 use Rattle.image_inverter.specs.pisa_isa.Flipped.{flipped}
 use Rattle.image_inverter.specs.pisa_isa.Runs.{started}
 use Rattle.program_commands.specs.ToldShort.{IsToldSoFar}
-use Rattle.program_commands.proofs.Watched.{err_always, told_short, so_far_from}
+use Rattle.program_commands.proofs.Watched.{told_short, so_far_from}
 use Rattle.roopl_judge.specs.rpp_tree.Views.{source_of}
 use Rattle.image_inverter.specs.pisa_isa.Flipped.{flipped_image}
 use Rattle.image_inverter.specs.pisa_isa.Image.{Segments}
@@ -11,6 +11,7 @@ use Rattle.image_inverter.specs.pisa_isa.Runs.{run}
 use Rattle.store_report.specs.pisa_machine.Position.{Position, first_position}
 use Rattle.program_commands.proofs.Turned.{back_cells, back_spent, broken_within}
 use Rattle.program_commands.proofs.turning.run_back.Goals as goal
+use Rattle.command_plan.proofs.pisa_scripts_laws.Errors.{on_err_always}
 
 pub returns-clause-cells : goal.returns-clause-cells
 returns-clause-cells g c =
@@ -56,7 +57,7 @@ returns-in_err-back-clause-short g c =
     ∙ ap flipped_image c.image.ensures.image in
     let first : c.with_image-machine.result ≡ first_position (flipped_image m.image) m.state.regs m.state.cells =
     c.with_image-machine.ensures ∙ ap (λ (i : Segments). first_position i m.state.regs m.state.cells) same in
-    err_always c.from_residual-in_err-back.result
+    on_err_always c.from_residual-in_err-back.result
     ((after ≡ before) ⊎ IsToldSoFar code bound (started code m.state.regs m.state.cells) before after)
     (inr (so_far_from code (started code m.state.regs m.state.cells) c.with_image-machine.result bound before after
     (ap (λ (p : Position). p.image.code) first) (ap (λ (p : Position). p.state) first)

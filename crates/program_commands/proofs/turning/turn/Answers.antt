@@ -4,8 +4,8 @@ use Rattle.command_plan.specs.Plans.{planned, WithInput}
 use Rattle.command_plan.proofs.GivenTexts.{with_text, with_input}
 use Rattle.program_commands.specs.RunPlans.{IsTurnPlan}
 use Rattle.program_commands.specs.ToldShort.{IsTurnShort, TurnsFileShort}
-use Rattle.program_commands.proofs.Watched.{err_always}
 use Rattle.program_commands.proofs.turning.turn.Goals as goal
+use Rattle.command_plan.proofs.pisa_scripts_laws.Errors.{on_err_always}
 
 pub returns-clause-plan : goal.returns-clause-plan
 returns-clause-plan g c =
@@ -29,7 +29,7 @@ returns-in_err-turn_over-clause-short g c =
     let before = g.P.Probes.watches c.args.probes.now in
     let after = g.P.Probes.watches c.turn_over.new.probes in
     let P : List ℕ → List ℕ → Type 0 = λ text entered. IsTurnShort before after text entered c.args.sizes in
-    err_always c.from_residual-in_err-turn_over.result
+    on_err_always c.from_residual-in_err-turn_over.result
     (TurnsFileShort before after c.args.file.now input c.args.sizes
     told)
     (inr (with_text told c.args.file.now MOST_BYTES given.text.items c.deref.result.now

@@ -4,9 +4,10 @@ use Rattle.pisa_isa.specs.Image.{Segments}
 use Rattle.pisa_isa.specs.Machine.{stop, fetch, next}
 use Rattle.pisa_isa.specs.Runs.{counted, stop_at_bound}
 use Rattle.pisa_machine.specs.Position.{Position}
-use Rattle.pisa_machine.proofs.Watched.{in_code, told_more, told_many, not_begun, ends_at_bound, ends_at_stop, end_of}
+use Rattle.pisa_machine.proofs.Watched.{in_code, told_more, told_many, not_begun, ends_at_bound, ends_at_stop}
 use Rattle.pisa_machine.proofs.Watched.{breaks_off}
 use Rattle.pisa_machine.proofs.machine.Machine.run_told.Goals as goal
+use Rattle.pisa_machine.proofs.Legs.{end_of}
 
 pub loop-made-init : goal.loop-made-init
 loop-made-init g c = record {
