@@ -153,7 +153,8 @@ head_below : (top i size block : ℕ) (free : List ℕ) (book : Book) → is_sou
 head_below top i size block free [] e pos at = cc
 head_below top zero size block free (x ∷ higher) e pos at =
     let parts = and_parts (is_sound_list top size x) _ e in
-    let head = sound_head top size block free (ap (is_sound_list top size) (sym (same_Some x (block ∷ free) at)) ∙ parts.0)
+    let head = sound_head top size block free
+    (ap (is_sound_list top size) (sym (same_Some x (block ∷ free) at)) ∙ parts.0)
     in
     let fits = head.fits in
     omega arith

@@ -31,11 +31,12 @@ use Rattle.meaning_reached.proofs.meaning_sound_laws.Keeping.{exec_keeps}
 use Rattle.meaning_reached.proofs.meaning_sound_laws.Calls.{meant_apart}
 use Rattle.meaning_reached.proofs.meaning_sound_laws.AfterWrites.{read_other}
 use Rattle.meaning_inverse.proofs.Later.{frame_names}
-use Rattle.meaning_inverse.proofs.Cells.{named_changed, with_cell, names_with, apart_sym}
+use Rattle.meaning_inverse.proofs.Cells.{named_changed, names_with, apart_sym}
 use Rattle.meaning_inverse.proofs.Calls.{cells_later}
 use Rattle.meaning_inverse.proofs.Steady.{SameArray, SameLength, Avoids, VariablesStay}
 use Rattle.meaning_inverse.specs.ArrayLengths.{is_class_head}
 use Rattle.meaning_inverse.proofs.Known.{Context}
+use Rattle.meaning_reached.proofs.roopl_semantics_laws.Changed.{with_cell}
 
 -- ---- heads and names
 

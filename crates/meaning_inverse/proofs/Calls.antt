@@ -1,5 +1,5 @@
 -- Calls undone.
-use Rattle.std.proofs.Common.{◌≡◌, ℕ, suc, ◌+◌, ◌≤◌, refl, sym, ap, subst, ◌∙◌, arith, true, false, Bool, not, List, []}
+use Rattle.std.proofs.Common.{◌≡◌, ℕ, suc, ◌+◌, ◌≤◌, refl, sym, ap, subst, ◌∙◌, arith, Bool, not, List, []}
 use Rattle.std.proofs.Common.{◌∷◌, ◌++◌, length, map, Option, Some, None, nat_lt, unwrap_or, length-append, position}
 use Rattle.std.proofs.Common.{slice_get}
 use Rattle.std.proofs.lemmas.List.{map-append}
@@ -7,8 +7,6 @@ use Rattle.std.specs.Str.{bytes_eq}
 use Rattle.meaning_reached.specs.rpp_tree.declared.tree.Ident.{Ident}
 use Rattle.meaning_reached.specs.rpp_tree.Tree.{Whole, Statements, Call, End, Then, Procedure}
 use Rattle.meaning_reached.specs.class_rules.Classes.{class_fields, method_named}
-use Rattle.meaning_reached.specs.inverse_rules.Inverse.{inverse}
-use Rattle.meaning_reached.proofs.inverse_rules_laws.Inverses.{inverse-twice}
 use Rattle.meaning_reached.specs.roopl_semantics.Run.{Run, Done, ◌>>=◌, spend, fault_if}
 use Rattle.meaning_reached.specs.roopl_semantics.Store.{Value, Word, Nil, Name, Object, Binding, State, is_nil, number_of, object_named}
 use Rattle.meaning_reached.specs.roopl_semantics.Store.{object_at, class_of_head, no_object}
@@ -30,6 +28,7 @@ use Rattle.meaning_inverse.proofs.Moves.{moved_back_does, moved_there_and_back, 
 use Rattle.meaning_inverse.proofs.Moves.{moved_back_seen}
 use Rattle.meaning_inverse.proofs.Moves.{moved_out_frame, live_moved_out, bound_names, bound_values, bound_renamed}
 use Rattle.meaning_inverse.proofs.Moves.{rebound}
+use Rattle.meaning_reached.proofs.roopl_semantics_laws.Changed.{direction_undone}
 
 -- maps that do the same to what a frame holds give the same frame
 pub frame_alike : (f g : ℕ → ℕ) (frame : List Binding) → ((i n : ℕ) → value_at frame i ≡ Name n → f n ≡ g n)
@@ -69,10 +68,6 @@ same_rest (x ∷ xs) ys [] vs n e = absurd (omega arith)
 same_rest (x ∷ xs) ys (u ∷ us) vs n e =
     let rest = same_rest xs ys us vs (omega arith) (ap (λ l. tail_or l) e) in
     (ap (λ z. z ∷ xs) (ap (λ l. head_or x l) e) ∙ ap (λ l. u ∷ l) rest.0, rest.1)
-
-direction_turned : (back : Bool) (body : Statements) → in_direction (not back) body ≡ inverse (in_direction back body)
-direction_turned true body = sym (inverse-twice true body)
-direction_turned false body = refl
 
 -- a name's cell is of the frame or of the object
 cell_renamed_alike : (f g : Names) (setting : Setting) (st : State) (name : List ℕ) → f.there st.self ≡ g.there st.self
@@ -265,7 +260,7 @@ module _ (setting : Setting) (G : Ground setting) where
       ∙ sym (map-append (renamed g.there) (map (read a) receiver) (map (read a) args))
       ∙ ap (map (renamed g.there)) (sym (map-append (read a) receiver args)) in
       let S : Statements → Type 0 = λ s. Runs setting s entry' inner.back one.before in
-      let runs = subst S (sym (direction_turned back method.body)) inner.runs in
+      let runs = subst S (sym (direction_undone back method.body)) inner.runs in
       let after : moved_back cells' (map (read b') receiver' ++ map (λ binding. binding.value) inner.back.frame) mid'
       ≡ Done returns.back 0 =
       ap (λ l. moved_back l (map (read b') receiver' ++ map (λ binding. binding.value) inner.back.frame) mid')

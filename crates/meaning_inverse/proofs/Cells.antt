@@ -6,6 +6,7 @@ use Rattle.std.proofs.lemmas.Bool.{eqb-false}
 use Rattle.meaning_reached.specs.roopl_semantics.Store.{Value, Nil, Object, Store, Binding, State, object_named, no_object, changed_at}
 use Rattle.meaning_reached.specs.roopl_semantics.Value.{Cell, Slot, Part, value_at, with_value, read, written}
 use Rattle.meaning_reached.specs.roopl_semantics.Execution.{same_cell}
+use Rattle.meaning_reached.proofs.roopl_semantics_laws.Changed.{with_cell}
 
 -- numbers that differ, one less
 pub apart_less : (i j : ℕ) → nat_eq (suc i) (suc j) ≡ false → nat_eq i j ≡ false
@@ -170,10 +171,6 @@ pub data IsCell (st : State) : Cell → Type 0 where
   IsSlot : (i : ℕ) → i < length st.frame → IsCell st (Slot i)
   IsPart : (name i : ℕ) (object : Object) → object_named st.store name ≡ Some object → i < length object.cells
       → IsCell st (Part name i)
-
--- the cells of an object with one of them changed
-abbrev pub with_cell : ℕ → Value → Object → Object
-with_cell i v object = record object { cells = slice_set object.cells i v }
 
 pub written_twice : (st : State) (c : Cell) (v w : Value) → written (written st c v) c w ≡ written st c w
 written_twice st (Slot i) v w = ap (λ f. record st { frame = f }) (with_with st.frame i v w)

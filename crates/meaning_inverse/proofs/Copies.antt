@@ -14,15 +14,13 @@ use Rattle.meaning_reached.specs.roopl_semantics.Execution.{not_same_fault}
 use Rattle.meaning_reached.specs.roopl_semantics.Agreement.{renamed}
 use Rattle.meaning_inverse.proofs.Runs.{in_parts, done_then, done_result, done_cost, given_done, apart_done, done_apart}
 use Rattle.meaning_inverse.proofs.Runs.{passed_check, passes}
-use Rattle.meaning_inverse.proofs.Cells.{with_cell, named_changed, changed_changed, changed_apart, changed_none}
+use Rattle.meaning_inverse.proofs.Cells.{named_changed, changed_changed, changed_apart, changed_none}
 use Rattle.meaning_inverse.proofs.Cells.{written_twice, written_same, read_written, read_apart}
 use Rattle.meaning_inverse.proofs.Seen.{Names, Sees, cell_for, read_seen, share_seen, found_seen, written_seen}
 use Rattle.meaning_inverse.proofs.Seen.{counted_seen, is_same_value, same_value_itself, same_names}
 use Rattle.meaning_inverse.proofs.Ground.{Ground, CopyFacts, copied, uncopied, CleanIn}
 use Rattle.meaning_inverse.proofs.Undone.{Undone, UndoneExactly, cell_alike, is_same_cell, turned}
-
-abbrev pub with_count : (ℕ → ℕ) → Object → Object
-with_count change object = record object { count = change object.count }
+use Rattle.meaning_reached.proofs.roopl_semantics_laws.Changed.{with_count, with_cell}
 
 -- counts and cells change apart
 written_counted : (change : ℕ → ℕ) (st : State) (n : ℕ) (c : Cell) (v : Value)

@@ -10,7 +10,7 @@ use Rattle.meaning_reached.specs.roopl_semantics.Execution.{order_of_cells, new_
 use Rattle.meaning_reached.specs.roopl_semantics.Agreement.{renamed, renamed_object}
 use Rattle.meaning_inverse.specs.StatesAgree.{renamed_binding}
 use Rattle.meaning_reached.specs.roopl_semantics.Laws.{book_of, block_in}
-use Rattle.meaning_inverse.proofs.Cells.{IsCell, IsSlot, IsPart, with_cell, named_changed, written_twice, written_same}
+use Rattle.meaning_inverse.proofs.Cells.{IsCell, IsSlot, IsPart, named_changed, written_twice, written_same}
 use Rattle.meaning_inverse.proofs.Cells.{apart_sym}
 use Rattle.meaning_inverse.proofs.Later.{IsSound, named_without, named_without_same, undrawn, later_made}
 use Rattle.meaning_inverse.proofs.Seen.{Names, Sees, cell_for, one_to_one, same_names, written_seen}
@@ -20,6 +20,7 @@ use Rattle.meaning_inverse.proofs.Moves.{live_written}
 use Rattle.meaning_inverse.proofs.Calls.{frame_alike}
 use Rattle.meaning_inverse.proofs.Places.{dropped, added, made, not_drawn, block_without}
 use Rattle.std.proofs.lemmas.Option.{same_Some}
+use Rattle.meaning_reached.proofs.roopl_semantics_laws.Changed.{with_cell}
 
 -- two numbers change places
 abbrev swap_number : ℕ → ℕ → ℕ → ℕ

@@ -35,7 +35,6 @@ use Rattle.meaning_reached.proofs.class_rules_laws.PassedRules.{both_passed}
 use Rattle.meaning_reached.proofs.meaning_sound_laws.Runs.{ends_done as e2_done}
 use Rattle.meaning_reached.proofs.meaning_sound_laws.Keeping.{exec_keeps}
 use Rattle.meaning_inverse.proofs.Runs.{given_done, passed_check}
-use Rattle.meaning_inverse.proofs.Cells.{with_cell}
 use Rattle.meaning_inverse.proofs.Later.{Ends, ends_then, ends_on, ends_done, ends_more, IsSound, keeps_exec}
 use Rattle.meaning_inverse.proofs.Later.{later_moved_out}
 use Rattle.meaning_inverse.proofs.Places.{named_dropped, added}
@@ -46,6 +45,7 @@ use Rattle.meaning_inverse.proofs.Known.{Context, Checked, Good}
 use Rattle.meaning_inverse.proofs.Facts.{first_rule}
 use Rattle.meaning_inverse.proofs.Entries.{Entry, local_entry, construct_entry, element_entry, own_call, object_call}
 use Rattle.meaning_inverse.proofs.Entries.{IsCallIn, call_inner}
+use Rattle.meaning_reached.proofs.roopl_semantics_laws.Changed.{with_cell}
 
 abbrev HasElements : Object → Type 0
 HasElements o = is_class_head o.head ≡ false → is_less (length o.cells) 1 ≡ false

@@ -37,7 +37,7 @@ use Rattle.meaning_inverse.proofs.Cells.{named_changed}
 use Rattle.meaning_inverse.proofs.Ground.{UpdateFacts, SwapFacts, CopyFacts, copied, uncopied}
 use Rattle.meaning_inverse.proofs.Scopes.{either_false}
 use Rattle.meaning_inverse.proofs.Calls.{cells_later}
-use Rattle.meaning_inverse.proofs.Copies.{with_count, read_counted}
+use Rattle.meaning_inverse.proofs.Copies.{read_counted}
 use Rattle.meaning_inverse.proofs.Steady.{SameArray, SameLength, SamePlace, SameReads, AllRead, Avoids, SameVariable}
 use Rattle.meaning_inverse.proofs.Steady.{first_read, second_read, both_read, read_as, avoids_of, share_parts}
 use Rattle.meaning_inverse.proofs.Steady.{share_same}
@@ -48,6 +48,7 @@ use Rattle.meaning_inverse.proofs.Apart.{written_stays, apart_stays, stays_then,
 use Rattle.meaning_inverse.proofs.Apart.{element_is}
 use Rattle.meaning_inverse.proofs.Apart.{item_typed, array_of, element_apart, names_apart, place_apart, class_at_head}
 use Rattle.meaning_inverse.proofs.Apart.{head_class}
+use Rattle.meaning_reached.proofs.roopl_semantics_laws.Changed.{with_count}
 
 -- no type is that of its own elements
 pub no_own_element : (k : Kind) → element_kind k ≡ Some k → ⊥

@@ -10,11 +10,12 @@ use Rattle.meaning_reached.specs.roopl_semantics.Agreement.{renamed}
 use Rattle.meaning_inverse.specs.StatesAgree.{renamed_binding}
 use Rattle.meaning_inverse.proofs.Runs.{in_parts, done_then, done_result, done_cost, passed_check, passes}
 use Rattle.meaning_inverse.proofs.Cells.{IsCell, written_twice, written_same, written_apart, read_written, read_apart}
-use Rattle.meaning_inverse.proofs.Cells.{named_changed, with_cell}
+use Rattle.meaning_inverse.proofs.Cells.{named_changed}
 use Rattle.meaning_inverse.proofs.Later.{frame_names}
 use Rattle.meaning_inverse.proofs.Seen.{Names, Sees, cell_for, read_seen, written_seen, cleared_renamed, same_is_zero}
 use Rattle.meaning_inverse.proofs.Ground.{Each, AreDistinct, is_word, IsLive}
 use Rattle.meaning_inverse.proofs.Undone.{cell_stays, turned}
+use Rattle.meaning_reached.proofs.roopl_semantics_laws.Changed.{with_cell}
 
 pub each_with : (P Q : Cell → Type 0) (cells : List Cell) → ((c : Cell) → P c → Q c) → Each P cells → Each Q cells
 each_with P Q [] h k = tt

@@ -14,12 +14,13 @@ use Rattle.meaning_reached.specs.roopl_semantics.Value.{Cell, Part, with_value, 
 use Rattle.meaning_reached.specs.roopl_semantics.Execution.{order_of_cells, new_object}
 use Rattle.meaning_reached.specs.roopl_semantics.Agreement.{renamed_object}
 use Rattle.meaning_reached.specs.roopl_semantics.Laws.{book_of, block_in}
-use Rattle.meaning_inverse.proofs.Cells.{IsCell, IsSlot, IsPart, with_cell, with_with, with_same, written_twice}
+use Rattle.meaning_inverse.proofs.Cells.{IsCell, IsSlot, IsPart, with_with, with_same, written_twice}
 use Rattle.meaning_inverse.proofs.Cells.{written_same}
 use Rattle.meaning_reached.specs.roopl_semantics.Laws.{HasNamesOnce as IsUnique}
 use Rattle.meaning_inverse.proofs.Later.{IsSound, named_without, named_without_same, later_dropped}
 use Rattle.meaning_inverse.proofs.Seen.{Names, Sees, same_names}
 use Rattle.std.proofs.lemmas.Option.{same_Some}
+use Rattle.meaning_reached.proofs.roopl_semantics_laws.Changed.{with_cell}
 
 order_from_least : (tries k words : ℕ) → k ≤ order_from tries k words
 order_from_least zero k words = omega arith

@@ -26,9 +26,10 @@ use Rattle.meaning_reached.specs.roopl_semantics.Execution.{holds, opened, close
 use Rattle.meaning_reached.specs.roopl_semantics.Agreement.{renamed, renamed_object}
 use Rattle.meaning_inverse.specs.StatesAgree.{renamed_binding}
 use Rattle.meaning_reached.specs.roopl_semantics.Laws.{book_of, block_in}
-use Rattle.meaning_inverse.proofs.Cells.{named_changed, with_cell}
+use Rattle.meaning_inverse.proofs.Cells.{named_changed}
 use Rattle.meaning_inverse.proofs.Later.{IsSound, was_there, later_changed}
 use Rattle.meaning_inverse.proofs.Runs.{done_given}
+use Rattle.meaning_reached.proofs.roopl_semantics_laws.Changed.{with_cell}
 
 -- a one-to-one map of names that keeps 0 and the main object's
 pub record Names : Type 0 where

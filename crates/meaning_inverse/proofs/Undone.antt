@@ -18,12 +18,13 @@ use Rattle.meaning_reached.specs.roopl_semantics.Execution.{Setting, statement, 
 use Rattle.meaning_reached.specs.roopl_semantics.Agreement.{renamed}
 use Rattle.meaning_inverse.proofs.Runs.{in_parts, done_then, done_result, done_cost, given_done, apart_done, done_apart}
 use Rattle.meaning_inverse.proofs.Runs.{Runs, Does}
-use Rattle.meaning_inverse.proofs.Cells.{IsCell, IsSlot, IsPart, with_cell, written_twice, written_same, written_apart}
+use Rattle.meaning_inverse.proofs.Cells.{IsCell, IsSlot, IsPart, written_twice, written_same, written_apart}
 use Rattle.meaning_inverse.proofs.Cells.{read_written, read_apart, named_changed, length_with, apart_sym}
 use Rattle.meaning_inverse.proofs.Later.{IsSound, Later}
 use Rattle.meaning_inverse.proofs.Seen.{Names, Sees, cell_for, read_seen, share_seen, evaluated_seen, found_seen}
 use Rattle.meaning_inverse.proofs.Seen.{written_seen}
 use Rattle.meaning_inverse.proofs.Ground.{Ground, UpdateFacts, SwapFacts, swapped, CleanIn}
+use Rattle.meaning_reached.proofs.roopl_semantics_laws.Changed.{with_cell}
 
 -- the maps do the same with what is live before and after
 abbrev pub SameOn : Names → Names → State → State → Type 0

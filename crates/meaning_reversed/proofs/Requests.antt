@@ -23,7 +23,7 @@ use Rattle.meaning_machine.specs.roopl_semantics.Execution.{class_differs_fault}
 use Rattle.meaning_inverse.specs.meaning_sound.Sound.{Descending}
 use Rattle.meaning_inverse.proofs.meaning_sound_laws.Stores.{below_bound, live_named, descends_changed}
 use Rattle.meaning_inverse.proofs.Runs.{given_done, done_given, done_then, apart_done, passed_check}
-use Rattle.meaning_inverse.proofs.Cells.{IsCell, IsSlot, IsPart, with_cell, with_with, with_same, named_changed}
+use Rattle.meaning_inverse.proofs.Cells.{IsCell, IsSlot, IsPart, with_with, with_same, named_changed}
 use Rattle.meaning_inverse.proofs.Cells.{written_twice, written_same, apart_sym}
 use Rattle.meaning_inverse.proofs.Later.{IsSound, Ends, ends_then, ends_on, ends_done}
 use Rattle.meaning_inverse.proofs.Ground.{Ground, NewArrayFacts, DeleteArrayFacts, number_named, new_cells}
@@ -34,6 +34,7 @@ use Rattle.meaning_inverse.proofs.Places.{dropped, added, made, not_drawn}
 use Rattle.meaning_inverse.proofs.Heap.{aside, not_false, of_class_is}
 use Rattle.meaning_machine.specs.Reversed.{untaken, put_back, ungiven, undeleted, unmade}
 use Rattle.std.proofs.lemmas.Option.{same_Some}
+use Rattle.meaning_machine.proofs.roopl_semantics_laws.Changed.{with_cell}
 
 -- ---- stores
 

@@ -32,7 +32,7 @@ place_moved-twice false p br = there_and_back p (stride br)
 pub moved-twice : (m : State) → moved (turned (moved m)) ≡ turned m
 moved-twice m = ap (λ p. state p m.br (not m.back) m.regs m.cells) (place_moved-twice m.back m.pc m.br)
 
-not-not : (b : Bool) → not (not b) ≡ b
+pub not-not : (b : Bool) → not (not b) ≡ b
 not-not true = refl
 not-not false = refl
 

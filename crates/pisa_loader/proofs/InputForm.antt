@@ -126,7 +126,8 @@ digits_read minus (d ∷ ds) rest e all =
   where
     stops_at : (rest : List ℕ) → are_blanks rest ≡ true → Stops (is_of Digit) rest
     stops_at [] all = tt
-    stops_at (b ∷ bs) all = blank_not (is_of Digit) b refl refl (and_parts (is_of Blank b) (list_all (is_of Blank) bs) all).0
+    stops_at (b ∷ bs) all =
+        blank_not (is_of Digit) b refl refl (and_parts (is_of Blank b) (list_all (is_of Blank) bs) all).0
 
     more : (n k : ℕ) → n ≡ suc k → nat_eq n 0 ≡ false
     more n k e = grind (arith, nat_tests)

@@ -23,6 +23,7 @@ use Rattle.meaning_sound.proofs.Stores.{differs, live_object, changed_here, chan
 use Rattle.meaning_sound.proofs.Overlays.{length_overlaid, index_inside, index_outside, set_inside, set_outside}
 use Rattle.meaning_sound.proofs.Regions.{regions_apart, BlocksDescend, EntriesAre, has_entry}
 use Rattle.meaning_sound.specs.code_conventions.Header.{header}
+use Rattle.meaning_sound.proofs.roopl_semantics_laws.Changed.{with_cell, with_count}
 
 -- ---- lengths
 
@@ -78,10 +79,6 @@ pub index_object : (program : Source) (base : ℕ) (blocks : List (ℕ × ℕ)) 
     ≡ word_of base blocks (unwrap_or (slice_get o.cells i) Nil)
 index_object program base blocks o i h = index_words (head_word program o.head) o.count
     (map (word_of base blocks) o.cells) i ∙ index_map (word_of base blocks) o.cells i h
-
--- an object with another value in a cell
-abbrev pub with_cell : ℕ → Value → Object → Object
-with_cell index v object = record object { cells = slice_set object.cells index v }
 
 pub set_object : (program : Source) (base : ℕ) (blocks : List (ℕ × ℕ)) (o : Object) (i : ℕ) (v : Value)
     → slice_set (object_words program base blocks o) (HEADER_WORDS + i) (word_of base blocks v)
@@ -264,10 +261,6 @@ main_elsewhere program base blocks store f bound ((m, b) ∷ rest) words d =
     (object_words program base blocks (object_at (changed_at store main_name f) m))) d.2
     ∙ ap (λ o. with_objects program base store blocks rest (overlaid words b (object_words program base blocks o)))
     other
-
--- an object with another count
-abbrev pub with_count : (ℕ → ℕ) → Object → Object
-with_count change object = record object { count = change object.count }
 
 pub set_count : (program : Source) (base : ℕ) (blocks : List (ℕ × ℕ)) (o : Object) (change : ℕ → ℕ)
     → slice_set (object_words program base blocks o) 1 (change o.count)

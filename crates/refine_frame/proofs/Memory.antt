@@ -13,7 +13,7 @@ use Rattle.meaning_sound.specs.rpp_tree.Tree.{Source}
 use Rattle.meaning_sound.specs.class_rules.Scope.{Locals}
 use Rattle.meaning_sound.specs.buddy_book.Place.{Log, Placing, block_of, place}
 use Rattle.meaning_sound.proofs.buddy_book_laws.Orders.{pow_pos}
-use Rattle.meaning_sound.specs.roopl_semantics.Store.{Value, Nil, Name, Head, OfClass, Object, Store, Binding, State}
+use Rattle.meaning_sound.specs.roopl_semantics.Store.{Value, Nil, OfClass, Object, Store, State}
 use Rattle.meaning_sound.specs.roopl_semantics.Store.{main_name}
 use Rattle.meaning_sound.specs.roopl_semantics.Store.{object_named, object_at, changed_at}
 use Rattle.meaning_sound.specs.roopl_semantics.Source.{main_fields}
@@ -27,11 +27,12 @@ use Rattle.meaning_sound.specs.class_rules.Inheritance.{kind_of_var}
 use Rattle.meaning_sound.specs.Sound.{head_of, is_live, cell_kinds, Typed}
 use Rattle.refine_frame.specs.Open.{Setup, base_of, stack_at, address_of, memory, IsGrounded}
 use Rattle.meaning_sound.proofs.Lists.{all_length}
-use Rattle.meaning_sound.proofs.Stores.{other_number, same_number, live_object, changed_other}
+use Rattle.meaning_sound.proofs.Stores.{other_number, live_object, changed_other}
 use Rattle.meaning_sound.proofs.Overlays.{length_overlaid, index_inside, set_inside, zeros_padded, none_over_zeros}
 use Rattle.meaning_sound.proofs.Regions.{region_inside, blocks_descend, entries_are, entry_of}
-use Rattle.refine_frame.proofs.Heaps.{length_heap, length_words, index_object, with_cell, set_object, changed_object}
-use Rattle.refine_frame.proofs.Heaps.{read_heap, write_heap, main_elsewhere, with_count, set_count}
+use Rattle.refine_frame.proofs.Heaps.{length_heap, length_words, index_object, set_object, changed_object}
+use Rattle.refine_frame.proofs.Heaps.{read_heap, write_heap, main_elsewhere, set_count}
+use Rattle.meaning_sound.proofs.roopl_semantics_laws.Changed.{with_cell, with_count}
 
 -- ---- the heap's base is not below the static cells' end
 

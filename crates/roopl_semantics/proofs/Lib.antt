@@ -20,3 +20,4 @@ mod CheckRows
 mod CellRows
 pub mod MainPlace
 pub mod Orders
+pub mod Changed

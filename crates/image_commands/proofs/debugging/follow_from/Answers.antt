@@ -8,7 +8,8 @@ use Rattle.pisa_scripts.proofs.Errors.{on_err_always}
 pub returns-in_err-follow-clause-short : goal.returns-in_err-follow-clause-short
 returns-in_err-follow-clause-short g c =
     let along = c.in_err-follow.ensures.along in
-    on_err_always c.from_residual.result (MovesSome c.args.commands.now c.args.machine c.args.steps.now c.follow.new.steps)
+    on_err_always c.from_residual.result
+    (MovesSome c.args.commands.now c.args.machine c.args.steps.now c.follow.new.steps)
     (record {
       made = along.made;
       counter = along.counter ∙ ap (λ (p : Position). c.args.steps.now + spent_in (take along.made
