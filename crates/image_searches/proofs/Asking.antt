@@ -7,11 +7,11 @@ use Rattle.live_requests.specs.declared.asks.Ask.{Ask}
 use Rattle.live_requests.specs.declared.asks.Goal.{Goal}
 use Rattle.live_requests.specs.declared.asks.Goal.TheVariants.{Points}
 use Rattle.image_searches.specs.declared.moves.Moved.{Moved}
-use Rattle.image_searches.specs.Steps.{way_of}
 use Rattle.image_searches.specs.Goals.{sought, is_wanted}
 use Rattle.image_searches.specs.Searches.{Found, points, seek}
 use Rattle.image_searches.specs.Makings.{made_by, made}
 use Rattle.image_searches.proofs.Listing.{found_at}
+use Rattle.live_requests.specs.Asks.{way_of}
 
 pub made_points : (ask : Ask) (arguments : List (List ℕ)) (from to : Position) (way : Command) {E : Type 0}
     (result : Result Moved E) → ask.goal ≡ Points → way ≡ way_of ask.back

@@ -9,6 +9,7 @@ use Rattle.live_requests.specs.declared.asks.Goal.{Goal}
 use Rattle.live_requests.specs.declared.asks.Goal.TheVariants as goal
 use Rattle.image_searches.specs.declared.watches.Watch.{Watch}
 use Rattle.image_searches.specs.declared.watches.Watch.TheVariants.{Nothing, Register, Cell}
+use Rattle.live_requests.specs.Asks.{first_argument}
 
 -- ---- what is watched
 
@@ -16,10 +17,6 @@ use Rattle.image_searches.specs.declared.watches.Watch.TheVariants.{Nothing, Reg
 abbrev pub register_of : List ℕ → Option ℕ
 register_of [] = None
 register_of (b ∷ digits) = if nat_eq b 36 then number_up_to 31 digits else None
-
-abbrev pub first_of : List (List ℕ) → List ℕ
-first_of [] = []
-first_of (word ∷ words) = word
 
 abbrev pub register_watch : Option ℕ → Watch
 register_watch None = Nothing
@@ -30,7 +27,7 @@ abbrev pub watch_of : Goal → (arguments : List (List ℕ)) → Watch
 watch_of goal.Points arguments = Nothing
 watch_of goal.Any arguments = Nothing
 watch_of (goal.Depth most) arguments = Nothing
-watch_of goal.Change arguments = register_watch (register_of (first_of arguments))
+watch_of goal.Change arguments = register_watch (register_of (first_argument arguments))
 watch_of (goal.Cell at) arguments = Cell at
 
 -- its word at a position, if it exists
@@ -89,5 +86,5 @@ abbrev pub is_served : Goal → (arguments : List (List ℕ)) → Bool
 is_served goal.Points arguments = true
 is_served goal.Any arguments = true
 is_served (goal.Depth most) arguments = false
-is_served goal.Change arguments = is_some (register_of (first_of arguments))
+is_served goal.Change arguments = is_some (register_of (first_argument arguments))
 is_served (goal.Cell at) arguments = true

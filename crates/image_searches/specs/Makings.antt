@@ -5,9 +5,9 @@ use Rattle.two_way_debugger.specs.pisa_machine.Position.{Position}
 use Rattle.live_requests.specs.declared.asks.Ask.{Ask}
 use Rattle.live_requests.specs.declared.asks.Goal.{Goal}
 use Rattle.live_requests.specs.declared.asks.Goal.TheVariants.{Points}
-use Rattle.image_searches.specs.Steps.{way_of}
 use Rattle.image_searches.specs.Goals.{sought, is_wanted}
 use Rattle.image_searches.specs.Searches.{Found, points, seek}
+use Rattle.live_requests.specs.Asks.{way_of}
 
 abbrev pub made_by : Goal → (way : Command) → (arguments : List (List ℕ)) → ℕ → Position → Found
 made_by Points way arguments n p = points way n p

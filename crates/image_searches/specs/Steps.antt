@@ -1,5 +1,5 @@
 -- Single moves along the positions of a machine.
-use Rattle.std.specs.Prelude.{◌≡◌, ℕ, zero, suc, ◌≤◌, Bool, true, false, nat_eq, if◌then◌else◌}
+use Rattle.std.specs.Prelude.{◌≡◌, ℕ, zero, suc, ◌≤◌, Bool, true, false, nat_eq}
 use Rattle.std.specs.Prelude.{List, ◌++◌, ⊤}
 use Rattle.pisa_scripts.specs.declared.command.Command.{Command}
 use Rattle.pisa_scripts.specs.declared.command.Command.TheVariants as command
@@ -7,10 +7,6 @@ use Rattle.two_way_debugger.specs.pisa_machine.Position.{Position}
 use Rattle.two_way_debugger.specs.Shown.{walk_of, text_of}
 use Rattle.image_searches.specs.declared.moves.Step.{Step}
 use Rattle.image_searches.specs.declared.moves.Step.TheVariants.{Gone, Stuck, Lost}
-
--- one move back or forward
-abbrev pub way_of : (back : Bool) → Command
-way_of back = if back then command.Back 1 else command.Step 1
 
 -- where a move leads
 abbrev pub led : (way : Command) → Position → Position

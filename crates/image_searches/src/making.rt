@@ -1,7 +1,8 @@
 // Moves that are asked for.
 ghost use Rattle.std.specs.Prelude.{◌≡◌, IfOk, OnErr, string_bytes, map};
-ghost use Rattle.image_searches.specs.Steps.{way_of, MovesSome};
+ghost use Rattle.image_searches.specs.Steps.{MovesSome};
 ghost use Rattle.image_searches.specs.Makings.{made};
+ghost use Rattle.live_requests.specs.Asks.{way_of};
 
 use crate::lists::points;
 use crate::moves::{Moved, way};

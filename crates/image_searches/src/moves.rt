@@ -1,6 +1,7 @@
 // Single moves.
 ghost use Rattle.std.specs.Prelude.{◌≡◌, if◌then◌else◌, string_bytes};
-ghost use Rattle.image_searches.specs.Steps.{way_of, led, Goes};
+ghost use Rattle.image_searches.specs.Steps.{led, Goes};
+ghost use Rattle.live_requests.specs.Asks.{way_of};
 
 use pisa_machine::Steps;
 use pisa_scripts::Command;

@@ -1,10 +1,11 @@
 // Searches.
 ghost use Rattle.std.specs.Prelude.{◌≡◌, IfOk, OnErr, string_bytes, map};
-ghost use Rattle.image_searches.specs.Steps.{way_of, led, MovesSome};
+ghost use Rattle.image_searches.specs.Steps.{led, MovesSome};
 ghost use Rattle.image_searches.specs.Goals.{sought, is_wanted};
 ghost use Rattle.image_searches.specs.Sights.{sought_in};
 ghost use Rattle.image_searches.specs.Searches.{found, seek as seek_in};
 ghost use Rattle.image_searches.specs.Turns.{turn_by, IsTurn};
+ghost use Rattle.live_requests.specs.Asks.{way_of};
 
 use crate::goals::{Aim, take_aim, wanted};
 use crate::moves::{Moved, Outcome, Step, go, way};

@@ -1,6 +1,7 @@
 // What `until change` watches.
 ghost use Rattle.std.specs.Prelude.{◌≡◌, slice_get, map};
-ghost use Rattle.image_searches.specs.Goals.{register_of as register_number, first_of, register_watch, watch_of as watch_for, word_at as word_in, is_other as is_other_word};
+ghost use Rattle.image_searches.specs.Goals.{register_of as register_number, register_watch, watch_of as watch_for, word_at as word_in, is_other as is_other_word};
+ghost use Rattle.live_requests.specs.Asks.{first_argument};
 
 use live_requests::Goal;
 use pisa_machine::Machine;
@@ -30,7 +31,7 @@ fn register_of(word: &[u8]) -> Option<u32>
 }
 
 fn first_word<'a>(words: &'a [&'a [u8]]) -> &'a [u8]
-    ensures { result.now ≡ first_of (map (λ word. word.now) words.now) }
+    ensures { result.now ≡ first_argument (map (λ word. word.now) words.now) }
 {
     match words {
         [] => &[],
@@ -40,7 +41,7 @@ fn first_word<'a>(words: &'a [&'a [u8]]) -> &'a [u8]
 
 /// The register `$R` that is the first of the arguments.
 pub(crate) fn first_register(arguments: &[&[u8]]) -> Option<u32>
-    ensures { result ≡ register_number (first_of (map (λ word. word.now) arguments.now)) }
+    ensures { result ≡ register_number (first_argument (map (λ word. word.now) arguments.now)) }
 {
     register_of(first_word(arguments))
 }

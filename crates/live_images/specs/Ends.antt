@@ -1,29 +1,26 @@
 -- How the replies to commands and moves end.
-use Rattle.std.specs.Prelude.{ℕ, ◌==◌, ◌+◌, ◌-◌, Bool, true, not, nat_lt, if◌then◌else◌, List}
+use Rattle.std.specs.Prelude.{ℕ, ◌+◌, ◌-◌, Bool, true, not, nat_lt, if◌then◌else◌, List}
 use Rattle.std.specs.Prelude.{Option}
-use Rattle.std.specs.List.{list_any}
 use Rattle.pisa_scripts.specs.declared.command.Command.{Command}
 use Rattle.pisa_scripts.specs.declared.command.Command.TheVariants.{Step, Back, To, BackTo}
 use Rattle.pisa_scripts.specs.declared.command.Command.TheVariants.{Regs, Cells}
 use Rattle.live_requests.specs.declared.asks.Goal.{Goal}
 use Rattle.live_requests.specs.declared.asks.Goal.TheVariants.{Points}
-use Rattle.live_requests.specs.Limited.{is_cut, limited, most_of}
+use Rattle.live_requests.specs.Limited.{is_cut, limited}
 use Rattle.image_searches.specs.declared.moves.Outcome.{Outcome}
 use Rattle.image_searches.specs.declared.moves.Outcome.TheVariants as outcome
 use Rattle.live_talks.specs.declared.ends.End.{End}
 use Rattle.live_talks.specs.declared.ends.End.TheVariants.{Done, Met, More, Start, Over, Fault}
 use Rattle.live_talks.specs.Limits.{end_cut}
-
--- whether a text has a letter
-abbrev pub has : ℕ → List ℕ → Bool
-has letter text = list_any (λ b. b == letter) text
+use Rattle.live_requests.specs.two_way_debugger.Shown.{most_moves}
+use Rattle.live_talks.specs.Ends.{has_letter}
 
 -- How moves ended, by the line on them. It is `at J pc P br B dir D`, and then perhaps ` start` or
 -- ` end` with why the machine stopped. Only `fault`, `returned` and `bound` have a u, else only
 -- `finished` has an h, else only ` end` has an e, else only ` start` has an s.
 abbrev pub end_in : List ℕ → End
-end_in text = if has 117 text then Fault else if has 104 text then Over
-    else if has 101 text then Fault else if has 115 text then Start else Done
+end_in text = if has_letter 117 text then Fault else if has_letter 104 text then Over
+    else if has_letter 101 text then Fault else if has_letter 115 text then Start else Done
 
 -- how the reply to a command ends that printed this
 abbrev pub end_shown : Command → List ℕ → End
@@ -41,7 +38,7 @@ all_made moves from to = not (nat_lt (to - from + (from - to)) moves)
 -- the same with a limit on the moves, which led from a position to another
 abbrev pub end_carried : (limit : Option ℕ) → Command → (from to : ℕ) → List ℕ → End
 end_carried limit command from to text =
-    end_cut (is_cut limit command) (all_made (most_of (limited limit command)) from to)
+    end_cut (is_cut limit command) (all_made (most_moves (limited limit command)) from to)
     (end_shown command text)
 
 -- how moves end that were all made, by what they look for

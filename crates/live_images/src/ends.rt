@@ -1,6 +1,7 @@
 // How the replies to commands and moves end.
 ghost use Rattle.std.specs.Prelude.{◌≡◌, ◌+◌, ◌-◌};
-ghost use Rattle.live_images.specs.Ends.{has as has_letter, end_in as end_in_text, end_shown as shown_end, all_made as all_moves_made, end_carried as carried_end, end_of_all, end_moved as moved_end};
+ghost use Rattle.live_images.specs.Ends.{end_in as end_in_text, end_shown as shown_end, all_made as all_moves_made, end_carried as carried_end, end_of_all, end_moved as moved_end};
+ghost use Rattle.live_talks.specs.Ends.{has_letter};
 
 use image_searches::Outcome;
 use live_requests::{Goal, is_cut, limited, most_of};

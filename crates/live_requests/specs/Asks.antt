@@ -4,6 +4,8 @@ use Rattle.std.specs.Prelude.{None}
 use Rattle.std.specs.Prelude.{codes}
 use Rattle.std.specs.Str.{bytes_eq}
 use Rattle.pisa_scripts.specs.Lines.{number_up_to, short_number}
+use Rattle.pisa_scripts.specs.declared.command.Command.{Command}
+use Rattle.pisa_scripts.specs.declared.command.Command.TheVariants as command
 use Rattle.live_requests.specs.declared.asks.TheConstants.{MOST_POINTS}
 use Rattle.live_requests.specs.declared.asks.Goal.{Goal}
 use Rattle.live_requests.specs.declared.asks.Goal.TheVariants.{Points, Any, Depth, Change}
@@ -95,3 +97,12 @@ behind_three _ = []
 -- the offsets after `any N`, or the name after `until change` and what follows it
 abbrev pub arguments : (back : Bool) → List (List ℕ) → List (List ℕ)
 arguments back words = if back then behind_three words else behind_two words
+
+-- one move back or forward
+abbrev pub way_of : (back : Bool) → Command
+way_of back = if back then command.Back 1 else command.Step 1
+
+-- the first of the arguments
+abbrev pub first_argument : List (List ℕ) → List ℕ
+first_argument [] = []
+first_argument (word ∷ words) = word

@@ -6,6 +6,7 @@ use Rattle.pisa_scripts.specs.declared.command.Command.TheVariants.{Regs, Cells}
 use Rattle.live_requests.specs.declared.asks.Ask.{Ask}
 use Rattle.live_requests.specs.declared.request.Request.{Request}
 use Rattle.live_requests.specs.declared.request.Request.TheVariants.{Limit}
+use Rattle.two_way_debugger.specs.Shown.{most_moves}
 
 -- how many of so many moves a limit allows
 abbrev pub allowed : (limit : Option ℕ) → (moves : ℕ) → ℕ
@@ -16,15 +17,6 @@ allowed (Some most) moves = if nat_lt most moves then most else moves
 abbrev pub is_over : (limit : Option ℕ) → (moves : ℕ) → Bool
 is_over None moves = false
 is_over (Some most) moves = nat_lt most moves
-
--- how many moves a command makes at most
-abbrev pub most_of : Command → ℕ
-most_of (Step n) = n
-most_of (Back n) = n
-most_of (To place n) = n
-most_of (BackTo place n) = n
-most_of Regs = 0
-most_of (Cells from count) = 0
 
 -- the command with no more moves than a limit allows
 abbrev pub limited : (limit : Option ℕ) → Command → Command
@@ -37,7 +29,7 @@ limited limit (Cells from count) = Cells from count
 
 -- whether a command asks for more moves than a limit allows
 abbrev pub is_cut : (limit : Option ℕ) → Command → Bool
-is_cut limit command = is_over limit (most_of command)
+is_cut limit command = is_over limit (most_moves command)
 
 -- moves that are asked for, with no more than a limit allows
 abbrev pub limited_ask : (limit : Option ℕ) → Ask → Ask

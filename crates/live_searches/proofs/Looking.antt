@@ -12,9 +12,9 @@ use Rattle.source_debugger.specs.Shown.{Told, told_by, tells}
 use Rattle.source_debugger.specs.Standing.{Standing, run_of, Leads}
 use Rattle.live_searches.specs.declared.goals.Glance.{Glance}
 use Rattle.live_searches.specs.Goals.{lines_by, Watch, watch_of, shown_for, depth_for, sight, sight_at, mark, mark_at}
-use Rattle.live_searches.specs.Goals.{first_of}
 use Rattle.live_searches.specs.Sights.{sight_of, look_of}
 use Rattle.live_searches.proofs.Single.{leads_told}
+use Rattle.live_requests.specs.Asks.{first_argument}
 
 abbrev position_of : Option Told → ℕ
 position_of None = 0
@@ -106,7 +106,7 @@ sighted before between watch lines seen depth same seen_is lines_is depth_is =
 
 -- what is watched, and how it is
 pub marked : (d : Standing) (arguments : List (List ℕ)) (watch : Watch) (glance : Glance)
-    → watch ≡ watch_of (first_of arguments)
+    → watch ≡ watch_of (first_argument arguments)
     → sight_at (source_of d.program) (run_of d) watch d.position ≡ Some (sight_of glance)
     → mark_at (source_of d.program) (run_of d) arguments d.position
     ≡ Some (record { watch = watch; sight = sight_of glance })

@@ -9,12 +9,13 @@ use Rattle.live_requests.specs.declared.asks.Ask.{Ask}
 use Rattle.live_requests.specs.declared.asks.Goal.{Goal}
 use Rattle.live_requests.specs.declared.asks.Goal.TheVariants.{Points}
 use Rattle.live_searches.specs.declared.moves.Moved.{Moved}
-use Rattle.live_searches.specs.Steps.{way_of, IsSameRun}
+use Rattle.live_searches.specs.Steps.{IsSameRun}
 use Rattle.live_searches.specs.Goals.{mark_at, wanted}
 use Rattle.live_searches.specs.Searches.{Found, points, seek}
 use Rattle.live_searches.specs.Makings.{made_by, made}
 use Rattle.live_searches.proofs.Single.{same_run}
 use Rattle.live_searches.proofs.Listing.{found_at}
+use Rattle.live_requests.specs.Asks.{way_of}
 
 -- a debugger of the same run at the same position is the same
 pub returned : (before between after : Standing) (position : ℕ) → IsSameRun before between → IsSameRun between after

@@ -15,6 +15,7 @@ use Rattle.source_debugger.specs.Shown.{regs_at, cells_at}
 use Rattle.live_requests.specs.declared.asks.Goal.{Goal}
 use Rattle.live_requests.specs.declared.asks.Goal.TheVariants.{Points, Any, Depth, Change}
 use Rattle.live_requests.specs.declared.asks.Goal.TheVariants.{Cell}
+use Rattle.live_requests.specs.Asks.{first_argument}
 
 -- ---- offsets
 
@@ -125,14 +126,10 @@ abbrev pub mark : Watch → Option Sight → Option Mark
 mark watch None = None
 mark watch (Some sight) = Some (record { watch = watch; sight = sight })
 
-abbrev pub first_of : List (List ℕ) → List ℕ
-first_of [] = []
-first_of (word ∷ words) = word
-
 -- the first of the arguments is watched from a position on
 abbrev pub mark_at : Source → Trail → (arguments : List (List ℕ)) → ℕ → Option Mark
-mark_at program trail arguments j = mark (watch_of (first_of arguments))
-    (sight_at program trail (watch_of (first_of arguments)) j)
+mark_at program trail arguments j = mark (watch_of (first_argument arguments))
+    (sight_at program trail (watch_of (first_argument arguments)) j)
 
 -- fewer calls are active, or as many and the lines are not the same
 abbrev pub is_change : (from here : Sight) → Bool

@@ -7,9 +7,9 @@ use Rattle.pisa_scripts.specs.declared.command.Command.TheVariants.{Step, Back}
 use Rattle.live_requests.specs.declared.asks.Ask.{Ask}
 use Rattle.live_requests.specs.declared.asks.Goal.{Goal}
 use Rattle.live_requests.specs.declared.asks.Goal.TheVariants.{Points}
-use Rattle.live_searches.specs.Steps.{way_of}
 use Rattle.live_searches.specs.Goals.{mark_at, wanted}
 use Rattle.live_searches.specs.Searches.{Found, points, seek}
+use Rattle.live_requests.specs.Asks.{way_of}
 
 abbrev pub made_by : Source → Trail → Goal → (way : Command) → (arguments : List (List ℕ))
     → (n j : ℕ) → Option Found

@@ -1,5 +1,5 @@
 -- Single moves of a debugger.
-use Rattle.std.specs.Prelude.{◌≡◌, ℕ, Bool, true, false, nat_eq, if◌then◌else◌, List, ◌++◌, Some}
+use Rattle.std.specs.Prelude.{◌≡◌, ℕ, true, false, nat_eq, List, ◌++◌, Some}
 use Rattle.source_debugger.specs.meaning_points.rpp_tree.Views.{source_of}
 use Rattle.pisa_scripts.specs.declared.command.Command.{Command}
 use Rattle.pisa_scripts.specs.declared.command.Command.TheVariants as command
@@ -7,10 +7,6 @@ use Rattle.source_debugger.specs.Shown.{told_by}
 use Rattle.source_debugger.specs.Standing.{Standing, run_of}
 use Rattle.live_searches.specs.declared.moves.Step.{Step}
 use Rattle.live_searches.specs.declared.moves.Step.TheVariants.{Gone, Stuck, Lost}
-
--- one move back or forward
-abbrev pub way_of : (back : Bool) → Command
-way_of back = if back then command.Back 1 else command.Step 1
 
 -- a debugger of the same run, at some position
 abbrev pub IsSameRun : (before after : Standing) → Type 0

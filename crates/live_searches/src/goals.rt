@@ -5,8 +5,9 @@ ghost use Rattle.source_debugger.specs.meaning_points.rpp_tree.Views.{source_of}
 ghost use Rattle.source_debugger.specs.Looks.{seen_of};
 ghost use Rattle.source_debugger.specs.Walks.{stand_at};
 ghost use Rattle.source_debugger.specs.Standing.{run_of};
-ghost use Rattle.live_searches.specs.Goals.{is_place as is_place_of, is_any as is_any_of, has_any as has_any_of, depth_of, kept_line, lines_from, lines_by as lines_of_start, shown_for, depth_for as depth_of_watch, sight_at, mark_at, is_change as is_change_of, changed_at, first_of, any_met, depth_met, wanted as wanted_at};
+ghost use Rattle.live_searches.specs.Goals.{is_place as is_place_of, is_any as is_any_of, has_any as has_any_of, depth_of, kept_line, lines_from, lines_by as lines_of_start, shown_for, depth_for as depth_of_watch, sight_at, mark_at, is_change as is_change_of, changed_at, any_met, depth_met, wanted as wanted_at};
 ghost use Rattle.live_searches.specs.Sights.{watch_in, sight_of, mark_of, look_of};
+ghost use Rattle.live_requests.specs.Asks.{first_argument};
 
 use crate::watches::{Watch, read_watch};
 use live_requests::Goal;
@@ -135,7 +136,7 @@ fn watched_lines(
 }
 
 fn first_word<'a>(words: &'a [&'a [u8]]) -> &'a [u8]
-    ensures { result.now ≡ first_of (map (λ word. word.now) words.now) }
+    ensures { result.now ≡ first_argument (map (λ word. word.now) words.now) }
 {
     match words {
         [] => &[],

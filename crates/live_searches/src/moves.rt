@@ -1,6 +1,7 @@
 // Single moves.
 ghost use Rattle.std.specs.Prelude.{◌≡◌, nat_eq, if◌then◌else◌, string_bytes};
-ghost use Rattle.live_searches.specs.Steps.{way_of, Goes};
+ghost use Rattle.live_searches.specs.Steps.{Goes};
+ghost use Rattle.live_requests.specs.Asks.{way_of};
 
 use pisa_scripts::Command;
 use rpp_words::NoMemory;

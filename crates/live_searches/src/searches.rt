@@ -3,11 +3,12 @@ ghost use Rattle.std.specs.Prelude.{◌≡◌, IfOk, string_bytes, Some, map};
 ghost use Rattle.source_debugger.specs.meaning_points.rpp_tree.Views.{source_of};
 ghost use Rattle.source_debugger.specs.Shown.{told_by};
 ghost use Rattle.source_debugger.specs.Standing.{run_of};
-ghost use Rattle.live_searches.specs.Steps.{way_of, IsSameRun};
+ghost use Rattle.live_searches.specs.Steps.{IsSameRun};
 ghost use Rattle.live_searches.specs.Goals.{mark_at, wanted as wanted_at};
 ghost use Rattle.live_searches.specs.Sights.{mark_of};
 ghost use Rattle.live_searches.specs.Searches.{seek as seek_in, all_made};
 ghost use Rattle.live_searches.specs.Turns.{IsTurn, IsJudged};
+ghost use Rattle.live_requests.specs.Asks.{way_of};
 
 use crate::goals::{Mark, make_mark, wanted};
 use crate::moves::{Moved, Outcome, Step, go, way};

@@ -1,35 +1,32 @@
 -- How the replies to commands and moves end.
-use Rattle.std.specs.Prelude.{ℕ, ◌==◌, ◌+◌, ◌-◌, Bool, true, false, not, ◌&&◌, nat_lt, List}
+use Rattle.std.specs.Prelude.{ℕ, ◌+◌, ◌-◌, Bool, true, false, not, ◌&&◌, nat_lt, List}
 use Rattle.std.specs.Prelude.{if◌then◌else◌, Option}
-use Rattle.std.specs.List.{list_any}
 use Rattle.pisa_scripts.specs.declared.command.Command.{Command}
 use Rattle.pisa_scripts.specs.declared.command.Command.TheVariants.{Step, Back, To, BackTo}
 use Rattle.pisa_scripts.specs.declared.command.Command.TheVariants.{Regs, Cells}
 use Rattle.live_requests.specs.declared.asks.Goal.{Goal}
 use Rattle.live_requests.specs.declared.asks.Goal.TheVariants.{Points}
 use Rattle.live_requests.specs.declared.asks.Ask.{Ask}
-use Rattle.live_requests.specs.Limited.{most_of, limited, is_cut, is_cut_ask}
+use Rattle.live_requests.specs.Limited.{limited, is_cut, is_cut_ask}
 use Rattle.live_searches.specs.declared.moves.Outcome.{Outcome}
 use Rattle.live_searches.specs.declared.moves.Outcome.TheVariants as outcome
 use Rattle.live_talks.specs.declared.ends.End.{End}
 use Rattle.live_talks.specs.declared.ends.End.TheVariants.{Done, Met, More, Start, Over, Fault}
 use Rattle.live_talks.specs.Limits.{end_cut}
+use Rattle.live_requests.specs.two_way_debugger.Shown.{most_moves}
+use Rattle.live_talks.specs.Ends.{has_letter}
 
 -- whether fewer moves were made than were allowed
 abbrev pub is_short : (most from to : ℕ) → Bool
 is_short most from to = nat_lt (to - from + (from - to)) most
-
--- whether a text has a letter
-abbrev pub has : ℕ → List ℕ → Bool
-has letter text = list_any (λ b. b == letter) text
 
 -- How moves ended, by the line on them. It is `at J place P depth D` or `at J end`, and then
 -- perhaps
 -- ` start` or ` fault C NAME`. Only a fault has an f, else only ` start` has an s, else only ` end`
 -- has an n. `short` says that fewer were made than were allowed.
 abbrev pub end_in : (short : Bool) → List ℕ → End
-end_in short text = if has 102 text then Fault else if has 115 text then Start
-    else if has 110 text && short then Over else Done
+end_in short text = if has_letter 102 text then Fault else if has_letter 115 text then Start
+    else if has_letter 110 text && short then Over else Done
 
 -- how the reply to a command ends that led from a position to another, and printed this
 abbrev pub end_shown : Command → (from to : ℕ) → List ℕ → End
@@ -42,7 +39,7 @@ end_shown (Cells number count) from to text = Done
 
 -- whether all moves were made that a command asks for
 abbrev pub all_made : Command → (from to : ℕ) → Bool
-all_made command from to = not (is_short (most_of command) from to)
+all_made command from to = not (is_short (most_moves command) from to)
 
 -- how the reply to a command ends, of which a limit allows so much
 abbrev pub end_carried : (limit : Option ℕ) → Command → (from to : ℕ) → List ℕ → End

@@ -1,5 +1,6 @@
 -- The last lines of replies.
-use Rattle.std.specs.Prelude.{ℕ, List, ◌++◌, codes}
+use Rattle.std.specs.Prelude.{ℕ, ◌==◌, Bool, List, ◌++◌, codes}
+use Rattle.std.specs.List.{list_any}
 use Rattle.live_requests.specs.pisa_scripts.rpp_words.Texts.{line_end}
 use Rattle.live_talks.specs.declared.ends.End.{End}
 use Rattle.live_talks.specs.declared.ends.End.TheVariants.{Done, Met, More, Start, Over, Fault}
@@ -18,3 +19,7 @@ end_line Bad = codes ". bad" ++ line_end
 end_line Long = codes ". long" ++ line_end
 end_line Memory = codes ". memory" ++ line_end
 end_line Bye = codes ". bye" ++ line_end
+
+-- whether a text has a letter
+abbrev pub has_letter : ℕ → List ℕ → Bool
+has_letter letter text = list_any (λ b. b == letter) text

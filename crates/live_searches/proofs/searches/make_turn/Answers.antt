@@ -4,11 +4,12 @@ use Rattle.pisa_scripts.specs.declared.command.Command.{Command}
 use Rattle.live_searches.specs.declared.moves.Outcome.TheVariants.{Stopped}
 use Rattle.live_searches.specs.declared.moves.Step.{Step}
 use Rattle.live_searches.specs.declared.moves.Step.TheVariants.{Gone, Stuck}
-use Rattle.live_searches.specs.Steps.{way_of, Goes}
+use Rattle.live_searches.specs.Steps.{Goes}
 use Rattle.live_searches.specs.Sights.{mark_of}
 use Rattle.live_searches.proofs.Single.{goes_same, same_as}
 use Rattle.live_searches.proofs.Seeking.{turn_goes, turn_stops}
 use Rattle.live_searches.proofs.searches.make_turn.Goals as goal
+use Rattle.live_requests.specs.Asks.{way_of}
 
 pub returns-in-Gone-clause-turned : goal.returns-in-Gone-clause-turned
 returns-in-Gone-clause-turned c =

@@ -1,9 +1,9 @@
 use Rattle.std.proofs.Common.{map}
-use Rattle.live_searches.specs.Steps.{way_of}
 use Rattle.live_searches.specs.Sights.{mark_of}
 use Rattle.live_searches.proofs.Single.{same_run, stays_same}
 use Rattle.live_searches.proofs.Seeking.{seek_from}
 use Rattle.live_searches.proofs.searches.seek.Goals as goal
+use Rattle.live_requests.specs.Asks.{way_of}
 
 pub returns-clause-told : goal.returns-clause-told
 returns-clause-told c =

@@ -1,11 +1,11 @@
 use Rattle.std.proofs.Common.{subst, map}
 use Rattle.live_searches.specs.declared.searches.Turn.{Turn}
-use Rattle.live_searches.specs.Steps.{way_of}
 use Rattle.live_searches.specs.Sights.{mark_of}
 use Rattle.live_searches.specs.Turns.{IsTurn}
 use Rattle.live_searches.proofs.Single.{same_run}
 use Rattle.live_searches.proofs.Seeking.{looks, seeking_begins, seeking_goes, seeking_ends, seeking_over}
 use Rattle.live_searches.proofs.searches.seek_on.Goals as goal
+use Rattle.live_requests.specs.Asks.{way_of}
 
 pub loop-init : goal.loop-init
 loop-init c =

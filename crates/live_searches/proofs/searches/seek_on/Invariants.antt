@@ -1,8 +1,8 @@
 use Rattle.std.proofs.Common.{map}
-use Rattle.live_searches.specs.Steps.{way_of}
 use Rattle.live_searches.specs.Sights.{mark_of}
 use Rattle.live_searches.proofs.Seeking.{IsSeeking}
 use Rattle.live_searches.proofs.searches.seek_on.Given as goal
+use Rattle.live_requests.specs.Asks.{way_of}
 
 -- so many moves were made, and none led to a position that the search looks for
 abbrev pub invariant-loop : goal.invariant-loop
