@@ -12,7 +12,8 @@ use Rattle.command_plan.specs.declared.plan.NoPlan.TheVariants.{NoMemory, Unread
 use Rattle.command_plan.specs.Files.{Needed, LacksOne}
 use Rattle.command_plan.specs.Reads.{read, Gave, FailsAt, StopsAt, ReadsSome, Asks}
 use Rattle.plan_serving.specs.Places.{IsBefore, HasPlaces, place_files}
-use Rattle.command_plan.proofs.TwoReads.{rose_before, cause_by}
+use Rattle.command_plan.proofs.TwoReads.{cause_by}
+pub use Rattle.command_plan.proofs.TwoReads.{rose_before}
 
 fails_by : (told : Option Texts) (file : Needed) (R S : Type 0) (line : List ℕ) (old new : List Event) → (R → S)
     → FailsAt told file R line old new → FailsAt told file S line old new

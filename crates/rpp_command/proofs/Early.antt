@@ -11,7 +11,7 @@ use Rattle.command_line.specs.Lines.{Asked, Turn, Profile}
 use Rattle.rpp_command.specs.Plans.{IsPlan, LeavesProbes}
 use Rattle.plan_serving.specs.Left.{LeavesUnwritten, BreaksOff}
 use Rattle.rpp_command.specs.Told.{EndsEarly}
-use Rattle.command_plan.proofs.TwoReads.{rose_before}
+use Rattle.plan_serving.proofs.Fetched.{rose_before}
 
 -- another rise of the file store's count is as good
 
