@@ -24,8 +24,9 @@ use Rattle.branch_codegen.specs.Branches.{flips, part_code, if_code}
 use Rattle.refine_form.proofs.Told.{alone, told_after, told_bind, same_then}
 use Rattle.refine_form.proofs.Rules.{as_known, meets_rate, wraps, meets_told, meets_slack, meets_less}
 use Rattle.refine_form.proofs.Rows.{here, next, will_row}
-use Rattle.branch_codegen.proofs.Flags.{Flagged, FlagLaw, test_flags, mk}
+use Rattle.branch_codegen.proofs.Flags.{Flagged, FlagLaw, test_flags}
 use Rattle.branch_codegen.proofs.Ifs.{if_does, if_undoes}
+use Rattle.refine_form.proofs.Memories.{mk}
 
 -- a value of which only the truth value is used
 pub told_holds : {B : Type 0} (r : Run Value) (g : Bool → Told B)

@@ -11,9 +11,6 @@ use Rattle.refine_expressions.specs.roopl_semantics.Store.{State}
 use Rattle.refine_form.specs.Form.{World, Scope, TestLaw, registers, bit, test_rates, test_slack, tested, told}
 use Rattle.refine_form.proofs.Rules.{as_known, meets_as}
 
-abbrev pub mk : (link object frame at at' word flag place : ℕ) → List ℕ → Memory
-mk l o f a b c g p cs = record { regs = registers l o f a b c g p; cells = cs }
-
 -- between statements, with a flag
 pub record Flagged (w : World) (s : Scope) (u : w.Under) (v : Bool) (st : State) (m : Memory) : Type 0 where
   pub regs_are : m.regs ≡ registers 0 (w.object_of u) (w.frame_of u) 0 0 0 (bit v) 0

@@ -32,8 +32,9 @@ use Rattle.refine_expressions.proofs.paired_code_laws.Small.{runs_still}
 use Rattle.refine_form.proofs.Told.{alone, told_after, told_bind, same_then, plus_none, plus_plus}
 use Rattle.refine_form.proofs.Rules.{as_known, wraps_spent, meets_told}
 use Rattle.refine_form.proofs.Rows.{here, next, will_row}
-use Rattle.branch_codegen.proofs.Flags.{Flagged, FlagLaw, test_flags, mk}
+use Rattle.branch_codegen.proofs.Flags.{Flagged, FlagLaw, test_flags}
 use Rattle.branch_codegen.proofs.Choices.{told_holds}
+use Rattle.refine_form.proofs.Memories.{mk}
 
 -- ---- rules that leave open what is to hold at the end
 

@@ -1,6 +1,6 @@
 -- A block with its calls turned: what inverts with calls turned is the turned inverse of what
 -- inverts with calls as they are.
-use Rattle.std.proofs.Common.{◌≡◌, refl, sym, ap, ◌∙◌, true, false, Bool, not}
+use Rattle.std.proofs.Common.{◌≡◌, refl, sym, ap, ◌∙◌, true, false, not}
 use Rattle.meaning_reached.specs.rpp_tree.Tree.{Statement, Statements, Update, Swap, If, From, Construct, Local, New, Delete, Copy}
 use Rattle.meaning_reached.specs.rpp_tree.Tree.{Uncopy, Call, Skip, End, Then, joined}
 use Rattle.meaning_reached.specs.class_rules.Scope.{Typing, Locals}
@@ -8,6 +8,7 @@ use Rattle.meaning_reached.specs.class_rules.Statements.{in_turn, test_rules, lo
 use Rattle.meaning_reached.specs.class_rules.Statements.{check_statement, check_statements}
 use Rattle.meaning_reached.specs.inverse_rules.Inverse.{inverse_statement_as, inverse_as, inverse}
 use Rattle.meaning_reached.proofs.inverse_rules_laws.Inverses.{inverse-twice}
+use Rattle.meaning_reached.proofs.pisa_isa_laws.Back.{not-not}
 
 abbrev mutual
   -- a statement whose calls go the other way
@@ -60,10 +61,6 @@ mutual
 pub inverse_of_inverse : (b : Statements) → inverse (inverse_as false b) ≡ turned b
 inverse_of_inverse b = sym (turned_inverse (inverse_as false b)) ∙ ap turned (inverse-twice false b)
 
-not_twice : (b : Bool) → not (not b) ≡ b
-not_twice true = refl
-not_twice false = refl
-
 mutual
   statement_turned_twice : (s : Statement) → turned_statement (turned_statement s) ≡ s
   statement_turned_twice (Update at op target value) = refl
@@ -77,7 +74,7 @@ mutual
       ap (λ b. Construct at class name b end) (turned_twice body)
   statement_turned_twice (Local at var value body end_var end_value) =
       ap (λ b. Local at var value b end_var end_value) (turned_twice body)
-  statement_turned_twice (Call at back receiver method args) = ap (λ b. Call at b receiver method args) (not_twice back)
+  statement_turned_twice (Call at back receiver method args) = ap (λ b. Call at b receiver method args) (not-not back)
   statement_turned_twice _ = refl
 
   pub turned_twice : (b : Statements) → turned (turned b) ≡ b

@@ -231,7 +231,7 @@ pub no_int_class : (o : Option ℕ) → is_int (class_kind o) ≡ false
 no_int_class None = refl
 no_int_class (Some c) = refl
 
-no_int_array : (o : Option ℕ) → is_int (array_kind o) ≡ false
+pub no_int_array : (o : Option ℕ) → is_int (array_kind o) ≡ false
 no_int_array None = refl
 no_int_array (Some c) = refl
 

@@ -71,7 +71,7 @@ pub clash : (b : Bool) → b ≡ true → b ≡ false → ⊥
 clash true h k = cc
 clash false h k = cc
 
-not_pos : (n : ℕ) → (0 < n → ⊥) → n ≡ 0
+pub not_pos : (n : ℕ) → (0 < n → ⊥) → n ≡ 0
 not_pos zero h = refl
 not_pos (suc n) h = absurd (h (omega arith))
 

@@ -45,7 +45,8 @@ use Rattle.roopl_semantics.proofs.class_rules_laws.PassedRules.{handed_on, some_
 
 -- ---- operators give words
 
-truth_is_word : (b : Bool) → truth_word b < 2 ^ 32
+-- the truth value of a test is a word
+pub truth_is_word : (b : Bool) → truth_word b < 2 ^ 32
 truth_is_word true = omega arith
 truth_is_word false = omega arith
 

@@ -12,14 +12,11 @@ use Rattle.refine_form.specs.paired_code.Rows.{line}
 use Rattle.refine_form.specs.code_conventions.Cells.{exch, addi}
 use Rattle.refine_form.specs.declared.spot.Spot.{Spot}
 use Rattle.refine_form.specs.declared.spot.Spot.TheVariants.{Field, Frame}
-use Rattle.refine_form.specs.Form.{registers}
 use Rattle.refine_form.proofs.Rows.{here, next, will_row}
 use Rattle.method_calls.specs.CallCode.{base_of, reach_row, above_row}
 use Rattle.method_calls.specs.Facts.{address}
 use Rattle.method_calls.proofs.Exchanges.{exchanges}
-
-abbrev pub mk : (link object frame at at' word flag place : ℕ) → List ℕ → Memory
-mk l o f a b c g p cs = record { regs = registers l o f a b c g p; cells = cs }
+use Rattle.refine_form.proofs.Memories.{mk}
 
 pub sum_is : (x y z : ℕ) → x + y ≡ z → z < 2 ^ 32 → sum_of x y ≡ z
 sum_is x y z e h = omega arith

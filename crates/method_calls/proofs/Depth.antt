@@ -3,7 +3,7 @@ use Rattle.std.proofs.Common.{◌≡◌, ◌≢◌, ℕ, ◌+◌, ◌-◌, ◌^�
 use Rattle.std.proofs.Common.{refl}
 use Rattle.std.proofs.Common.{sym}
 use Rattle.std.proofs.Common.{ap, ◌∙◌, arith}
-use Rattle.std.specs.Prelude.{not, nat_lt, slice_index, slice_set, bit_xor, int_lt, pos, if◌then◌else◌}
+use Rattle.std.specs.Prelude.{nat_lt, slice_index, slice_set, int_lt, pos, if◌then◌else◌}
 use Rattle.std.proofs.lemmas.List.{get_or-set_same, get_or-set_other, set-get_or}
 use Rattle.std.proofs.Math.ListN.{length-set}
 use Rattle.std.proofs.lemmas.Bool.Decides.{nat_tests}
@@ -26,10 +26,11 @@ use Rattle.refine_form.proofs.paired_code_laws.Checks.{runs_passes, runs_fails}
 use Rattle.refine_form.specs.code_conventions.Cells.{add, exch, addi}
 use Rattle.method_calls.specs.CallCode.{end_row, depth_code, fetch_row, save_row}
 use Rattle.refine_form.proofs.Rows.{Ran, here, next, will_row}
-use Rattle.method_calls.proofs.Addresses.{mk, sum_is, difference_is, less_is}
+use Rattle.method_calls.proofs.Addresses.{sum_is, difference_is, less_is}
 use Rattle.refine_form.proofs.Rules.{will_in, will_in_trap}
 use Rattle.refine_form.specs.paired_code.Rows.{line}
 use Rattle.method_calls.proofs.Exchanges.{exchanges}
+use Rattle.refine_form.proofs.Memories.{mk}
 
 more_is : (x i z : ℕ) → x + i ≡ z → i < 2 ^ 32 → z < 2 ^ 32 → sum_of x (negated (negated i)) ≡ z
 more_is x i z e h k = omega arith

@@ -35,10 +35,11 @@ use Rattle.refine_form.proofs.Told.{told_after, told_bind, same_then}
 use Rattle.refine_form.proofs.Rules.{meets_rate, meets_told, meets_less, meets_then, meets_later, Late, late}
 use Rattle.refine_form.proofs.Rules.{late_then, late_counts, as_known, will_in, will_two, will_two_back}
 use Rattle.refine_form.proofs.Rows.{here, next, will_row}
-use Rattle.method_calls.proofs.Addresses.{mk, will_find_word, will_leave_word}
+use Rattle.method_calls.proofs.Addresses.{will_find_word, will_leave_word}
 use Rattle.refine_form.specs.paired_code.Rows.{line}
 use Rattle.method_calls.proofs.Exchanges.{exchanges}
 use Rattle.refine_form.proofs.inverse_rules_laws.Inverses.{joined-end, joined_assoc}
+use Rattle.refine_form.proofs.Memories.{mk}
 
 -- ---- a word changes places with a word of the frame
 

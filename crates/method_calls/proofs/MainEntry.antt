@@ -27,8 +27,8 @@ use Rattle.refine_form.proofs.Rules.{as_known}
 use Rattle.method_calls.specs.CallCode.{main_row, main_code}
 use Rattle.method_calls.specs.Facts.{Known, FrameFacts, MainFacts}
 use Rattle.method_calls.specs.Laws.{EntersMain, main_start, body_start, body_end}
-use Rattle.method_calls.proofs.Addresses.{mk}
 use Rattle.method_calls.proofs.MainPiece.{sets_out, comes_home}
+use Rattle.refine_form.proofs.Memories.{mk}
 
 -- if the outcome of a fragment is known, it goes along to its end
 way_of : (im : Image) (p : List Symbol) (m m' : Memory) (k i : ℕ) → Will im p false m (λ o. o ≡ Done m' k)

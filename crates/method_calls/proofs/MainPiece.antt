@@ -33,8 +33,9 @@ use Rattle.refine_form.specs.code_conventions.Cells.{add, exch, addi}
 use Rattle.method_calls.specs.CallCode.{main_row, main_code}
 use Rattle.method_calls.specs.Facts.{Known, FrameFacts, MainFacts}
 use Rattle.method_calls.proofs.Exchanges.{exchanges}
-use Rattle.method_calls.proofs.Addresses.{mk, sum_is, difference_is}
+use Rattle.method_calls.proofs.Addresses.{sum_is, difference_is}
 use Rattle.method_calls.proofs.Depth.{filled, emptied}
+use Rattle.refine_form.proofs.Memories.{mk}
 
 module _ (im : Image) (fr : ℕ) (cs : List ℕ) (inside : STACK_CELL < length cs) (base : slice_index cs STACK_CELL ≡ fr)
     (small : fr < 2 ^ 23) where

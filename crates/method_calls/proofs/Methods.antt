@@ -15,9 +15,9 @@ use Rattle.method_calls.specs.CallCode.{save_row, method_code}
 use Rattle.method_calls.specs.Facts.{Known, FrameFacts}
 use Rattle.refine_form.proofs.Rules.{as_known, wraps, meets_told, meets_slack}
 use Rattle.refine_form.proofs.Told.{alone}
-use Rattle.method_calls.proofs.Addresses.{mk}
 use Rattle.method_calls.proofs.Depth.{will_save, will_restore}
 use Rattle.refine_form.specs.paired_code.Rows.{line}
+use Rattle.refine_form.proofs.Memories.{mk}
 
 module _ (w : World) (knows : Known w) (f : FrameFacts w knows) (s : Scope) (method : Procedure) (p : List Symbol)
     (hp : BlockLaw w s method.body p) where

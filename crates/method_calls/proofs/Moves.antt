@@ -16,7 +16,7 @@ use Rattle.refine_form.specs.roopl_semantics.Run.{◌>>=◌, fault_if}
 use Rattle.refine_form.specs.roopl_semantics.Store.{Value, State, is_zero}
 use Rattle.refine_form.specs.roopl_semantics.Value.{Cell, read, written}
 use Rattle.refine_form.specs.roopl_semantics.Execution.{moved_back, touched_fault}
-use Rattle.refine_form.specs.Form.{World, Scope, Moved, pairs, registers, told}
+use Rattle.refine_form.specs.Form.{World, Scope, pairs, told}
 use Rattle.method_calls.specs.CallCode.{first_word, take_code, put_code, move_code, moves_code}
 use Rattle.refine_form.specs.declared.spot.Spot.{Spot}
 use Rattle.refine_form.specs.declared.spot.Spot.TheVariants.{Field, Frame}
@@ -24,8 +24,8 @@ use Rattle.method_calls.specs.Facts.{address, IsNear, MovesBack, Known, FrameFac
 use Rattle.refine_form.proofs.Told.{told_after, plus_none}
 use Rattle.refine_form.proofs.Rules.{will_two, will_two_back, meets_told, meets_slack}
 use Rattle.refine_form.proofs.Rules.{meets_later}
-use Rattle.method_calls.proofs.Addresses.{mk}
 use Rattle.method_calls.proofs.ReceiverParts.{takes, gives_back, finds_touched, puts}
+use Rattle.refine_form.proofs.Memories.{mk}
 
 -- the memory between statements
 abbrev pub plain : (w : World) → w.Under → List ℕ → Memory

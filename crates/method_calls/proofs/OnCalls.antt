@@ -19,7 +19,7 @@ use Rattle.refine_form.proofs.paired_code_laws.Laws.{Next, will_more, will_seq, 
 use Rattle.refine_form.proofs.paired_code_laws.Does.{Quiet, quiet, then_quiet}
 use Rattle.refine_form.specs.roopl_semantics.Run.{Run, ◌>>=◌, after_cost, fault_if}
 use Rattle.refine_form.specs.roopl_semantics.Store.{Value, Name, State, is_zero, is_nil, number_of, cleared}
-use Rattle.refine_form.specs.roopl_semantics.Value.{Cell, read, written, cell_named, own_class, nil_fault}
+use Rattle.refine_form.specs.roopl_semantics.Value.{Cell, read, written, cell_named, nil_fault}
 use Rattle.refine_form.specs.roopl_semantics.Execution.{Setting, exec, in_direction, invoked, moved_out, moved_back, bound}
 use Rattle.refine_form.specs.roopl_semantics.Execution.{cells_named, class_of, is_too_deep, too_deep_fault, touched_fault}
 use Rattle.refine_form.specs.Form.{World, Scope, pairs, Open, Owes, StmtLaw, registers, told, one, turned}
@@ -32,7 +32,7 @@ use Rattle.refine_form.proofs.Told.{told_after, told_bind, plus_none, plus_plus}
 use Rattle.refine_form.proofs.Rules.{wraps_spent, will_around, meets_told, meets_less, meets_later, meets_as}
 use Rattle.refine_form.proofs.Rules.{as_known, will_two, will_two_back}
 use Rattle.refine_form.proofs.Rows.{here, next, will_row}
-use Rattle.method_calls.proofs.Addresses.{mk, less_is}
+use Rattle.method_calls.proofs.Addresses.{less_is}
 use Rattle.method_calls.proofs.Moves.{cells_of, AllVariables, AllUp, all_up, all_back, spot_in}
 use Rattle.method_calls.proofs.Depth.{depth_passes, depth_traps, will_fetch, will_unfetch}
 use Rattle.method_calls.proofs.OwnCalls.{InCall, enters_body}
@@ -41,6 +41,7 @@ use Rattle.method_calls.specs.Laws.{NotAmong, AllApart}
 use Rattle.method_calls.proofs.ReceiverParts.{nil_passes, nil_traps, takes, gives_back, finds_touched, turns_to}
 use Rattle.method_calls.proofs.ReceiverParts.{turns_from}
 use Rattle.refine_form.specs.paired_code.Rows.{line}
+use Rattle.refine_form.proofs.Memories.{mk}
 
 -- values that move back do not change the other cells
 stays : (cells : List Cell) (values : List Value) (st end : State) (k : ℕ) (c : Cell) → NotAmong c cells

@@ -30,10 +30,11 @@ use Rattle.refine_form.proofs.Told.{told_after, told_bind, plus_none, plus_plus}
 use Rattle.refine_form.proofs.Rules.{wraps_spent, will_around, meets_told, meets_slack, meets_less, meets_later}
 use Rattle.refine_form.proofs.Rules.{as_known, will_two, will_two_back}
 use Rattle.refine_form.proofs.Rows.{here, next, will_row}
-use Rattle.method_calls.proofs.Addresses.{mk, less_is}
+use Rattle.method_calls.proofs.Addresses.{less_is}
 use Rattle.method_calls.proofs.Moves.{cells_of, AllVariables, AllUp, all_up, all_back}
 use Rattle.method_calls.proofs.Depth.{depth_passes, depth_traps, will_fetch, will_unfetch}
 use Rattle.refine_form.specs.paired_code.Rows.{line}
+use Rattle.refine_form.proofs.Memories.{mk}
 
 -- ---- a routine by its place: its body as it is met from the call
 

@@ -23,10 +23,11 @@ use Rattle.refine_form.proofs.Rules.{will_in, will_in_trap, will_two, will_two_b
 use Rattle.method_calls.specs.CallCode.{base_of, reach_row, above_row, take_code, put_code, peek_row, nil_code}
 use Rattle.method_calls.specs.CallCode.{onto_code}
 use Rattle.method_calls.specs.Facts.{address}
-use Rattle.method_calls.proofs.Addresses.{mk, sum_is, difference_is, at_spot, will_reach, will_leave, swaps_moved}
+use Rattle.method_calls.proofs.Addresses.{sum_is, difference_is, at_spot, will_reach, will_leave, swaps_moved}
 use Rattle.method_calls.proofs.Addresses.{swaps_content, will_raise, will_lower}
 use Rattle.method_calls.proofs.Depth.{filled, emptied, above_zero}
 use Rattle.method_calls.proofs.Exchanges.{exchanges}
+use Rattle.refine_form.proofs.Memories.{mk}
 
 module _ (im : Image) (ob fr : ℕ) (sp : Spot) (cs : List ℕ) (inside : address ob fr sp < length cs)
     (low : address ob fr sp < 2 ^ 32) where

@@ -72,7 +72,7 @@ room_here xs i x top l e room =
 
 -- so many marks
 
-length-shift : (n : ℕ) (ks : List Mark) → length (shift n ks) ≡ length ks
+pub length-shift : (n : ℕ) (ks : List Mark) → length (shift n ks) ≡ length ks
 length-shift n [] = refl
 length-shift n (k ∷ ks) = ap suc (length-shift n ks)
 

@@ -12,3 +12,4 @@ pub mod Rows
 pub mod Holding
 pub mod Blocks
 pub mod Stated
+pub mod Memories

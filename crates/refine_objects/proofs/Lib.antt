@@ -16,7 +16,6 @@ pub mod Overlaid
 pub mod MadeMemory
 pub mod Bases
 pub mod Allocating
-pub mod Counting
 pub mod Placings
 pub mod MadeFrames
 pub mod FreedFrames

@@ -25,7 +25,7 @@ use Rattle.object_codegen.proofs.meaning_sound_laws.Cells.{sound_of}
 use Rattle.object_codegen.proofs.meaning_sound_laws.Placing.{TookBlock, took_block, place_taken}
 use Rattle.object_codegen.proofs.meaning_sound_laws.Objects.{all_live, clash, unheld, dead_above, bigger, bigger_typed}
 use Rattle.object_codegen.proofs.meaning_sound_laws.Objects.{older_head}
-use Rattle.object_codegen.proofs.meaning_sound_laws.Objects.{cell_bigger, read_bigger, allocated_keeps}
+use Rattle.object_codegen.proofs.meaning_sound_laws.Objects.{cell_bigger, read_bigger, allocated_keeps, not_pos}
 use Rattle.object_codegen.proofs.meaning_sound_laws.Runs.{Ends}
 use Rattle.object_codegen.specs.refine_form.Form.{Scope}
 use Rattle.object_codegen.specs.refine_form.Frames.{Caller, Under, base, stack_base, before_stack, memory, stack_words}
@@ -56,7 +56,7 @@ avoids_dead : (setting : Setting) (statics : List ℕ) (store : Store) (n : ℕ)
     → (callers : List Caller) → CallersFit setting statics store callers → Avoids n callers
 avoids_dead setting statics store n dead [] h = tt
 avoids_dead setting statics store n dead (c ∷ callers) h = (
-  Rattle.refine_objects.proofs.Counting.no_holder (holders_among n (map value_of c.frame))
+  not_pos (holders_among n (map value_of c.frame))
       (λ q. clash (is_live store n) (all_live setting.program store
       (map Rattle.object_codegen.specs.meaning_sound.Sound.local_type (shape_of setting.program c.scope))
       (map value_of c.frame)

@@ -8,6 +8,7 @@ use Rattle.std.proofs.lemmas.Int.{ints}
 use Rattle.code_scope.specs.pisa_isa.Table.{word_of}
 use Rattle.code_scope.specs.rpp_words.Words.{is_less}
 use Rattle.code_scope.specs.roopl_semantics.Operators.{is_true, truth_word}
+use Rattle.refine_form.proofs.pisa_isa_laws.Back.{not-not}
 
 pub word_is_truth : (b : Bool) → word_of b ≡ truth_word b
 word_is_truth true = refl
@@ -56,15 +57,11 @@ pub flipped : (b : Bool) → bit_xor (truth_word b) 1 ≡ truth_word (not b)
 flipped true = refl
 flipped false = refl
 
-not_not : (b : Bool) → not (not b) ≡ b
-not_not true = refl
-not_not false = refl
-
 -- and the other way
 pub equal : (a b : ℕ) → a < 2 ^ 32 → b < 2 ^ 32 → bit_xor (bit_xor (word_of (is_less a b)) (word_of (is_less b a))) 1
     ≡ truth_word (nat_eq a b)
 equal a b h k = ap (λ z. bit_xor z 1) (differ a b h k) ∙ flipped (not (nat_eq a b))
-    ∙ ap truth_word (not_not (nat_eq a b))
+    ∙ ap truth_word (not-not (nat_eq a b))
 
 pub not_less : (b : Bool) → bit_xor (word_of b) 1 ≡ truth_word (not b)
 not_less true = refl
@@ -81,10 +78,6 @@ one_true true true = refl
 one_true true false = refl
 one_true false true = refl
 one_true false false = refl
-
-pub truth_small : (b : Bool) → truth_word b < 2 ^ 32
-truth_small true = omega arith
-truth_small false = omega arith
 
 -- ---- an array's address and an index
 

@@ -15,7 +15,7 @@ use Rattle.code_scope.specs.roopl_semantics.Operators.{operated}
 use Rattle.code_scope.specs.refine_form.declared.spot.Spot.{Spot}
 use Rattle.register_expressions.specs.Number.{Bases, element_address, element_at, word_in, combined, word_of, number}
 use Rattle.register_expressions.specs.Number.{IsArray, Sees}
-use Rattle.register_expressions.proofs.Comparing.{truth_small}
+use Rattle.refine_form.proofs.meaning_sound_laws.Values.{truth_is_word}
 
 -- the same words below an address
 abbrev pub Agree : ℕ → List ℕ → List ℕ → Type 0
@@ -30,14 +30,14 @@ operated_word op.Sub x y h k = omega arith
 operated_word op.Xor x y h k = xor_lt 32 x y h k
 operated_word op.And x y h k = and_lt 32 x y h k
 operated_word op.Or x y h k = or_lt 32 x y h k
-operated_word op.AndAlso x y h k = truth_small _
-operated_word op.OrElse x y h k = truth_small _
-operated_word op.Less x y h k = truth_small _
-operated_word op.Greater x y h k = truth_small _
-operated_word op.AtMost x y h k = truth_small _
-operated_word op.AtLeast x y h k = truth_small _
-operated_word op.Equal x y h k = truth_small _
-operated_word op.NotEqual x y h k = truth_small _
+operated_word op.AndAlso x y h k = truth_is_word _
+operated_word op.OrElse x y h k = truth_is_word _
+operated_word op.Less x y h k = truth_is_word _
+operated_word op.Greater x y h k = truth_is_word _
+operated_word op.AtMost x y h k = truth_is_word _
+operated_word op.AtLeast x y h k = truth_is_word _
+operated_word op.Equal x y h k = truth_is_word _
+operated_word op.NotEqual x y h k = truth_is_word _
 operated_word op.Mul x y h k = omega arith
 operated_word op.Div x y h k = omega arith
 operated_word op.Rem x y h k = omega arith

@@ -11,6 +11,7 @@ use Rattle.branch_codegen.specs.pisa_isa.declared.notes.Mark.{Mark}
 use Rattle.branch_codegen.specs.paired_code.Code.{moved_on, shift}
 use Rattle.statement_codegen.specs.Rows.{Row}
 use Rattle.statement_codegen.specs.Ranges.{LiesIn, LiesApart, AreNested}
+use Rattle.branch_codegen.proofs.paired_code_laws.Shifted.{length-shift}
 
 -- ---- one range for each
 
@@ -52,10 +53,6 @@ pub shift_same : (n : ℕ) (xs ys : List Mark) → IsPermutation xs ys → IsPer
 shift_same n xs ys h = subst (λ z. IsPermutation z (shift n ys)) (sym (shift_map n xs))
     (subst (λ z. IsPermutation (map (moved_on n) xs) z) (sym (shift_map n ys)) (IsPermutation-map (moved_on n) xs ys h))
 
-shift_length : (n : ℕ) (ks : List Mark) → length (shift n ks) ≡ length ks
-shift_length n [] = refl
-shift_length n (k ∷ ks) = ap suc (shift_length n ks)
-
 pub all_moved : (P Q : Mark → Type 0) (n : ℕ) → ((k : Mark) → P k → Q (moved_on n k)) → (ks : List Mark) → All P ks
     → All Q (shift n ks)
 all_moved P Q n f [] h = All-nil Q
@@ -84,7 +81,7 @@ nested_moved n [] [] h = h
 nested_moved n [] (k ∷ ks) h = absurd h
 nested_moved n (r ∷ rs) [] h = absurd h
 nested_moved n (r ∷ rs) (k ∷ ks) h = (
-  subst (λ z. r.inside ≤ z) (sym (shift_length n ks)) h.0,
+  subst (λ z. r.inside ≤ z) (sym (length-shift n ks)) h.0,
   subst (All (LiesIn (moved_on n k))) (sym (take_moved n r.inside ks))
       (all_moved (LiesIn k) (LiesIn (moved_on n k)) n (in_moved n k) (take r.inside ks) h.1),
   subst (All (LiesApart (moved_on n k))) (sym (drop_moved n r.inside ks))

@@ -2,7 +2,7 @@
 -- rules of types and the limits accept these. The laws of the code need no more.
 use Rattle.std.proofs.Common.{◌≡◌, ℕ, ◌+◌, ◌<◌, ◌≤◌, inl, inr, Bool, true, false, List, length, refl, sym, ap, ◌∙◌}
 use Rattle.std.proofs.Common.{subst, arith}
-use Rattle.std.specs.Prelude.{Ok, Option, Some, None, not, ◌&&◌, ◌||◌, if◌then◌else◌}
+use Rattle.std.specs.Prelude.{Ok, not, ◌&&◌, ◌||◌, if◌then◌else◌}
 use Rattle.std.specs.Option.{is_none}
 use Rattle.std.specs.Str.{bytes_eq}
 use Rattle.branch_codegen.specs.code_conventions.declared.memory.TheConstants.{MOST_VARIABLES}
@@ -18,7 +18,7 @@ use Rattle.branch_codegen.specs.class_rules.declared.kind.Kind.TheVariants as ki
 use Rattle.branch_codegen.specs.class_rules.Overrides.{is_type_int, same_type}
 use Rattle.branch_codegen.specs.class_rules.Table.{table_of, class_of}
 use Rattle.branch_codegen.specs.class_rules.Refusal.{redeclared, type_differs, local_in_own_expression}
-use Rattle.branch_codegen.specs.class_rules.Scope.{Typing, Locals, local_kind, kind_of, class_kind, array_kind}
+use Rattle.branch_codegen.specs.class_rules.Scope.{Typing, Locals, local_kind, kind_of}
 use Rattle.branch_codegen.specs.class_rules.Expressions.{is_int, type_of, occurs, first_token}
 use Rattle.branch_codegen.specs.class_rules.Statements.{passed, required, in_turn, test_rules, type_known, is_nil_word, local_rules}
 use Rattle.branch_codegen.specs.class_rules.Statements.{with_local, check_statements}
@@ -26,7 +26,7 @@ use Rattle.branch_codegen.proofs.class_rules_laws.FirstPlaces.{same_name}
 use Rattle.branch_codegen.proofs.class_rules_laws.PassedRules.{both_passed, held, handed_on, both_true, neither_true, int_kind}
 use Rattle.branch_codegen.specs.paired_code.declared.part.Symbol.{Symbol}
 use Rattle.branch_codegen.specs.meaning_sound.Plain.{HasWords}
-use Rattle.branch_codegen.proofs.meaning_sound_laws.Locals.{no_int_class}
+use Rattle.branch_codegen.proofs.meaning_sound_laws.Locals.{no_int_class, no_int_array}
 use Rattle.refine_form.specs.Form.{Scope}
 use Rattle.refine_form.specs.Stands.{shape_of}
 use Rattle.refine_form.specs.Worlds.{Place}
@@ -188,10 +188,6 @@ null_is (Variable name) h = absurd (cc)
 null_is (Element name index) h = absurd (cc)
 null_is (Binary at op left right) h = absurd (cc)
 
-array_no_int : (o : Option ℕ) → is_int (array_kind o) ≡ false
-array_no_int None = refl
-array_no_int (Some c) = refl
-
 -- what the rules say of one value of a local
 init_is : (program : Source) (s : Scope) (var : Var) (e : Expression) (k : Kind) → length s.vars < MOST_VARIABLES
     → type_of (typing_in program s) (shape_of program s) e ≡ Ok k → HasWords e → occurs var.name.text e ≡ false
@@ -220,7 +216,7 @@ init_is program s var e k few typed has apart fits = by var.kind refl fits
     }
     by (type.Class c) same h = nil (type.Class c) same (no_int_class (class_of (table_of program) c.text)) h
     by type.IntArray same h = nil type.IntArray same refl h
-    by (type.ClassArray c) same h = nil (type.ClassArray c) same (array_no_int (class_of (table_of program) c.text)) h
+    by (type.ClassArray c) same h = nil (type.ClassArray c) same (no_int_array (class_of (table_of program) c.text)) h
 
 each_fits : (b x y z w : Bool) → (if b then x && y else z && w) ≡ true
     → ((if b then x else z) ≡ true) × ((if b then y else w) ≡ true)
