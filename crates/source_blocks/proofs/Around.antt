@@ -1,14 +1,13 @@
 -- A run that turns round: what is past is to come, undone.
-use Rattle.std.proofs.Common.{◌≡◌, ◌<◌, ℕ, zero, suc, ◌+◌, refl, sym, ap, ap₂, subst, ◌∙◌, arith, Bool, true}
-use Rattle.std.proofs.Common.{false}
+use Rattle.std.proofs.Common.{◌≡◌, ◌<◌, ℕ, zero, suc, ◌+◌, refl, sym, ap, ap₂, subst, ◌∙◌, arith, true}
 use Rattle.std.proofs.Common.{not, List, [], ◌∷◌, ◌++◌, map, reverse, length, All, set, get_or, take, drop, append-nil}
 use Rattle.std.proofs.lemmas.List.{reverse-append, take_all, drop_all}
 use Rattle.rpp_tree.specs.declared.tree.Ident.{Ident}
 use Rattle.rpp_tree.specs.Tree.{Whole, Object as AnObject, Statements, Delete, End, Then, joined}
 use Rattle.rpp_tree.specs.Views.{expression_of, block_of}
 use Rattle.source_steps.specs.inverse_rules.Inverse.{inverse}
-use Rattle.source_steps.proofs.inverse_rules_laws.Inverses.{inverse-twice, inverse-joined}
-use Rattle.source_steps.specs.roopl_semantics.Execution.{in_direction, constructed}
+use Rattle.source_steps.proofs.inverse_rules_laws.Inverses.{inverse-joined}
+use Rattle.source_steps.specs.roopl_semantics.Execution.{constructed}
 use Rattle.source_steps.specs.meaning_machine.Machine.{Config, Open, Part as Runs, First, Again}
 use Rattle.source_steps.specs.meaning_machine.Turned.{each_undone, turned_open, turned_part, turn}
 use Rattle.source_blocks.specs.declared.frames.Frame.{Frame}
@@ -20,13 +19,9 @@ use Rattle.source_blocks.specs.Tasks.{task_of}
 use Rattle.source_blocks.specs.Opens.{open_of, part_of, IsOpen}
 use Rattle.source_blocks.specs.Runs.{IsSound, config_of, state_in}
 use Rattle.source_blocks.proofs.Blocks.{rest_here, rest_end, count_inverse, at_inverse}
+use Rattle.source_steps.proofs.roopl_semantics_laws.Changed.{direction_undone}
 
 -- ---- blocks that are undone
-
-pub direction_undone : (back : Bool) (body : Statements)
-    → in_direction (not back) body ≡ inverse (in_direction back body)
-direction_undone true body = sym (inverse-twice true body)
-direction_undone false body = refl
 
 pub made_undone : (at : ℕ) (class name : Ident) (body : Statements)
     → inverse (constructed at class name body) ≡ constructed at class name (inverse body)

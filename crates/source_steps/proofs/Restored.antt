@@ -1,10 +1,11 @@
 -- A cell that is written, and then holds again what it held before.
-use Rattle.std.proofs.Common.{◌≡◌, ℕ, zero, suc, refl, sym, ap, ◌∙◌, List, [], ◌∷◌, Bool, true, false, Some}
+use Rattle.std.proofs.Common.{◌≡◌, ℕ, zero, suc, refl, ap, ◌∙◌, List, [], ◌∷◌, Bool, true, false, Some}
 use Rattle.std.specs.Prelude.{nat_eq, slice_get, slice_set, if◌then◌else◌}
 use Rattle.std.specs.Option.{unwrap_or}
 use Rattle.source_store.specs.roopl_semantics.Store.{Value, Nil, Object, Store, Binding, State, object_at, object_named}
 use Rattle.source_store.specs.roopl_semantics.Store.{no_object, changed_at}
 use Rattle.source_store.specs.roopl_semantics.Value.{Cell, Slot, Part, read, written, value_at, with_value}
+use Rattle.source_store.proofs.roopl_semantics_laws.Changed.{with_cell}
 
 frame_back : (frame : List Binding) (index : ℕ) (v : Value)
     → with_value (with_value frame index v) index (value_at frame index) ≡ frame
@@ -17,9 +18,6 @@ cells_back : (cells : List Value) (index : ℕ) (v : Value)
 cells_back [] index v = refl
 cells_back (cell ∷ cells) zero v = refl
 cells_back (cell ∷ cells) (suc index) v = ap (λ rest. cell ∷ rest) (cells_back cells index v)
-
-abbrev set_in : ℕ → Value → Object → Object
-set_in index v object = record object { cells = slice_set object.cells index v }
 
 abbrev part_at : Store → ℕ → ℕ → Value
 part_at store name index = unwrap_or (slice_get (object_at store name).cells index) Nil
@@ -47,28 +45,28 @@ part_later n name index object store e =
     index) Nil) e
 
 back_by : (t : Bool) (n name index : ℕ) (object : Object) (store : Store) (v : Value) → nat_eq n name ≡ t
-    → changed_at (changed_at store name (set_in index v)) name (set_in index (part_at store name index)) ≡ store
-    → changed_at (changed_at ((n, object) ∷ store) name (set_in index v)) name
-    (set_in index (part_at ((n, object) ∷ store) name index)) ≡ (n, object) ∷ store
+    → changed_at (changed_at store name (with_cell index v)) name (with_cell index (part_at store name index)) ≡ store
+    → changed_at (changed_at ((n, object) ∷ store) name (with_cell index v)) name
+    (with_cell index (part_at ((n, object) ∷ store) name index)) ≡ (n, object) ∷ store
 back_by true n name index object store v e rest =
-    ap (λ s. changed_at s name (set_in index (part_at ((n, object) ∷ store) name index)))
-    (changed_here n name object store (set_in index v) e)
-    ∙ (ap (λ p. changed_at ((n, set_in index v object) ∷ store) name (set_in index p))
+    ap (λ s. changed_at s name (with_cell index (part_at ((n, object) ∷ store) name index)))
+    (changed_here n name object store (with_cell index v) e)
+    ∙ (ap (λ p. changed_at ((n, with_cell index v object) ∷ store) name (with_cell index p))
     (part_here n name index object store e)
-    ∙ (changed_here n name (set_in index v object) store
-    (set_in index (unwrap_or (slice_get object.cells index) Nil)) e
+    ∙ (changed_here n name (with_cell index v object) store
+    (with_cell index (unwrap_or (slice_get object.cells index) Nil)) e
     ∙ ap (λ cells. (n, record object { cells = cells }) ∷ store) (cells_back object.cells index v)))
 back_by false n name index object store v e rest =
-    ap (λ s. changed_at s name (set_in index (part_at ((n, object) ∷ store) name index)))
-    (changed_later n name object store (set_in index v) e)
-    ∙ (ap (λ p. changed_at ((n, object) ∷ changed_at store name (set_in index v)) name (set_in index p))
+    ap (λ s. changed_at s name (with_cell index (part_at ((n, object) ∷ store) name index)))
+    (changed_later n name object store (with_cell index v) e)
+    ∙ (ap (λ p. changed_at ((n, object) ∷ changed_at store name (with_cell index v)) name (with_cell index p))
     (part_later n name index object store e)
-    ∙ (changed_later n name object (changed_at store name (set_in index v))
-    (set_in index (part_at store name index)) e
+    ∙ (changed_later n name object (changed_at store name (with_cell index v))
+    (with_cell index (part_at store name index)) e
     ∙ ap (λ rest. (n, object) ∷ rest) rest))
 
 store_back : (store : Store) (name index : ℕ) (v : Value)
-    → changed_at (changed_at store name (set_in index v)) name (set_in index (part_at store name index)) ≡ store
+    → changed_at (changed_at store name (with_cell index v)) name (with_cell index (part_at store name index)) ≡ store
 store_back [] name index v = refl
 store_back ((n, object) ∷ store) name index v =
     back_by (nat_eq n name) n name index object store v refl (store_back store name index v)
