@@ -33,7 +33,7 @@ use Rattle.class_rules.proofs.ClassLines.{on, line_is, front_of, inherits_parts,
 
 -- ---- rules that refuse nothing
 
-none_of : {E : Type 0} (a b : Option E) → first_of a b ≡ None → (a ≡ None) × (b ≡ None)
+pub none_of : {E : Type 0} (a b : Option E) → first_of a b ≡ None → (a ≡ None) × (b ≡ None)
 none_of None b h = (refl, h)
 none_of (Some e) b h = absurd (cc)
 

@@ -14,7 +14,7 @@ use Rattle.roopl_parser.specs.Viable.{place_of, Behind, passing_by, passing, pas
 use Rattle.roopl_parser.proofs.Sound.{Gen, Then_gen, walk_sound, ends_sound}
 use Rattle.roopl_parser.proofs.Productive.{productive}
 
-abbrev bracket : List Token → Bool
+abbrev pub bracket : List Token → Bool
 bracket ts = here (is_sign sign.LeftBracket) ts
 
 pub record Stop (at : ℕ) (ts : List Token) (n : ℕ) (s : List Part) (vs : List Value) (e : ParseError) : Type 0 where

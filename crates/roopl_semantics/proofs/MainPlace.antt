@@ -1,13 +1,12 @@
 -- The position of `main` in an accepted program, and the rules of the class table one by one.
 use Rattle.std.proofs.Common.{◌≡◌, ◌∙◌, sym, ap, subst, refl, ℕ, suc, ◌+◌, ◌<◌, Bool, true, false, List, [], ◌∷◌, ◌++◌}
-use Rattle.std.proofs.Common.{length, Option, Some, None, arith, slice_get}
+use Rattle.std.proofs.Common.{length, Some, None, arith, slice_get}
 use Rattle.std.specs.Prelude.{if◌then◌else◌}
 use Rattle.std.proofs.lemmas.Option.{slice_get_within}
 use Rattle.inverse_rules.specs.rpp_tree.declared.tree.Var.{Var}
 use Rattle.inverse_rules.specs.rpp_tree.Tree.{Procedure, ClassText, Source}
 use Rattle.class_rules.specs.declared.method.MethodId.{MethodId}
 use Rattle.class_rules.specs.declared.mains.Main.{Main}
-use Rattle.class_rules.specs.First.{first_of}
 use Rattle.class_rules.specs.Rules.{duplicate_class, unknown_class}
 use Rattle.class_rules.specs.Chains.{inheritance_cycle}
 use Rattle.class_rules.specs.Members.{duplicate_field, too_many_fields, too_many_slots}
@@ -18,11 +17,7 @@ use Rattle.class_rules.specs.Program.{IsAccepted}
 use Rattle.class_rules.proofs.Tables.{table_reads}
 use Rattle.roopl_semantics.specs.Source.{main_fields}
 use Rattle.class_rules.specs.Classes.{main_of}
-
--- of two rules in turn that refuse nothing, neither does
-pub none_of : {E : Type 0} (a b : Option E) → first_of a b ≡ None → (a ≡ None) × (b ≡ None)
-none_of None b h = (refl, h)
-none_of (Some e) b h = absurd (cc)
+use Rattle.class_rules.proofs.InheritedSlots.{none_of}
 
 -- ---- the position of `main`
 

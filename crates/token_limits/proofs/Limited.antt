@@ -15,7 +15,7 @@ use Rattle.roopl_parser.specs.Grammar.{Derives, IsClasses, no_class}
 use Rattle.token_limits.specs.Laws.{Agrees}
 use Rattle.token_limits.specs.Limits as counts
 use Rattle.token_limits.specs.Limits.{Begins, passes as counted_passes}
-use Rattle.roopl_parser.specs.Reader.{Value, Part, Mark, Step, Classes, Program, Wrong, Next, here, is_sign, passed}
+use Rattle.roopl_parser.specs.Reader.{Value, Part, Mark, Step, Classes, Program, Wrong, Next, passed}
 use Rattle.roopl_parser.specs.Reader.{walk, scan, ends, led}
 use Rattle.roopl_parser.specs.Viable.{IsViable, IsWrongAt, Behind, passing_by, passing, passes, too_many, or_else}
 use Rattle.roopl_parser.specs.Viable.{first_limit, place_of}
@@ -23,6 +23,7 @@ use Rattle.roopl_parser.proofs.Sound.{Gen, Then_gen, walk_sound}
 use Rattle.roopl_parser.proofs.Productive.{productive}
 use Rattle.roopl_parser.proofs.Complete.{classes_read}
 use Rattle.token_limits.proofs.Outlines.{outline, Fits, Follows, walk_follows}
+use Rattle.roopl_parser.proofs.Fault.{bracket}
 
 abbrev start : List Part
 start = Program 0 ∷ []
@@ -53,9 +54,6 @@ from_gen ts q (inl g) =
 from_gen ts q (inr g) =
     let P : List Token → Type 0 = λ r. IsClasses ts r g.1 in
     (g.1, subst P g.3.0 g.2)
-
-abbrev bracket : List Token → Bool
-bracket ts = here (is_sign sign.LeftBracket) ts
 
 -- where the reader is after some first tokens of a program
 record After (front : List Token) (n : ℕ) (s : List Part) (vs : List Value) : Type 0 where
