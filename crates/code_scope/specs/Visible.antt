@@ -12,16 +12,11 @@ use Rattle.refine_form.specs.class_rules.declared.method.MethodId.{MethodId}
 use Rattle.refine_form.specs.class_rules.Members.{field_of}
 use Rattle.refine_form.specs.class_rules.Scope.{no_var}
 use Rattle.refine_form.specs.class_rules.Table.{table_of, fields_in}
-use Rattle.refine_form.specs.code_conventions.declared.memory.TheConstants.{HEADER_WORDS, FIRST_VARIABLE}
+use Rattle.refine_form.specs.code_conventions.declared.memory.TheConstants.{FIRST_VARIABLE}
 use Rattle.refine_form.specs.declared.spot.Spot.{Spot}
 use Rattle.refine_form.specs.declared.spot.Spot.TheVariants.{Field, Frame}
 use Rattle.code_scope.specs.declared.known.Names.{Names}
-
--- how far a storage slot is from the address of its object or frame: the class and the reference
--- count are before the fields
-abbrev pub offset_of : Spot → ℕ
-offset_of (Field i) = HEADER_WORDS + i
-offset_of (Frame i) = i
+pub use Rattle.refine_form.specs.Cells.{offset_of}
 
 -- parameters and locals, the innermost first, and the fields of the class
 pub record Known : Type 0 where

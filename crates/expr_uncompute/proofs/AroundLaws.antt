@@ -8,7 +8,7 @@ use Rattle.register_expressions.specs.paired_code.Machine.{Image, reg}
 use Rattle.register_expressions.specs.refine_form.declared.spot.Spot.{Spot}
 use Rattle.register_expressions.specs.Code.{words, around}
 use Rattle.expr_uncompute.specs.Code.{place_words, found_place_cells, found_value_cells, found_places_cells}
-use Rattle.register_expressions.specs.Number.{number, read_of, index_of, place_address}
+use Rattle.register_expressions.specs.Number.{number, lvalue_read, index_of, place_address}
 use Rattle.register_expressions.specs.Laws.{bases_of, Ready}
 use Rattle.expr_uncompute.specs.Laws.{Stays}
 use Rattle.expr_uncompute.specs.Promises.{CanRun}
@@ -60,7 +60,7 @@ module _ (spot : List ℕ → Spot) (free : ℕ) where
   -- ---- a place
 
   module _ (target : Lvalue) (mid : List Symbol) where
-    place_again : (m : Memory) (a : ℕ) → CanRun spot free (place_words target) (read_of target) (Null 0) m
+    place_again : (m : Memory) (a : ℕ) → CanRun spot free (place_words target) (lvalue_read target) (Null 0) m
         → place_address spot (bases_of m) m.cells target ≡ Ok a
         → (cells' : List ℕ) → Changes (reg m 4 + free) m.cells cells'
         → Stays spot (bases_of m) (reg m 4 + free) target (Null 0) m.cells cells'
@@ -96,7 +96,7 @@ module _ (spot : List ℕ → Spot) (free : ℕ) where
   -- ---- a place and a value
 
   module _ (target : Lvalue) (value : Expression) (mid : List Symbol) where
-    value_again : (m : Memory) (a v : ℕ) → CanRun spot free (place_words target + words value) (read_of target) value m
+    value_again : (m : Memory) (a v : ℕ) → CanRun spot free (place_words target + words value) (lvalue_read target) value m
         → place_address spot (bases_of m) m.cells target ≡ Ok a → number spot (bases_of m) m.cells value ≡ Ok v
         → (cells' : List ℕ) → Changes (reg m 4 + free) m.cells cells'
         → Stays spot (bases_of m) (reg m 4 + free) target value m.cells cells'
@@ -143,8 +143,8 @@ module _ (spot : List ℕ → Spot) (free : ℕ) where
   -- ---- two places
 
   module _ (source target : Lvalue) (mid : List Symbol) where
-    places_again : (m : Memory) (a a' : ℕ) → CanRun spot free (place_words source + place_words target) (read_of source)
-        (read_of target) m → place_address spot (bases_of m) m.cells source ≡ Ok a
+    places_again : (m : Memory) (a a' : ℕ) → CanRun spot free (place_words source + place_words target) (lvalue_read source)
+        (lvalue_read target) m → place_address spot (bases_of m) m.cells source ≡ Ok a
         → place_address spot (bases_of m) m.cells target ≡ Ok a'
         → (cells' : List ℕ) → Changes (reg m 4 + free) m.cells cells'
         → PlacesStay spot (bases_of m) (reg m 4 + free) source target m.cells cells'

@@ -10,7 +10,7 @@ use Rattle.register_expressions.specs.paired_code.Machine.{Image, reg}
 use Rattle.register_expressions.specs.refine_form.declared.spot.Spot.{Spot}
 use Rattle.register_expressions.specs.Code.{words, around}
 use Rattle.expr_uncompute.specs.Code.{place_words, place_cells, apart_cells, found_value_cells}
-use Rattle.register_expressions.specs.Number.{number, read_of, index_of, place_address, shares, update_shares}
+use Rattle.register_expressions.specs.Number.{number, lvalue_read, index_of, place_address, shares, update_shares}
 use Rattle.expr_uncompute.specs.Steps.{place_steps, apart_steps}
 use Rattle.register_expressions.specs.Laws.{bases_of, Ready}
 use Rattle.expr_uncompute.specs.Promises.{SeesIn, CanRun, IsTrap}
@@ -31,7 +31,7 @@ module _ (spot : List ℕ → Spot) (free : ℕ) (m : Memory) where
   shown_as n h v a a' cells = sym (ap (found v a a' cells) (as_mem free n m h))
 
   -- the address of a place
-  pub place_found : (target : Lvalue) (a : ℕ) → Ready free (place_words target) m → SeesIn spot free m (read_of target)
+  pub place_found : (target : Lvalue) (a : ℕ) → Ready free (place_words target) m → SeesIn spot free m (lvalue_read target)
       → place_address spot (bases_of m) m.cells target ≡ Ok a
       → Goes (place_cells spot free target 0 PLACE) (place_steps target) m
       (found 0 a 0 (placed spot free (bases_of m) target 0 m.cells) m)
@@ -49,7 +49,7 @@ module _ (spot : List ℕ → Spot) (free : ℕ) (m : Memory) where
 
   -- or its fault, whatever is to be done with it
   pub place_fails : (target : Lvalue) (c : ℕ) (check mid : List Symbol) → Ready free (place_words target) m
-      → SeesIn spot free m (read_of target) → place_address spot (bases_of m) m.cells target ≡ Err c
+      → SeesIn spot free m (lvalue_read target) → place_address spot (bases_of m) m.cells target ≡ Err c
       → (im : Image) (d : Bool) → IsTrap im (around (place_cells spot free target 0 PLACE ++ check) mid) d m c
       (place_steps target)
   place_fails target c check mid h s n im d =
@@ -66,7 +66,7 @@ module _ (spot : List ℕ → Spot) (free : ℕ) (m : Memory) where
 
   -- a place and a value, and the check of arrays
   pub value_held : (target : Lvalue) (e : Expression) (a v : ℕ)
-      → CanRun spot free (place_words target + words e) (read_of target) e m
+      → CanRun spot free (place_words target + words e) (lvalue_read target) e m
       → place_address spot (bases_of m) m.cells target ≡ Ok a → number spot (bases_of m) m.cells e ≡ Ok v
       → update_shares spot (bases_of m) m.cells target e ≡ false
       → Goes (found_value_cells spot free target e) (found_value_steps target e) m
@@ -79,7 +79,7 @@ module _ (spot : List ℕ → Spot) (free : ℕ) (m : Memory) where
 
   -- two places
   pub places_found : (target other : Lvalue) (a a' : ℕ) → CanRun spot free (place_words target + place_words other)
-      (read_of target) (read_of other) m → place_address spot (bases_of m) m.cells target ≡ Ok a
+      (lvalue_read target) (lvalue_read other) m → place_address spot (bases_of m) m.cells target ≡ Ok a
       → place_address spot (bases_of m) m.cells other ≡ Ok a'
       → Goes (place_cells spot free target 0 PLACE ++ place_cells spot free other (place_words target) OTHER_PLACE)
       (place_steps target + place_steps other) m (found 0 a a'
@@ -94,7 +94,7 @@ module _ (spot : List ℕ → Spot) (free : ℕ) (m : Memory) where
 
   -- a place whose array is none of those of which two expressions read elements
   pub place_held : (target : Lvalue) (e e' : Expression) (a : ℕ) → Ready free (place_words target) m
-      → SeesIn spot free m (read_of target) → SeesIn spot free m e → SeesIn spot free m e'
+      → SeesIn spot free m (lvalue_read target) → SeesIn spot free m e → SeesIn spot free m e'
       → place_address spot (bases_of m) m.cells target ≡ Ok a → shares spot (bases_of m) m.cells target e e' ≡ false
       → Goes (place_cells spot free target 0 PLACE ++ apart_cells spot target e e')
       (place_steps target + apart_steps target e e') m (found 0 a 0 (placed spot free (bases_of m) target 0 m.cells)
@@ -109,14 +109,14 @@ module _ (spot : List ℕ → Spot) (free : ℕ) (m : Memory) where
       (goes_to refl (shown_as (place_words target) h 0 a 0 ys) (shown_as (place_words target) h 0 a 0 ys)
       (apart_goes spot (bases_of m) (reg m 4 + free) (reg m) 0 a 0 ys
       (omega arith) (omega arith) target e e'
-      (sees_same spot (bases_of m) (reg m 4 + free) m.cells ys below (read_of target) s)
+      (sees_same spot (bases_of m) (reg m 4 + free) m.cells ys below (lvalue_read target) s)
       (sees_same spot (bases_of m) (reg m 4 + free) m.cells ys below e t)
       (sees_same spot (bases_of m) (reg m 4 + free) m.cells ys below e' t')
       (shares_same spot (bases_of m) (reg m 4 + free) m.cells ys below target e e' s t t' ∙ apart)))
 
   -- or it is one of them, whatever is to be done with the place
   pub place_shares : (target : Lvalue) (e e' : Expression) (a : ℕ) (mid : List Symbol)
-      → Ready free (place_words target) m → SeesIn spot free m (read_of target) → SeesIn spot free m e
+      → Ready free (place_words target) m → SeesIn spot free m (lvalue_read target) → SeesIn spot free m e
       → SeesIn spot free m e' → place_address spot (bases_of m) m.cells target ≡ Ok a
       → shares spot (bases_of m) m.cells target e e' ≡ true
       → (im : Image) (d : Bool) → IsTrap im (around (place_cells spot free target 0 PLACE
@@ -131,7 +131,7 @@ module _ (spot : List ℕ → Spot) (free : ℕ) (m : Memory) where
       (mem (bases_of m) (reg m) (keeping 0 a 0) ys) =
       apart_traps spot (bases_of m) (reg m 4 + free) (reg m) 0 a 0 ys
       (omega arith) (omega arith) target e e'
-      (sees_same spot (bases_of m) (reg m 4 + free) m.cells ys below (read_of target) s)
+      (sees_same spot (bases_of m) (reg m 4 + free) m.cells ys below (lvalue_read target) s)
       (sees_same spot (bases_of m) (reg m 4 + free) m.cells ys below e t)
       (sees_same spot (bases_of m) (reg m 4 + free) m.cells ys below e' t')
       (shares_same spot (bases_of m) (reg m 4 + free) m.cells ys below target e e' s t t' ∙ shared) in
@@ -141,7 +141,7 @@ module _ (spot : List ℕ → Spot) (free : ℕ) (m : Memory) where
 
   -- two places, of which the second changes
   pub places_held : (target other : Lvalue) (a a' : ℕ) → CanRun spot free (place_words target + place_words other)
-      (read_of target) (read_of other) m → place_address spot (bases_of m) m.cells target ≡ Ok a
+      (lvalue_read target) (lvalue_read other) m → place_address spot (bases_of m) m.cells target ≡ Ok a
       → place_address spot (bases_of m) m.cells other ≡ Ok a'
       → shares spot (bases_of m) m.cells other (index_of target) (index_of other) ≡ false
       → Goes ((place_cells spot free target 0 PLACE ++ place_cells spot free other (place_words target) OTHER_PLACE)
@@ -162,13 +162,13 @@ module _ (spot : List ℕ → Spot) (free : ℕ) (m : Memory) where
       (shown_as (place_words target + place_words other) h.ready 0 a a' ys)
       (apart_goes spot (bases_of m) (reg m 4 + free) (reg m) 0 a a' ys (omega arith) (omega arith) other
       (index_of target) (index_of other) (sees_same spot (bases_of m) (reg m 4 + free) m.cells ys k.below
-      (read_of other) h.second) (sees_same spot (bases_of m) (reg m 4 + free) m.cells ys k.below
+      (lvalue_read other) h.second) (sees_same spot (bases_of m) (reg m 4 + free) m.cells ys k.below
       (index_of target) i) (sees_same spot (bases_of m) (reg m 4 + free) m.cells ys k.below (index_of other) j)
       (shares_same spot (bases_of m) (reg m 4 + free) m.cells ys k.below other (index_of target) (index_of other)
       h.second i j ∙ apart)))
 
   pub places_share : (target other : Lvalue) (a a' : ℕ) (mid : List Symbol)
-      → CanRun spot free (place_words target + place_words other) (read_of target) (read_of other) m
+      → CanRun spot free (place_words target + place_words other) (lvalue_read target) (lvalue_read other) m
       → place_address spot (bases_of m) m.cells target ≡ Ok a → place_address spot (bases_of m) m.cells other ≡ Ok a'
       → shares spot (bases_of m) m.cells other (index_of target) (index_of other) ≡ true
       → (im : Image) (d : Bool) → IsTrap im (around ((place_cells spot free target 0 PLACE
@@ -188,7 +188,7 @@ module _ (spot : List ℕ → Spot) (free : ℕ) (m : Memory) where
       (apart_steps other (index_of target) (index_of other)) 16 (mem (bases_of m) (reg m) (keeping 0 a a') ys) =
       apart_traps spot (bases_of m) (reg m 4 + free) (reg m) 0 a a' ys (omega arith) (omega arith) other
       (index_of target) (index_of other) (sees_same spot (bases_of m) (reg m 4 + free) m.cells ys k.below
-      (read_of other) h.second) (sees_same spot (bases_of m) (reg m 4 + free) m.cells ys k.below (index_of target)
+      (lvalue_read other) h.second) (sees_same spot (bases_of m) (reg m 4 + free) m.cells ys k.below (index_of target)
       i) (sees_same spot (bases_of m) (reg m 4 + free) m.cells ys k.below (index_of other) j)
       (shares_same spot (bases_of m) (reg m 4 + free) m.cells ys k.below other (index_of target) (index_of other)
       h.second i j ∙ shared) in

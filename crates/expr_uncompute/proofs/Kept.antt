@@ -5,7 +5,7 @@ use Rattle.rpp_tree.specs.Tree.{Expression, Number, Null, Variable, Element, Bin
 use Rattle.register_expressions.specs.refine_form.declared.spot.Spot.{Spot}
 use Rattle.register_expressions.specs.Code.{words}
 use Rattle.expr_uncompute.specs.Code.{place_words}
-use Rattle.register_expressions.specs.Number.{Bases, given, number, read_of, Sees, Same, SamePlace}
+use Rattle.register_expressions.specs.Number.{Bases, given, number, lvalue_read, Sees, Same, SamePlace}
 use Rattle.expr_uncompute.specs.Found.{Filled, Changes}
 use Rattle.register_expressions.proofs.Numbers.{Agree, AllWords, sees_same}
 use Rattle.expr_uncompute.proofs.Stored.{home, stored, parted, stored_length, stored_other, stored_below, same_lifted}
@@ -88,7 +88,7 @@ module _ (spot : List ℕ → Spot) (free : ℕ) (b : Bases) where
 
   -- of a place from word i on
   pub placed_from : (target : Lvalue) (i : ℕ) (zs zs' : List ℕ) → length zs' ≡ length zs
-      → Sees spot b low zs (read_of target) → Sees spot b low zs' (read_of target) → SamePlace spot b zs zs' target
+      → Sees spot b low zs (lvalue_read target) → Sees spot b low zs' (lvalue_read target) → SamePlace spot b zs zs' target
       → From zs zs' → From (placed spot free b target i zs) (placed spot free b target i zs')
   placed_from (Whole name) i zs zs' l s s' h k = k
   placed_from (Item name index) i zs zs' l s s' h k = stored_from index i zs zs' l s.2 s'.2 h.1 k
@@ -100,7 +100,7 @@ module _ (spot : List ℕ → Spot) (free : ℕ) (b : Bases) where
 
   -- a place stays where it is, over the words that another one fills
   pub place_lifted : (target : Lvalue) (zs zs' ys ys' : List ℕ) → Agree low zs ys → Agree low zs' ys'
-      → Sees spot b low zs (read_of target) → Sees spot b low zs' (read_of target) → SamePlace spot b zs zs' target
+      → Sees spot b low zs (lvalue_read target) → Sees spot b low zs' (lvalue_read target) → SamePlace spot b zs zs' target
       → SamePlace spot b ys ys' target
   place_lifted (Whole name) zs zs' ys ys' k k' s s' h = tt
   place_lifted (Item name index) zs zs' ys ys' k k' s s' h = (
@@ -111,7 +111,7 @@ module _ (spot : List ℕ → Spot) (free : ℕ) (b : Bases) where
 
   -- ---- a place
 
-  pub place_fills : (target : Lvalue) (zs : List ℕ) → AllWords zs → Sees spot b low zs (read_of target)
+  pub place_fills : (target : Lvalue) (zs : List ℕ) → AllWords zs → Sees spot b low zs (lvalue_read target)
       → Filled low (place_words target) zs (placed spot free b target 0 zs)
   place_fills target zs w s = record {
     count = placed_length spot free b target zs;
@@ -120,8 +120,8 @@ module _ (spot : List ℕ → Spot) (free : ℕ) (b : Bases) where
     above = λ a h. placed_past target 0 zs a (omega arith);
   }
 
-  pub place_changes : (target : Lvalue) (zs zs' : List ℕ) → Sees spot b low zs (read_of target)
-      → Sees spot b low zs' (read_of target) → SamePlace spot b zs zs' target → Changes low zs zs'
+  pub place_changes : (target : Lvalue) (zs zs' : List ℕ) → Sees spot b low zs (lvalue_read target)
+      → Sees spot b low zs' (lvalue_read target) → SamePlace spot b zs zs' target → Changes low zs zs'
       → Changes low (placed spot free b target 0 zs) (placed spot free b target 0 zs')
   place_changes target zs zs' s s' h c = record {
     count = placed_length spot free b target zs' ∙ c.count ∙ sym (placed_length spot free b target zs);
@@ -167,7 +167,7 @@ module _ (spot : List ℕ → Spot) (free : ℕ) (b : Bases) where
   -- ---- two places
 
   pub places_fill : (source target : Lvalue) (zs : List ℕ) → FitFrom spot free b source (place_words target) zs
-      → Sees spot b low zs (read_of target) → Filled low (place_words source + place_words target) zs
+      → Sees spot b low zs (lvalue_read target) → Filled low (place_words source + place_words target) zs
       (both_placed spot free b source target zs)
   places_fill source target zs h s =
       let zs1 : List ℕ = placed spot free b source 0 zs in
@@ -182,7 +182,7 @@ module _ (spot : List ℕ → Spot) (free : ℕ) (b : Bases) where
 
   pub places_change : (source target : Lvalue) (zs zs' : List ℕ) → FitFrom spot free b source (place_words target) zs
       → FitFrom spot free b source (place_words target) zs' → SamePlace spot b zs zs' source
-      → Sees spot b low zs (read_of target) → Sees spot b low zs' (read_of target) → SamePlace spot b zs zs' target
+      → Sees spot b low zs (lvalue_read target) → Sees spot b low zs' (lvalue_read target) → SamePlace spot b zs zs' target
       → Changes low zs zs' → Changes low (both_placed spot free b source target zs)
       (both_placed spot free b source target zs')
   places_change source target zs zs' h h' p t t' q c =
@@ -197,7 +197,7 @@ module _ (spot : List ℕ → Spot) (free : ℕ) (b : Bases) where
         count = f'.count ∙ c.count ∙ sym f.count;
         words = f'.words;
         above = placed_from target (place_words source) zs1 zs1' one.count
-            (sees_same spot b low zs zs1 below (read_of target) t)
-            (sees_same spot b low zs' zs1' below' (read_of target) t')
+            (sees_same spot b low zs zs1 below (lvalue_read target) t)
+            (sees_same spot b low zs' zs1' below' (lvalue_read target) t')
             (place_lifted target zs zs' zs1 zs1' below below' t t' q) one.above;
       }

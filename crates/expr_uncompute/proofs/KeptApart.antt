@@ -9,7 +9,7 @@ use Rattle.register_expressions.specs.code_conventions.declared.faults.TheConsta
 use Rattle.register_expressions.specs.code_conventions.declared.registers.TheConstants.{CONTENT, LEFT}
 use Rattle.register_expressions.specs.paired_code.Layout.{Differ}
 use Rattle.register_expressions.specs.refine_form.declared.spot.Spot.{Spot}
-use Rattle.register_expressions.specs.Number.{Bases, address_of, word_of, read_of, index_of, reads_array, shares}
+use Rattle.register_expressions.specs.Number.{Bases, address_of, word_of, lvalue_read, index_of, reads_array, shares}
 use Rattle.register_expressions.specs.Number.{swap_shares, Sees}
 use Rattle.register_expressions.specs.Code.{reach_cells, copy_cells}
 use Rattle.expr_uncompute.specs.Code.{compare_cells, compare_all, apart_cells, both_apart_cells}
@@ -39,7 +39,7 @@ module _ (spot : List ℕ → Spot) (b : Bases) (low : ℕ) where
       ∙ ap (λ t. reads_array spot b zs y left || t) (reads_same zs zs' ag y right s.1)
 
   pub shares_same : (zs zs' : List ℕ) → Agree low zs zs' → (target : Lvalue) (e e' : Expression)
-      → Sees spot b low zs (read_of target) → Sees spot b low zs e → Sees spot b low zs e'
+      → Sees spot b low zs (lvalue_read target) → Sees spot b low zs e → Sees spot b low zs e'
       → shares spot b zs' target e e' ≡ shares spot b zs target e e'
   shares_same zs zs' ag (Whole name) e e' s t t' = refl
   shares_same zs zs' ag (Item name index) e e' s t t' =
@@ -50,13 +50,13 @@ module _ (spot : List ℕ → Spot) (b : Bases) (low : ℕ) where
       (reads_same zs zs' ag (word_of spot b zs name.text) e' t')
 
   -- the index of a place is seen with it
-  pub index_seen : (target : Lvalue) (zs : List ℕ) → Sees spot b low zs (read_of target)
+  pub index_seen : (target : Lvalue) (zs : List ℕ) → Sees spot b low zs (lvalue_read target)
       → Sees spot b low zs (index_of target)
   index_seen (Whole name) zs s = tt
   index_seen (Item name index) zs s = s.2
 
   pub swap_shares_same : (zs zs' : List ℕ) → Agree low zs zs' → (left right : Lvalue)
-      → Sees spot b low zs (read_of left) → Sees spot b low zs (read_of right)
+      → Sees spot b low zs (lvalue_read left) → Sees spot b low zs (lvalue_read right)
       → swap_shares spot b zs' left right ≡ swap_shares spot b zs left right
   swap_shares_same zs zs' ag left right s t =
       ap (λ z. z || shares spot b zs' right (index_of left) (index_of right))
@@ -160,7 +160,7 @@ module _ (spot : List ℕ → Spot) (b : Bases) (low : ℕ) where
 
     -- ---- the check of a place
 
-    pub apart_goes : (target : Lvalue) (e e' : Expression) → Sees spot b low zs (read_of target) → Sees spot b low zs e
+    pub apart_goes : (target : Lvalue) (e e' : Expression) → Sees spot b low zs (lvalue_read target) → Sees spot b low zs e
         → Sees spot b low zs e' → shares spot b zs target e e' ≡ false
         → Goes (apart_cells spot target e e') (apart_steps target e e') (mem b f (keeping v p q) zs)
         (mem b f (keeping v p q) zs)
@@ -170,7 +170,7 @@ module _ (spot : List ℕ → Spot) (b : Bases) (low : ℕ) where
         let l = s.0 in
         goes_seq (all_go (spot name.text) (omega arith) e t n.0) (all_go (spot name.text) (omega arith) e' t' n.1)
 
-    pub apart_traps : (target : Lvalue) (e e' : Expression) → Sees spot b low zs (read_of target) → Sees spot b low zs e
+    pub apart_traps : (target : Lvalue) (e e' : Expression) → Sees spot b low zs (lvalue_read target) → Sees spot b low zs e
         → Sees spot b low zs e' → shares spot b zs target e e' ≡ true
         → Traps (apart_cells spot target e e') (apart_steps target e e') 16 (mem b f (keeping v p q) zs)
     apart_traps (Whole name) e e' s t t' h = absurd (cc)
@@ -180,7 +180,7 @@ module _ (spot : List ℕ → Spot) (b : Bases) (low : ℕ) where
         (λ l. all_trap (spot name.text) (omega arith) e t l) (λ r. all_trap (spot name.text) (omega arith) e' t' r)
 
     -- of both places of a swap
-    pub both_apart_go : (left right : Lvalue) → Sees spot b low zs (read_of left) → Sees spot b low zs (read_of right)
+    pub both_apart_go : (left right : Lvalue) → Sees spot b low zs (lvalue_read left) → Sees spot b low zs (lvalue_read right)
         → swap_shares spot b zs left right ≡ false → Goes (both_apart_cells spot left right)
         (both_apart_steps left right) (mem b f (keeping v p q) zs) (mem b f (keeping v p q) zs)
     both_apart_go left right s t h =
@@ -190,7 +190,7 @@ module _ (spot : List ℕ → Spot) (b : Bases) (low : ℕ) where
         goes_seq (apart_goes left (index_of left) (index_of right) s i j n.0)
         (apart_goes right (index_of left) (index_of right) t i j n.1)
 
-    both_by : (left right : Lvalue) → Sees spot b low zs (read_of left) → Sees spot b low zs (read_of right)
+    both_by : (left right : Lvalue) → Sees spot b low zs (lvalue_read left) → Sees spot b low zs (lvalue_read right)
         → (u : Bool) → shares spot b zs left (index_of left) (index_of right) ≡ u
         → (u || shares spot b zs right (index_of left) (index_of right)) ≡ true
         → Traps (both_apart_cells spot left right) (both_apart_steps left right) 16 (mem b f (keeping v p q) zs)
@@ -203,8 +203,8 @@ module _ (spot : List ℕ → Spot) (b : Bases) (low : ℕ) where
         traps_then (apart_goes left (index_of left) (index_of right) s i j e)
         (apart_traps right (index_of left) (index_of right) t i j h)
 
-    pub both_apart_traps : (left right : Lvalue) → Sees spot b low zs (read_of left)
-        → Sees spot b low zs (read_of right) → swap_shares spot b zs left right ≡ true
+    pub both_apart_traps : (left right : Lvalue) → Sees spot b low zs (lvalue_read left)
+        → Sees spot b low zs (lvalue_read right) → swap_shares spot b zs left right ≡ true
         → Traps (both_apart_cells spot left right) (both_apart_steps left right) 16 (mem b f (keeping v p q) zs)
     both_apart_traps left right s t h = both_by left right s t (shares spot b zs left (index_of left) (index_of right))
         refl h

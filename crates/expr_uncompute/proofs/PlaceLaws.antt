@@ -15,7 +15,7 @@ use Rattle.register_expressions.specs.Code.{xor, addi, around, base_of, point_ce
 use Rattle.expr_uncompute.specs.Code.{checked_cells, open_cells, prepare_cells, fetch_cells, place_words, place_cells}
 use Rattle.expr_uncompute.specs.Code.{result_of}
 use Rattle.register_expressions.specs.code_scope.Visible.{offset_of}
-use Rattle.register_expressions.specs.Number.{Bases, address_of, given, word_of, number, place_address, read_of, Sees}
+use Rattle.register_expressions.specs.Number.{Bases, address_of, given, word_of, number, place_address, lvalue_read, Sees}
 use Rattle.expr_uncompute.specs.Steps.{checked_steps, open_steps, prepare_steps, fetch_steps, place_steps}
 use Rattle.register_expressions.proofs.Goes.{Goes, Traps, goes_seq, goes_cons, goes_to, goes_around, goes_set}
 use Rattle.register_expressions.proofs.Goes.{goes_addi, traps_first, traps_then, traps_more}
@@ -37,7 +37,7 @@ module _ (spot : List ℕ → Spot) (free : ℕ) (b : Bases) where
   -- a place can be found from word i on
   pub record FitPlace (target : Lvalue) (i : ℕ) (zs : List ℕ) : Type 0 where
     pub all : AllWords zs
-    pub sees : Sees spot b low zs (read_of target)
+    pub sees : Sees spot b low zs (lvalue_read target)
     pub fits : home spot free b (i + place_words target) ≤ length zs
     pub small : length zs ≤ 2 ^ 31
     pub empty : (a : ℕ) → home spot free b i ≤ a → a < home spot free b (i + place_words target) → slice_index zs a ≡ 0

@@ -15,7 +15,7 @@ use Rattle.register_expressions.specs.refine_form.declared.spot.Spot.{Spot}
 use Rattle.register_expressions.specs.Code.{words}
 use Rattle.expr_uncompute.specs.Code.{place_words}
 use Rattle.register_expressions.specs.roopl_semantics.Elements.{shared_array_fault}
-use Rattle.register_expressions.specs.Number.{Bases, number, read_of, index_of, place_address, update_shares}
+use Rattle.register_expressions.specs.Number.{Bases, number, lvalue_read, index_of, place_address, update_shares}
 use Rattle.register_expressions.specs.Number.{swap_shares, Sees, Same, SamePlace}
 use Rattle.expr_uncompute.specs.Steps.{value_steps, test_steps, place_steps, fetch_steps, apart_steps, both_apart_steps}
 use Rattle.expr_uncompute.specs.Steps.{update_steps, swap_steps}
@@ -81,12 +81,12 @@ module _ (address slot : ℕ → ℕ) (program : Source) (spot : List ℕ → Sp
 
   -- what holds for a state and its memory, and for the state after the write and its memory
   pub record Updating (target : Lvalue) (e : Expression) (m : Memory) (st st' : State) (cells' : List ℕ) : Type 0 where
-    pub can : CanRun spot free (place_words target + words e) (read_of target) e m
+    pub can : CanRun spot free (place_words target + words e) (lvalue_read target) e m
     pub place_means : MeansPlace address slot program st spot (bases_of m) m.cells target
     pub value_means : Means address slot program st spot (bases_of m) m.cells e
     pub place_means_after : MeansPlace address slot program st' spot (bases_of m) cells' target
     pub value_means_after : Means address slot program st' spot (bases_of m) cells' e
-    pub place_sees_after : Sees spot (bases_of m) (free_at free m) cells' (read_of target)
+    pub place_sees_after : Sees spot (bases_of m) (free_at free m) cells' (lvalue_read target)
     pub value_sees_after : Sees spot (bases_of m) (free_at free m) cells' e
     pub same_cells : SameCells program st st' target
     pub same_values : SameValues program st st' e
@@ -129,7 +129,7 @@ module _ (address slot : ℕ → ℕ) (program : Source) (spot : List ℕ → Sp
   -- the faults of an update, in their order
   pub source_update_place : (op : UpdateOp) (target : Lvalue) (e : Expression) (p : List Symbol)
       → UpdateLaw spot free op target e p → (im : Image) (d : Bool) (m : Memory) (st : State) (c : ℕ)
-      → CanRun spot free (place_words target + words e) (read_of target) e m
+      → CanRun spot free (place_words target + words e) (lvalue_read target) e m
       → MeansPlace address slot program st spot (bases_of m) m.cells target → cell_of program st target ≡ Err c
       → IsTrap im p d m c (place_steps target)
   source_update_place op target e p law im d m st c can h n =
@@ -138,7 +138,7 @@ module _ (address slot : ℕ → ℕ) (program : Source) (spot : List ℕ → Sp
 
   pub source_update_value : (op : UpdateOp) (target : Lvalue) (e : Expression) (p : List Symbol)
       → UpdateLaw spot free op target e p → (im : Image) (d : Bool) (m : Memory) (st : State) (cell : Cell) (c : ℕ)
-      → CanRun spot free (place_words target + words e) (read_of target) e m
+      → CanRun spot free (place_words target + words e) (lvalue_read target) e m
       → MeansPlace address slot program st spot (bases_of m) m.cells target
       → Means address slot program st spot (bases_of m) m.cells e → cell_of program st target ≡ Ok cell
       → value program st e ≡ Err c
@@ -150,7 +150,7 @@ module _ (address slot : ℕ → ℕ) (program : Source) (spot : List ℕ → Sp
 
   pub source_update_sharing : (op : UpdateOp) (target : Lvalue) (e : Expression) (p : List Symbol)
       → UpdateLaw spot free op target e p → (im : Image) (d : Bool) (m : Memory) (st : State) (cell : Cell) (v : Value)
-      → CanRun spot free (place_words target + words e) (read_of target) e m
+      → CanRun spot free (place_words target + words e) (lvalue_read target) e m
       → MeansPlace address slot program st spot (bases_of m) m.cells target
       → Means address slot program st spot (bases_of m) m.cells e → cell_of program st target ≡ Ok cell
       → value program st e ≡ Ok v → update_shares spot (bases_of m) m.cells target e ≡ true
@@ -163,13 +163,13 @@ module _ (address slot : ℕ → ℕ) (program : Source) (spot : List ℕ → Sp
   -- ---- swaps
 
   pub record Swapping (left right : Lvalue) (m : Memory) (st st' : State) (cells' : List ℕ) : Type 0 where
-    pub can : CanRun spot free (place_words left + place_words right) (read_of left) (read_of right) m
+    pub can : CanRun spot free (place_words left + place_words right) (lvalue_read left) (lvalue_read right) m
     pub left_means : MeansPlace address slot program st spot (bases_of m) m.cells left
     pub right_means : MeansPlace address slot program st spot (bases_of m) m.cells right
     pub left_means_after : MeansPlace address slot program st' spot (bases_of m) cells' left
     pub right_means_after : MeansPlace address slot program st' spot (bases_of m) cells' right
-    pub left_sees_after : Sees spot (bases_of m) (free_at free m) cells' (read_of left)
-    pub right_sees_after : Sees spot (bases_of m) (free_at free m) cells' (read_of right)
+    pub left_sees_after : Sees spot (bases_of m) (free_at free m) cells' (lvalue_read left)
+    pub right_sees_after : Sees spot (bases_of m) (free_at free m) cells' (lvalue_read right)
     pub left_same : SameCells program st st' left
     pub right_same : SameCells program st st' right
     pub apart : swap_shares spot (bases_of m) m.cells left right ≡ false
@@ -207,7 +207,7 @@ module _ (address slot : ℕ → ℕ) (program : Source) (spot : List ℕ → Sp
 
   pub source_swap_left : (left right : Lvalue) (p : List Symbol) → SwapLaw spot free left right p
       → (im : Image) (d : Bool) (m : Memory) (st : State) (c : ℕ)
-      → CanRun spot free (place_words left + place_words right) (read_of left) (read_of right) m
+      → CanRun spot free (place_words left + place_words right) (lvalue_read left) (lvalue_read right) m
       → MeansPlace address slot program st spot (bases_of m) m.cells left → cell_of program st left ≡ Err c
       → IsTrap im p d m c (place_steps left)
   source_swap_left left right p law im d m st c can h n =
@@ -216,7 +216,7 @@ module _ (address slot : ℕ → ℕ) (program : Source) (spot : List ℕ → Sp
 
   pub source_swap_right : (left right : Lvalue) (p : List Symbol) → SwapLaw spot free left right p
       → (im : Image) (d : Bool) (m : Memory) (st : State) (x : Cell) (c : ℕ)
-      → CanRun spot free (place_words left + place_words right) (read_of left) (read_of right) m
+      → CanRun spot free (place_words left + place_words right) (lvalue_read left) (lvalue_read right) m
       → MeansPlace address slot program st spot (bases_of m) m.cells left
       → MeansPlace address slot program st spot (bases_of m) m.cells right → cell_of program st left ≡ Ok x
       → cell_of program st right ≡ Err c
@@ -228,7 +228,7 @@ module _ (address slot : ℕ → ℕ) (program : Source) (spot : List ℕ → Sp
 
   pub source_swap_sharing : (left right : Lvalue) (p : List Symbol) → SwapLaw spot free left right p
       → (im : Image) (d : Bool) (m : Memory) (st : State) (x y : Cell)
-      → CanRun spot free (place_words left + place_words right) (read_of left) (read_of right) m
+      → CanRun spot free (place_words left + place_words right) (lvalue_read left) (lvalue_read right) m
       → MeansPlace address slot program st spot (bases_of m) m.cells left
       → MeansPlace address slot program st spot (bases_of m) m.cells right → cell_of program st left ≡ Ok x
       → cell_of program st right ≡ Ok y → swap_shares spot (bases_of m) m.cells left right ≡ true

@@ -18,7 +18,7 @@ use Rattle.register_expressions.specs.roopl_semantics.Operators.{updated}
 use Rattle.register_expressions.specs.refine_form.declared.spot.Spot.{Spot}
 use Rattle.register_expressions.specs.Code.{words}
 use Rattle.expr_uncompute.specs.Code.{place_words, update_cells, swap_cells}
-use Rattle.register_expressions.specs.Number.{Bases, number, read_of, index_of, place_address, update_shares}
+use Rattle.register_expressions.specs.Number.{Bases, number, lvalue_read, index_of, place_address, update_shares}
 use Rattle.register_expressions.specs.Number.{swap_shares, Sees, SamePlace}
 use Rattle.expr_uncompute.specs.Steps.{place_steps, fetch_steps, apart_steps, both_apart_steps, update_steps}
 use Rattle.expr_uncompute.specs.Steps.{swap_steps}
@@ -82,7 +82,7 @@ module _ (spot : List ℕ → Spot) (free : ℕ) (m : Memory) where
   low = reg m 4 + free
 
   pub fit_from : (target : Lvalue) (n : ℕ) → Ready free (place_words target + n) m
-      → Sees spot (bases_of m) (reg m 4 + free) m.cells (read_of target)
+      → Sees spot (bases_of m) (reg m 4 + free) m.cells (lvalue_read target)
       → FitFrom spot free (bases_of m) target n m.cells
   fit_from target n h s = record {
     all = h.words;
@@ -119,7 +119,7 @@ module _ (spot : List ℕ → Spot) (free : ℕ) (m : Memory) where
 
   -- one word written below
   fit_set : (target : Lvalue) (n a y : ℕ) → FitFrom spot free (bases_of m) target n m.cells → a < reg m 4 + free
-      → y < 2 ^ 32 → Sees spot (bases_of m) (reg m 4 + free) (slice_set m.cells a y) (read_of target)
+      → y < 2 ^ 32 → Sees spot (bases_of m) (reg m 4 + free) (slice_set m.cells a y) (lvalue_read target)
       → FitFrom spot free (bases_of m) target n (slice_set m.cells a y)
   fit_set target n a y h l w s = record {
     all = words_set m.cells a y h.all w;
@@ -131,7 +131,7 @@ module _ (spot : List ℕ → Spot) (free : ℕ) (m : Memory) where
 
   fit_two : (target : Lvalue) (n a y a' y' : ℕ) → FitFrom spot free (bases_of m) target n m.cells → a < reg m 4 + free
       → y < 2 ^ 32 → a' < reg m 4 + free → y' < 2 ^ 32 → Sees spot (bases_of m) (reg m 4 + free)
-      (slice_set (slice_set m.cells a y) a' y') (read_of target)
+      (slice_set (slice_set m.cells a y) a' y') (lvalue_read target)
       → FitFrom spot free (bases_of m) target n (slice_set (slice_set m.cells a y) a' y')
   fit_two target n a y a' y' h l w l' w' s = record {
     all = words_set (slice_set m.cells a y) a' y' (words_set m.cells a y h.all w) w';
@@ -144,7 +144,7 @@ module _ (spot : List ℕ → Spot) (free : ℕ) (m : Memory) where
 
   module _ (op : UpdateOp) (target : Lvalue) (value : Expression)
       (ready : Ready free (place_words target + words value) m)
-      (place_sees : Sees spot (bases_of m) (reg m 4 + free) m.cells (read_of target))
+      (place_sees : Sees spot (bases_of m) (reg m 4 + free) m.cells (lvalue_read target))
       (value_sees : Sees spot (bases_of m) (reg m 4 + free) m.cells value) (im : Image) where
     -- forward the update is made, backward that by the inverse operator
     pub update_law : (d : Bool) (a v : ℕ) → place_address spot (bases_of m) m.cells target ≡ Ok a
@@ -219,8 +219,8 @@ module _ (spot : List ℕ → Spot) (free : ℕ) (m : Memory) where
         (fit_from target (words value) ready place_sees) value_sees na nv shared)
 
   module _ (left right : Lvalue) (ready : Ready free (place_words left + place_words right) m)
-      (left_sees : Sees spot (bases_of m) (reg m 4 + free) m.cells (read_of left))
-      (right_sees : Sees spot (bases_of m) (reg m 4 + free) m.cells (read_of right)) (im : Image) where
+      (left_sees : Sees spot (bases_of m) (reg m 4 + free) m.cells (lvalue_read left))
+      (right_sees : Sees spot (bases_of m) (reg m 4 + free) m.cells (lvalue_read right)) (im : Image) where
     -- either way the words are swapped; one cell stays
     pub swap_law : (d : Bool) (p q : ℕ) → place_address spot (bases_of m) m.cells left ≡ Ok p
         → place_address spot (bases_of m) m.cells right ≡ Ok q

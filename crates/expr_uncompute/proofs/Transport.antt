@@ -14,7 +14,7 @@ use Rattle.register_expressions.specs.roopl_semantics.Execution.{Setting}
 use Rattle.register_expressions.specs.refine_form.declared.spot.Spot.{Spot}
 use Rattle.register_expressions.specs.Code.{words}
 use Rattle.expr_uncompute.specs.Code.{place_words}
-use Rattle.register_expressions.specs.Number.{Bases, read_of, index_of}
+use Rattle.register_expressions.specs.Number.{Bases, lvalue_read, index_of}
 use Rattle.register_expressions.specs.Laws.{bases_of}
 use Rattle.expr_uncompute.specs.Laws.{swapped_at}
 use Rattle.expr_uncompute.specs.Promises.{CanRun}
@@ -104,7 +104,7 @@ module _ (setting : Setting) (address slot : State → ℕ → ℕ) (R : State �
   pub record UpdateNeeds (target : Lvalue) (e : Expression) : Type 0 where
     pub tells : (st : State) (m : Memory) → R st m → TellsShares (address st) (slot st) setting.program st spot
         (bases_of m) m.cells target (index_of target) e
-    pub can : (st : State) (m : Memory) → R st m → CanRun spot free (place_words target + words e) (read_of target) e m
+    pub can : (st : State) (m : Memory) → R st m → CanRun spot free (place_words target + words e) (lvalue_read target) e m
     pub place_means : (st : State) (m : Memory) → R st m → MeansPlace (address st) (slot st) setting.program st spot
         (bases_of m) m.cells target
     pub value_means : (st : State) (m : Memory) → R st m → Means (address st) (slot st) setting.program st spot
@@ -183,7 +183,7 @@ module _ (setting : Setting) (address slot : State → ℕ → ℕ) (R : State �
     pub right_tells : (st : State) (m : Memory) → R st m → TellsShares (address st) (slot st) setting.program st spot
         (bases_of m) m.cells right (index_of left) (index_of right)
     pub can : (st : State) (m : Memory) → R st m → CanRun spot free (place_words left + place_words right)
-        (read_of left) (read_of right) m
+        (lvalue_read left) (lvalue_read right) m
     pub left_means : (st : State) (m : Memory) → R st m → MeansPlace (address st) (slot st) setting.program st spot
         (bases_of m) m.cells left
     pub right_means : (st : State) (m : Memory) → R st m → MeansPlace (address st) (slot st) setting.program st spot

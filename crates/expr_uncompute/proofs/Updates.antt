@@ -22,7 +22,7 @@ use Rattle.register_expressions.specs.Code.{base_of, addi}
 use Rattle.expr_uncompute.specs.Code.{near_swap_cells}
 use Rattle.register_expressions.specs.code_scope.Visible.{offset_of}
 use Rattle.register_expressions.specs.Held.{need, has_element, is_opened_once, is_near, is_near_index}
-use Rattle.register_expressions.specs.Number.{Bases, address_of, number, word_of, element_at, read_of, index_of}
+use Rattle.register_expressions.specs.Number.{Bases, address_of, number, word_of, element_at, lvalue_read, index_of}
 use Rattle.register_expressions.specs.Number.{place_address, reads_array, update_shares, swap_shares, Sees, Same}
 use Rattle.register_expressions.specs.Number.{SamePlace}
 use Rattle.expr_uncompute.specs.Laws.{swapped_at}
@@ -110,7 +110,7 @@ module _ (spot : List ℕ → Spot) (free : ℕ) (b : Bases) where
   abbrev low : ℕ
   low = b.frame + free
 
-  pub place_low : (target : Lvalue) (a : ℕ) (zs : List ℕ) → Sees spot b low zs (read_of target)
+  pub place_low : (target : Lvalue) (a : ℕ) (zs : List ℕ) → Sees spot b low zs (lvalue_read target)
       → place_address spot b zs target ≡ Ok a → a < low
   place_low (Whole name) a zs s n = let e = ok_is n in omega arith
   place_low (Item name index) a zs s n =
@@ -166,7 +166,7 @@ module _ (spot : List ℕ → Spot) (free : ℕ) (b : Bases) where
         let small = h.small in
         let i = index_seen spot b low target zs h.sees in
         apart_goes spot b low f v a 0 ys (let c = k.count in omega arith) (let c = k.count in omega arith) target
-        (index_of target) e (sees_same spot b low zs ys k.below (read_of target) h.sees)
+        (index_of target) e (sees_same spot b low zs ys k.below (lvalue_read target) h.sees)
         (sees_same spot b low zs ys k.below (index_of target) i) (sees_same spot b low zs ys k.below e s)
         (shares_same spot b low zs ys k.below target (index_of target) e h.sees i s ∙ apart)
 
@@ -182,7 +182,7 @@ module _ (spot : List ℕ → Spot) (free : ℕ) (b : Bases) where
         let small = h.small in
         let i = index_seen spot b low target zs h.sees in
         apart_traps spot b low f v a 0 ys (let c = k.count in omega arith) (let c = k.count in omega arith) target
-        (index_of target) e (sees_same spot b low zs ys k.below (read_of target) h.sees)
+        (index_of target) e (sees_same spot b low zs ys k.below (lvalue_read target) h.sees)
         (sees_same spot b low zs ys k.below (index_of target) i) (sees_same spot b low zs ys k.below e s)
         (shares_same spot b low zs ys k.below target (index_of target) e h.sees i s ∙ shared)
 
@@ -290,7 +290,7 @@ module _ (spot : List ℕ → Spot) (free : ℕ) (b : Bases) where
         let over : filled spot free b target e zs' ≡ slice_set ys a y =
         ap (filled spot free b target e) q
         ∙ filled_written spot free b (λ z. slice_set z a y) (write_one spot free b a y al) target e zs h.sees
-        (subst (λ z. Sees spot b low z (read_of target)) q h'.sees) (subst (λ z. SamePlace spot b zs z target) q sp)
+        (subst (λ z. Sees spot b low z (lvalue_read target)) q h'.sees) (subst (λ z. SamePlace spot b zs z target) q sp)
         s (subst (λ z. Sees spot b low z e) q s') (subst (λ z. Same spot b zs z e) q sv) in
         goes_around (held_goes f target e zs a v h s na nv apart) mid
         (goes_to refl refl (ap (mem b f (keeping v a 0)) over) (held_goes f target e zs' a v h' s' na' nv' apart'))
@@ -417,7 +417,7 @@ module _ (spot : List ℕ → Spot) (free : ℕ) (b : Bases) where
 
   -- ---- swaps
 
-  pub address_same : (target : Lvalue) (zs zs' : List ℕ) → Agree low zs zs' → Sees spot b low zs (read_of target)
+  pub address_same : (target : Lvalue) (zs zs' : List ℕ) → Agree low zs zs' → Sees spot b low zs (lvalue_read target)
       → place_address spot b zs' target ≡ place_address spot b zs target
   address_same (Whole name) zs zs' ag s = refl
   address_same (Item name index) zs zs' ag s =
@@ -427,7 +427,7 @@ module _ (spot : List ℕ → Spot) (free : ℕ) (b : Bases) where
 
   module _ (f : ℕ → ℕ) (target other : Lvalue) where
     pub both_found : (zs : List ℕ) (p q : ℕ) → FitFrom spot free b target (place_words other) zs
-        → Sees spot b low zs (read_of other) → place_address spot b zs target ≡ Ok p
+        → Sees spot b low zs (lvalue_read other) → place_address spot b zs target ≡ Ok p
         → place_address spot b zs other ≡ Ok q
         → Goes (place_cells spot free target 0 PLACE ++ place_cells spot free other (place_words target) OTHER_PLACE)
         (place_steps target + place_steps other) (mem b f (keeping 0 0 0) zs)
@@ -449,7 +449,7 @@ module _ (spot : List ℕ → Spot) (free : ℕ) (b : Bases) where
     other_below (Whole name) ws a l = refl
     other_below (Item name index) ws a l = stored_below spot free b index (place_words target) ws a l
 
-    other_words : (other : Lvalue) (ws : List ℕ) → AllWords ws → Sees spot b low ws (read_of other)
+    other_words : (other : Lvalue) (ws : List ℕ) → AllWords ws → Sees spot b low ws (lvalue_read other)
         → AllWords (placed spot free b other (place_words target) ws)
     other_words (Whole name) ws w s = w
     other_words (Item name index) ws w s = stored_words spot free b index (place_words target) ws w s.2
@@ -460,19 +460,19 @@ module _ (spot : List ℕ → Spot) (free : ℕ) (b : Bases) where
       pub below : Agree low zs ys
 
     pub placed_is : (zs : List ℕ) → FitFrom spot free b target (place_words other) zs
-        → Sees spot b low zs (read_of other) → Placed zs (both_placed spot free b target other zs)
+        → Sees spot b low zs (lvalue_read other) → Placed zs (both_placed spot free b target other zs)
     placed_is zs h s =
         let zs1 : List ℕ = placed spot free b target 0 zs in
         let below1 : Agree low zs zs1 = placed_below spot free b target zs in
         record {
           all = other_words other zs1 (placed_words spot free b target zs h.all h.sees)
-              (sees_same spot b low zs zs1 below1 (read_of other) s);
+              (sees_same spot b low zs zs1 below1 (lvalue_read other) s);
           count = other_length other zs1 ∙ placed_length spot free b target zs;
           below = λ a l. other_below other zs1 a l ∙ below1 a l;
         }
 
     both_apart_on : (zs : List ℕ) (p q : ℕ) → FitFrom spot free b target (place_words other) zs
-        → Sees spot b low zs (read_of other) → swap_shares spot b zs target other ≡ false
+        → Sees spot b low zs (lvalue_read other) → swap_shares spot b zs target other ≡ false
         → Goes (both_apart_cells spot target other) (both_apart_steps target other)
         (mem b f (keeping 0 p q) (both_placed spot free b target other zs))
         (mem b f (keeping 0 p q) (both_placed spot free b target other zs))
@@ -482,12 +482,12 @@ module _ (spot : List ℕ → Spot) (free : ℕ) (b : Bases) where
         let fits = h.fits in
         let small = h.small in
         both_apart_go spot b low f 0 p q ys (let c = k.count in omega arith) (let c = k.count in omega arith)
-        target other (sees_same spot b low zs ys k.below (read_of target) h.sees)
-        (sees_same spot b low zs ys k.below (read_of other) s)
+        target other (sees_same spot b low zs ys k.below (lvalue_read target) h.sees)
+        (sees_same spot b low zs ys k.below (lvalue_read other) s)
         (swap_shares_same spot b low zs ys k.below target other h.sees s ∙ apart)
 
     both_sharing_traps : (zs : List ℕ) (p q : ℕ) → FitFrom spot free b target (place_words other) zs
-        → Sees spot b low zs (read_of other) → swap_shares spot b zs target other ≡ true
+        → Sees spot b low zs (lvalue_read other) → swap_shares spot b zs target other ≡ true
         → Traps (both_apart_cells spot target other) (both_apart_steps target other) 16
         (mem b f (keeping 0 p q) (both_placed spot free b target other zs))
     both_sharing_traps zs p q h s shared =
@@ -496,12 +496,12 @@ module _ (spot : List ℕ → Spot) (free : ℕ) (b : Bases) where
         let fits = h.fits in
         let small = h.small in
         both_apart_traps spot b low f 0 p q ys (let c = k.count in omega arith) (let c = k.count in omega arith)
-        target other (sees_same spot b low zs ys k.below (read_of target) h.sees)
-        (sees_same spot b low zs ys k.below (read_of other) s)
+        target other (sees_same spot b low zs ys k.below (lvalue_read target) h.sees)
+        (sees_same spot b low zs ys k.below (lvalue_read other) s)
         (swap_shares_same spot b low zs ys k.below target other h.sees s ∙ shared)
 
     both_held : (zs : List ℕ) (p q : ℕ) → FitFrom spot free b target (place_words other) zs
-        → Sees spot b low zs (read_of other) → place_address spot b zs target ≡ Ok p
+        → Sees spot b low zs (lvalue_read other) → place_address spot b zs target ≡ Ok p
         → place_address spot b zs other ≡ Ok q → swap_shares spot b zs target other ≡ false
         → Goes ((place_cells spot free target 0 PLACE ++ place_cells spot free other (place_words target) OTHER_PLACE)
         ++ both_apart_cells spot target other) (place_steps target + place_steps other + both_apart_steps target
@@ -510,8 +510,8 @@ module _ (spot : List ℕ → Spot) (free : ℕ) (b : Bases) where
 
     abbrev pub Swaps : List Symbol → (steps : ℕ) → Type 0
     Swaps code steps = (zs zs' : List ℕ) (p q : ℕ) → FitFrom spot free b target (place_words other) zs
-        → FitFrom spot free b target (place_words other) zs' → Sees spot b low zs (read_of other)
-        → Sees spot b low zs' (read_of other) → place_address spot b zs target ≡ Ok p
+        → FitFrom spot free b target (place_words other) zs' → Sees spot b low zs (lvalue_read other)
+        → Sees spot b low zs' (lvalue_read other) → place_address spot b zs target ≡ Ok p
         → place_address spot b zs' target ≡ Ok p → place_address spot b zs other ≡ Ok q
         → place_address spot b zs' other ≡ Ok q → SamePlace spot b zs zs' target → SamePlace spot b zs zs' other
         → swap_shares spot b zs target other ≡ false → swap_shares spot b zs' target other ≡ false
@@ -537,8 +537,8 @@ module _ (spot : List ℕ → Spot) (free : ℕ) (b : Bases) where
         ap (both_placed spot free b target other) e
         ∙ both_written spot free b (λ z. slice_set (slice_set z p (slice_index zs q)) q (slice_index zs p))
         (write_two spot free b p (slice_index zs q) q (slice_index zs p) pl ql) target other zs h.sees
-        (subst (λ z. Sees spot b low z (read_of target)) e h'.sees) (subst (λ z. SamePlace spot b zs z target) e st)
-        s (subst (λ z. Sees spot b low z (read_of other)) e s') (subst (λ z. SamePlace spot b zs z other) e so) in
+        (subst (λ z. Sees spot b low z (lvalue_read target)) e h'.sees) (subst (λ z. SamePlace spot b zs z target) e st)
+        s (subst (λ z. Sees spot b low z (lvalue_read other)) e s') (subst (λ z. SamePlace spot b zs z other) e so) in
         goes_around (both_held zs p q h s np nq apart) mid'
         (goes_to refl refl (ap (mem b f (keeping 0 p q)) over) (both_held zs' p q h' s' np' nq' apart'))
 
@@ -553,7 +553,7 @@ module _ (spot : List ℕ → Spot) (free : ℕ) (b : Bases) where
         (place_fits spot free b target (place_words other) zs h) n)))
 
     pub both_traps_second : (check mid : List Symbol) (zs : List ℕ) (p c : ℕ)
-        → FitFrom spot free b target (place_words other) zs → Sees spot b low zs (read_of other)
+        → FitFrom spot free b target (place_words other) zs → Sees spot b low zs (lvalue_read other)
         → place_address spot b zs target ≡ Ok p → place_address spot b zs other ≡ Err c
         → TrapsBoth (around ((place_cells spot free target 0 PLACE
         ++ place_cells spot free other (place_words target) OTHER_PLACE) ++ check) mid)
@@ -568,7 +568,7 @@ module _ (spot : List ℕ → Spot) (free : ℕ) (b : Bases) where
         (placed_below spot free b target zs) s ∙ n))))
 
     found_swap_traps_sharing : (zs : List ℕ) (p q : ℕ) → FitFrom spot free b target (place_words other) zs
-        → Sees spot b low zs (read_of other) → place_address spot b zs target ≡ Ok p
+        → Sees spot b low zs (lvalue_read other) → place_address spot b zs target ≡ Ok p
         → place_address spot b zs other ≡ Ok q → swap_shares spot b zs target other ≡ true
         → TrapsBoth (found_swap_cells spot free target other) (place_steps target + place_steps other + both_apart_steps
         target other) 16 (mem b f (keeping 0 0 0) zs)
@@ -617,7 +617,7 @@ module _ (spot : List ℕ → Spot) (free : ℕ) (b : Bases) where
         let v : ℕ = slice_index zs p in
         let over : ys' ≡ swapped_at p q ys = ap (placed spot free b target 0) e
         ∙ placed_written spot free b (λ z. slice_set (slice_set z p u) q v) (write_two spot free b p u q v pl ql) target
-        zs fit.sees (subst (λ z. Sees spot b low z (read_of target)) e fit'.sees)
+        zs fit.sees (subst (λ z. Sees spot b low z (lvalue_read target)) e fit'.sees)
         (subst (λ z. SamePlace spot b zs z target) e sp)
         ∙ sym (ap (λ w. slice_set (slice_set ys p w) q (slice_index ys p)) (below q ql)
         ∙ ap (λ w. slice_set (slice_set ys p u) q w) (below p pl)) in
@@ -715,7 +715,7 @@ module _ (spot : List ℕ → Spot) (free : ℕ) (b : Bases) where
             (both_apart_cells spot (Item name index) (Whole other)) swap_middle zs c h n
 
     pub swap_traps_second : (target other : Lvalue) (zs : List ℕ) (p c : ℕ)
-        → FitFrom spot free b target (place_words other) zs → Sees spot b low zs (read_of other)
+        → FitFrom spot free b target (place_words other) zs → Sees spot b low zs (lvalue_read other)
         → place_address spot b zs target ≡ Ok p → place_address spot b zs other ≡ Err c
         → TrapsBoth (swap_cells spot free target other) (place_steps target + place_steps other) c
         (mem b f (keeping 0 0 0) zs)
@@ -740,7 +740,7 @@ module _ (spot : List ℕ → Spot) (free : ℕ) (b : Bases) where
     not_shared zs array index q = reads_none zs array index (near_index_few index q)
 
     pub swap_traps_sharing : (target other : Lvalue) (zs : List ℕ) (p q : ℕ)
-        → FitFrom spot free b target (place_words other) zs → Sees spot b low zs (read_of other)
+        → FitFrom spot free b target (place_words other) zs → Sees spot b low zs (lvalue_read other)
         → place_address spot b zs target ≡ Ok p → place_address spot b zs other ≡ Ok q
         → swap_shares spot b zs target other ≡ true
         → TrapsBoth (swap_cells spot free target other) (place_steps target + place_steps other + both_apart_steps

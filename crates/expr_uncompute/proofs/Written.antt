@@ -8,7 +8,7 @@ use Rattle.rpp_tree.specs.Tree.{Expression, Number, Null, Variable, Element, Bin
 use Rattle.register_expressions.specs.refine_form.declared.spot.Spot.{Spot}
 use Rattle.register_expressions.specs.Code.{words}
 use Rattle.expr_uncompute.specs.Code.{place_words}
-use Rattle.register_expressions.specs.Number.{Bases, read_of, Sees, Same, SamePlace}
+use Rattle.register_expressions.specs.Number.{Bases, lvalue_read, Sees, Same, SamePlace}
 use Rattle.register_expressions.proofs.Numbers.{Agree, AllWords, sees_same}
 use Rattle.expr_uncompute.proofs.Stored.{home, stored, parted, IsWrite, stored_length, stored_other, stored_below}
 use Rattle.expr_uncompute.proofs.Stored.{stored_written, parted_written, same_lifted}
@@ -69,7 +69,7 @@ module _ (spot : List ℕ → Spot) (free : ℕ) (b : Bases) where
   -- a place and n words more fit
   pub record FitFrom (target : Lvalue) (n : ℕ) (zs : List ℕ) : Type 0 where
     pub all : AllWords zs
-    pub sees : Sees spot b low zs (read_of target)
+    pub sees : Sees spot b low zs (lvalue_read target)
     pub fits : home spot free b (place_words target + n) ≤ length zs
     pub small : length zs ≤ 2 ^ 31
     pub empty : (a : ℕ) → home spot free b 0 ≤ a → a < home spot free b (place_words target + n) → slice_index zs a ≡ 0
@@ -91,7 +91,7 @@ module _ (spot : List ℕ → Spot) (free : ℕ) (b : Bases) where
   placed_below (Whole name) zs = λ a h. refl
   placed_below (Item name index) zs = stored_below spot free b index 0 zs
 
-  pub placed_words : (target : Lvalue) (zs : List ℕ) → AllWords zs → Sees spot b low zs (read_of target)
+  pub placed_words : (target : Lvalue) (zs : List ℕ) → AllWords zs → Sees spot b low zs (lvalue_read target)
       → AllWords (placed spot free b target 0 zs)
   placed_words (Whole name) zs w s = w
   placed_words (Item name index) zs w s = stored_words spot free b index 0 zs w s.2
@@ -103,7 +103,7 @@ module _ (spot : List ℕ → Spot) (free : ℕ) (b : Bases) where
       (Rattle.std.proofs.Common.inr (omega arith))
 
   pub placed_written : (write : List ℕ → List ℕ) → IsWrite spot free b write → (target : Lvalue) (zs : List ℕ)
-      → Sees spot b low zs (read_of target) → Sees spot b low (write zs) (read_of target)
+      → Sees spot b low zs (lvalue_read target) → Sees spot b low (write zs) (lvalue_read target)
       → SamePlace spot b zs (write zs) target → placed spot free b target 0 (write zs)
       ≡ write (placed spot free b target 0 zs)
   placed_written write w (Whole name) zs s s' h = refl
@@ -124,8 +124,8 @@ module _ (spot : List ℕ → Spot) (free : ℕ) (b : Bases) where
   filled target e zs = parted spot free b e (place_words target) (placed spot free b target 0 zs)
 
   pub filled_written : (write : List ℕ → List ℕ) → IsWrite spot free b write
-      → (target : Lvalue) (e : Expression) (zs : List ℕ) → Sees spot b low zs (read_of target)
-      → Sees spot b low (write zs) (read_of target) → SamePlace spot b zs (write zs) target → Sees spot b low zs e
+      → (target : Lvalue) (e : Expression) (zs : List ℕ) → Sees spot b low zs (lvalue_read target)
+      → Sees spot b low (write zs) (lvalue_read target) → SamePlace spot b zs (write zs) target → Sees spot b low zs e
       → Sees spot b low (write zs) e → Same spot b zs (write zs) e
       → filled target e (write zs) ≡ write (filled target e zs)
   filled_written write w target e zs t t' p s s' h =
@@ -139,11 +139,11 @@ module _ (spot : List ℕ → Spot) (free : ℕ) (b : Bases) where
 
   -- the same with a second place
   pub other_fits : (target other : Lvalue) (zs : List ℕ) → FitFrom target (place_words other) zs
-      → Sees spot b low zs (read_of other) → FitPlace spot free b other (place_words target)
+      → Sees spot b low zs (lvalue_read other) → FitPlace spot free b other (place_words target)
       (placed spot free b target 0 zs)
   other_fits target other zs h s = record {
     all = placed_words target zs h.all h.sees;
-    sees = sees_same spot b low zs _ (placed_below target zs) (read_of other) s;
+    sees = sees_same spot b low zs _ (placed_below target zs) (lvalue_read other) s;
     fits = rw (placed_length target zs) h.fits;
     small = rw (placed_length target zs) h.small;
     empty = λ a lo hi. placed_other target zs a lo ∙ h.empty a (omega arith) hi;
@@ -153,9 +153,9 @@ module _ (spot : List ℕ → Spot) (free : ℕ) (b : Bases) where
   both_placed target other zs = placed spot free b other (place_words target) (placed spot free b target 0 zs)
 
   pub both_written : (write : List ℕ → List ℕ) → IsWrite spot free b write → (target other : Lvalue) (zs : List ℕ)
-      → Sees spot b low zs (read_of target) → Sees spot b low (write zs) (read_of target)
-      → SamePlace spot b zs (write zs) target → Sees spot b low zs (read_of other)
-      → Sees spot b low (write zs) (read_of other) → SamePlace spot b zs (write zs) other
+      → Sees spot b low zs (lvalue_read target) → Sees spot b low (write zs) (lvalue_read target)
+      → SamePlace spot b zs (write zs) target → Sees spot b low zs (lvalue_read other)
+      → Sees spot b low (write zs) (lvalue_read other) → SamePlace spot b zs (write zs) other
       → both_placed target other (write zs) ≡ write (both_placed target other zs)
   both_written write w target (Whole name) zs t t' p s s' h = placed_written write w target zs t t' p
   both_written write w target (Item name index) zs t t' p s s' h =

@@ -12,7 +12,7 @@ use Rattle.register_expressions.specs.roopl_semantics.Elements.{shared_array_fau
 use Rattle.register_expressions.specs.refine_form.declared.spot.Spot.{Spot}
 use Rattle.register_expressions.specs.Code.{words}
 use Rattle.expr_uncompute.specs.Code.{place_words}
-use Rattle.register_expressions.specs.Number.{Bases, number, read_of, index_of, place_address}
+use Rattle.register_expressions.specs.Number.{Bases, number, lvalue_read, index_of, place_address}
 use Rattle.register_expressions.specs.Number.{shares, update_shares, Sees, SamePlace}
 use Rattle.expr_uncompute.specs.Steps.{place_steps, fetch_steps, apart_steps}
 use Rattle.register_expressions.specs.Laws.{bases_of}
@@ -88,17 +88,17 @@ found_places_steps source target = place_steps source + place_steps target + apa
 pub record PlaceAroundLaw (spot : List ℕ → Spot) (free : ℕ) (target : Lvalue)
     (middle p : List Symbol) : Type 0 where
   pub encloses : (im : Image) (d : Bool) (m : Memory)
-      → CanRun spot free (place_words target) (read_of target) (Null 0) m → (a : ℕ)
+      → CanRun spot free (place_words target) (lvalue_read target) (Null 0) m → (a : ℕ)
       → place_address spot (bases_of m) m.cells target ≡ Ok a
       → update_shares spot (bases_of m) m.cells target (Null 0) ≡ false
       → Encloses im d m (free_at free m) (place_words target) (found_place_steps target) 0 a 0
       (Stays spot (bases_of m) (free_at free m) target (Null 0) m.cells) middle p
   pub place_faults : (im : Image) (d : Bool) (m : Memory)
-      → CanRun spot free (place_words target) (read_of target) (Null 0) m → (code : ℕ)
+      → CanRun spot free (place_words target) (lvalue_read target) (Null 0) m → (code : ℕ)
       → place_address spot (bases_of m) m.cells target ≡ Err code
       → IsTrap im p d m code (place_steps target)
   pub sharing_faults : (im : Image) (d : Bool) (m : Memory)
-      → CanRun spot free (place_words target) (read_of target) (Null 0) m → (a : ℕ)
+      → CanRun spot free (place_words target) (lvalue_read target) (Null 0) m → (a : ℕ)
       → place_address spot (bases_of m) m.cells target ≡ Ok a
       → update_shares spot (bases_of m) m.cells target (Null 0) ≡ true
       → IsTrap im p d m shared_array_fault (found_place_steps target)
@@ -107,7 +107,7 @@ pub record PlaceAroundLaw (spot : List ℕ → Spot) (free : ℕ) (target : Lval
 pub record ValueAroundLaw (spot : List ℕ → Spot) (free : ℕ) (target : Lvalue) (value : Expression)
     (middle p : List Symbol) : Type 0 where
   pub encloses : (im : Image) (d : Bool) (m : Memory)
-      → CanRun spot free (place_words target + words value) (read_of target) value m → (a v : ℕ)
+      → CanRun spot free (place_words target + words value) (lvalue_read target) value m → (a v : ℕ)
       → place_address spot (bases_of m) m.cells target ≡ Ok a
       → number spot (bases_of m) m.cells value ≡ Ok v
       → update_shares spot (bases_of m) m.cells target value ≡ false
@@ -115,16 +115,16 @@ pub record ValueAroundLaw (spot : List ℕ → Spot) (free : ℕ) (target : Lval
       (found_value_steps target value) v a
       0 (Stays spot (bases_of m) (free_at free m) target value m.cells) middle p
   pub place_faults : (im : Image) (d : Bool) (m : Memory)
-      → CanRun spot free (place_words target + words value) (read_of target) value m → (code : ℕ)
+      → CanRun spot free (place_words target + words value) (lvalue_read target) value m → (code : ℕ)
       → place_address spot (bases_of m) m.cells target ≡ Err code
       → IsTrap im p d m code (place_steps target)
   pub value_faults : (im : Image) (d : Bool) (m : Memory)
-      → CanRun spot free (place_words target + words value) (read_of target) value m → (a code : ℕ)
+      → CanRun spot free (place_words target + words value) (lvalue_read target) value m → (a code : ℕ)
       → place_address spot (bases_of m) m.cells target ≡ Ok a
       → number spot (bases_of m) m.cells value ≡ Err code
       → IsTrap im p d m code (place_steps target + fetch_steps value)
   pub sharing_faults : (im : Image) (d : Bool) (m : Memory)
-      → CanRun spot free (place_words target + words value) (read_of target) value m → (a v : ℕ)
+      → CanRun spot free (place_words target + words value) (lvalue_read target) value m → (a v : ℕ)
       → place_address spot (bases_of m) m.cells target ≡ Ok a
       → number spot (bases_of m) m.cells value ≡ Ok v
       → update_shares spot (bases_of m) m.cells target value ≡ true
@@ -133,8 +133,8 @@ pub record ValueAroundLaw (spot : List ℕ → Spot) (free : ℕ) (target : Lval
 -- after a change both places are where they were, and the second one still shares no array
 pub record PlacesStay (spot : List ℕ → Spot) (b : Bases) (low : ℕ) (source target : Lvalue)
     (cells cells' : List ℕ) : Type 0 where
-  pub source_sees : Sees spot b low cells' (read_of source)
-  pub target_sees : Sees spot b low cells' (read_of target)
+  pub source_sees : Sees spot b low cells' (lvalue_read source)
+  pub target_sees : Sees spot b low cells' (lvalue_read target)
   pub source_same : SamePlace spot b cells cells' source
   pub target_same : SamePlace spot b cells cells' target
   pub apart : shares spot b cells' target (index_of source) (index_of target) ≡ false
@@ -144,7 +144,7 @@ pub record PlacesStay (spot : List ℕ → Spot) (b : Bases) (low : ℕ) (source
 pub record PlacesAroundLaw (spot : List ℕ → Spot) (free : ℕ) (source target : Lvalue)
     (middle p : List Symbol) : Type 0 where
   pub encloses : (im : Image) (d : Bool) (m : Memory)
-      → CanRun spot free (place_words source + place_words target) (read_of source) (read_of target)
+      → CanRun spot free (place_words source + place_words target) (lvalue_read source) (lvalue_read target)
       m
       → (a a' : ℕ) → place_address spot (bases_of m) m.cells source ≡ Ok a
       → place_address spot (bases_of m) m.cells target ≡ Ok a'
@@ -153,18 +153,18 @@ pub record PlacesAroundLaw (spot : List ℕ → Spot) (free : ℕ) (source targe
       (found_places_steps source target) 0 a a'
       (PlacesStay spot (bases_of m) (free_at free m) source target m.cells) middle p
   pub source_faults : (im : Image) (d : Bool) (m : Memory)
-      → CanRun spot free (place_words source + place_words target) (read_of source) (read_of target)
+      → CanRun spot free (place_words source + place_words target) (lvalue_read source) (lvalue_read target)
       m
       → (code : ℕ) → place_address spot (bases_of m) m.cells source ≡ Err code
       → IsTrap im p d m code (place_steps source)
   pub target_faults : (im : Image) (d : Bool) (m : Memory)
-      → CanRun spot free (place_words source + place_words target) (read_of source) (read_of target)
+      → CanRun spot free (place_words source + place_words target) (lvalue_read source) (lvalue_read target)
       m
       → (a code : ℕ) → place_address spot (bases_of m) m.cells source ≡ Ok a
       → place_address spot (bases_of m) m.cells target ≡ Err code
       → IsTrap im p d m code (place_steps source + place_steps target)
   pub sharing_faults : (im : Image) (d : Bool) (m : Memory)
-      → CanRun spot free (place_words source + place_words target) (read_of source) (read_of target)
+      → CanRun spot free (place_words source + place_words target) (lvalue_read source) (lvalue_read target)
       m
       → (a a' : ℕ) → place_address spot (bases_of m) m.cells source ≡ Ok a
       → place_address spot (bases_of m) m.cells target ≡ Ok a'

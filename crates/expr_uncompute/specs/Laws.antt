@@ -5,7 +5,7 @@ use Rattle.rpp_tree.specs.Tree.{Expression, Lvalue}
 use Rattle.register_expressions.specs.inverse_rules.Inverse.{inverse_operator}
 use Rattle.register_expressions.specs.roopl_semantics.Operators.{updated}
 use Rattle.register_expressions.specs.refine_form.declared.spot.Spot.{Spot}
-use Rattle.register_expressions.specs.Number.{Bases, read_of, update_shares, swap_shares, Sees}
+use Rattle.register_expressions.specs.Number.{Bases, lvalue_read, update_shares, swap_shares, Sees}
 use Rattle.register_expressions.specs.Number.{Same, SamePlace}
 
 -- what an update does in a direction
@@ -25,7 +25,7 @@ swapped_at p q cells = slice_set (slice_set cells p (slice_index cells q)) q (sl
 -- array is shared
 pub record Stays (spot : List ℕ → Spot) (b : Bases) (low : ℕ) (target : Lvalue) (value : Expression)
     (cells cells' : List ℕ) : Type 0 where
-  pub place_sees : Sees spot b low cells' (read_of target)
+  pub place_sees : Sees spot b low cells' (lvalue_read target)
   pub value_sees : Sees spot b low cells' value
   pub place_same : SamePlace spot b cells cells' target
   pub value_same : Same spot b cells cells' value
@@ -34,8 +34,8 @@ pub record Stays (spot : List ℕ → Spot) (b : Bases) (low : ℕ) (target : Lv
 -- the same of two places
 pub record BothStay (spot : List ℕ → Spot) (b : Bases) (low : ℕ) (left right : Lvalue)
     (cells cells' : List ℕ) : Type 0 where
-  pub left_sees : Sees spot b low cells' (read_of left)
-  pub right_sees : Sees spot b low cells' (read_of right)
+  pub left_sees : Sees spot b low cells' (lvalue_read left)
+  pub right_sees : Sees spot b low cells' (lvalue_read right)
   pub left_same : SamePlace spot b cells cells' left
   pub right_same : SamePlace spot b cells cells' right
   pub apart : swap_shares spot b cells' left right ≡ false

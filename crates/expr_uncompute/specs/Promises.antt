@@ -11,7 +11,7 @@ use Rattle.register_expressions.specs.roopl_semantics.Elements.{shared_array_fau
 use Rattle.register_expressions.specs.refine_form.declared.spot.Spot.{Spot}
 use Rattle.register_expressions.specs.Code.{words}
 use Rattle.expr_uncompute.specs.Code.{place_words}
-use Rattle.register_expressions.specs.Number.{number, read_of, index_of, place_address}
+use Rattle.register_expressions.specs.Number.{number, lvalue_read, index_of, place_address}
 use Rattle.register_expressions.specs.Number.{update_shares, swap_shares, Sees}
 use Rattle.expr_uncompute.specs.Steps.{value_steps, test_steps, place_steps, fetch_steps}
 use Rattle.expr_uncompute.specs.Steps.{apart_steps, both_apart_steps, update_steps, swap_steps}
@@ -54,7 +54,7 @@ IsTrap im p d m code steps = (k : ℕ) × (k ≤ steps) × Runs im p d m (Trappe
 pub record UpdateLaw (spot : List ℕ → Spot) (free : ℕ) (op : UpdateOp) (target : Lvalue)
     (value : Expression) (p : List Symbol) : Type 0 where
   pub updates : (im : Image) (d : Bool) (m : Memory)
-      → CanRun spot free (place_words target + words value) (read_of target) value m → (a v : ℕ)
+      → CanRun spot free (place_words target + words value) (lvalue_read target) value m → (a v : ℕ)
       → place_address spot (bases_of m) m.cells target ≡ Ok a
       → number spot (bases_of m) m.cells value ≡ Ok v
       → update_shares spot (bases_of m) m.cells target value ≡ false
@@ -62,16 +62,16 @@ pub record UpdateLaw (spot : List ℕ → Spot) (free : ℕ) (op : UpdateOp) (ta
       → Runs im p d m (Done (record m { cells = updated_at d op a v m.cells })
       (update_steps target value))
   pub place_faults : (im : Image) (d : Bool) (m : Memory)
-      → CanRun spot free (place_words target + words value) (read_of target) value m → (code : ℕ)
+      → CanRun spot free (place_words target + words value) (lvalue_read target) value m → (code : ℕ)
       → place_address spot (bases_of m) m.cells target ≡ Err code
       → IsTrap im p d m code (place_steps target)
   pub value_faults : (im : Image) (d : Bool) (m : Memory)
-      → CanRun spot free (place_words target + words value) (read_of target) value m → (a code : ℕ)
+      → CanRun spot free (place_words target + words value) (lvalue_read target) value m → (a code : ℕ)
       → place_address spot (bases_of m) m.cells target ≡ Ok a
       → number spot (bases_of m) m.cells value ≡ Err code
       → IsTrap im p d m code (place_steps target + fetch_steps value)
   pub sharing_faults : (im : Image) (d : Bool) (m : Memory)
-      → CanRun spot free (place_words target + words value) (read_of target) value m → (a v : ℕ)
+      → CanRun spot free (place_words target + words value) (lvalue_read target) value m → (a v : ℕ)
       → place_address spot (bases_of m) m.cells target ≡ Ok a
       → number spot (bases_of m) m.cells value ≡ Ok v
       → update_shares spot (bases_of m) m.cells target value ≡ true
@@ -82,23 +82,23 @@ pub record UpdateLaw (spot : List ℕ → Spot) (free : ℕ) (op : UpdateOp) (ta
 pub record SwapLaw (spot : List ℕ → Spot) (free : ℕ) (left right : Lvalue)
     (p : List Symbol) : Type 0 where
   pub swaps : (im : Image) (d : Bool) (m : Memory)
-      → CanRun spot free (place_words left + place_words right) (read_of left) (read_of right) m
+      → CanRun spot free (place_words left + place_words right) (lvalue_read left) (lvalue_read right) m
       → (a a' : ℕ) → place_address spot (bases_of m) m.cells left ≡ Ok a
       → place_address spot (bases_of m) m.cells right ≡ Ok a'
       → swap_shares spot (bases_of m) m.cells left right ≡ false
       → BothStay spot (bases_of m) (free_at free m) left right m.cells (swapped_at a a' m.cells)
       → Runs im p d m (Done (record m { cells = swapped_at a a' m.cells }) (swap_steps left right))
   pub left_faults : (im : Image) (d : Bool) (m : Memory)
-      → CanRun spot free (place_words left + place_words right) (read_of left) (read_of right) m
+      → CanRun spot free (place_words left + place_words right) (lvalue_read left) (lvalue_read right) m
       → (code : ℕ) → place_address spot (bases_of m) m.cells left ≡ Err code
       → IsTrap im p d m code (place_steps left)
   pub right_faults : (im : Image) (d : Bool) (m : Memory)
-      → CanRun spot free (place_words left + place_words right) (read_of left) (read_of right) m
+      → CanRun spot free (place_words left + place_words right) (lvalue_read left) (lvalue_read right) m
       → (a code : ℕ) → place_address spot (bases_of m) m.cells left ≡ Ok a
       → place_address spot (bases_of m) m.cells right ≡ Err code
       → IsTrap im p d m code (place_steps left + place_steps right)
   pub sharing_faults : (im : Image) (d : Bool) (m : Memory)
-      → CanRun spot free (place_words left + place_words right) (read_of left) (read_of right) m
+      → CanRun spot free (place_words left + place_words right) (lvalue_read left) (lvalue_read right) m
       → (a a' : ℕ) → place_address spot (bases_of m) m.cells left ≡ Ok a
       → place_address spot (bases_of m) m.cells right ≡ Ok a'
       → swap_shares spot (bases_of m) m.cells left right ≡ true

@@ -5,7 +5,7 @@ ghost use Rattle.rpp_tree.specs.Views.{expression_of, lvalue_of};
 ghost use Rattle.register_expressions.specs.paired_code.Code.{unmarked};
 ghost use Rattle.expr_uncompute.specs.Code.{compare_cells, compare_all as cells_of_all, apart_cells, both_apart_cells};
 ghost use Rattle.register_expressions.specs.code_scope.Visible.{offset_of, spot_of as spot_of_name, known_by};
-ghost use Rattle.register_expressions.specs.Number.{read_of, index_of};
+ghost use Rattle.register_expressions.specs.Number.{lvalue_read, index_of};
 
 use code_conventions::faults::SHARED_ARRAY;
 use code_conventions::registers::{CONTENT, LEFT};
@@ -61,7 +61,7 @@ fn compare_read(
     requires { offset_of changed < 2 ^ 32 }
     ensures { IfOk result (λ p.
         p ≡ unmarked (cells_of_all (spot_of_name (known_by names.now)) changed
-        (read_of (lvalue_of place.now)))) }
+        (lvalue_read (lvalue_of place.now)))) }
 {
     match &place.index {
         None => Ok(empty(alloc)),

@@ -6,7 +6,7 @@ ghost use Rattle.register_expressions.specs.paired_code.Code.{unmarked};
 ghost use Rattle.register_expressions.specs.Code.{words as words_of, around, reach_cells, base_of, addi as addi_cell};
 ghost use Rattle.expr_uncompute.specs.Code.{place_words as words_of_place, update_cell as cell_of_update, number_cell as cell_of_number, onward as onward_cell, from_object as onward_from_object, from_frame as onward_from_frame_cell, both_reached as both_reached_cells, found_update_cells, held_update_cells, operated_update_cells, whole_update_cells, near_middle as near_middle_cells, near_place_cells, near_update_cells, item_update_cells, update_cells, four_exchanges as four_of, swap_at as swap_at_cells, beyond as beyond_cells, swap_by_one as swap_by_one_cells, have_one_base as one_base, swap_spots as swap_spots_cells, found_swap_cells, near_swap_cells, whole_swap_cells, item_swap_cells, swap_cells};
 ghost use Rattle.register_expressions.specs.Held.{need as need_of};
-ghost use Rattle.register_expressions.specs.Number.{read_of};
+ghost use Rattle.register_expressions.specs.Number.{lvalue_read};
 ghost use Rattle.expr_uncompute.specs.Promises.{UpdateLaw, SwapLaw};
 ghost use Rattle.expr_uncompute.specs.Sizes.{swap_size};
 ghost use Rattle.register_expressions.specs.Steps.{tokens};
@@ -198,7 +198,7 @@ fn whole_by_place(
 ) -> Result<Piece, NoMemory>
     requires room { words_of (expression_of value.now) ≤ 1000 }
     requires whole { lvalue_of place.now ≡ Whole place.now.name }
-    requires reads { expression_of value.now ≡ read_of (lvalue_of read.now) }
+    requires reads { expression_of value.now ≡ lvalue_read (lvalue_of read.now) }
     ensures { IfOk result (λ p.
         p ≡ unmarked (whole_update_cells (spot_of_name (known_by names.now))
         (free_of (known_by names.now)) op place.now.name (expression_of value.now))) }

@@ -4,7 +4,7 @@ ghost use Rattle.rpp_tree.specs.Views.{expression_of, lvalue_of};
 ghost use Rattle.register_expressions.specs.paired_code.Code.{unmarked};
 ghost use Rattle.register_expressions.specs.Code.{Target, words as words_of, copy_cells, nil_check as nil_cells, index_check as index_cells};
 ghost use Rattle.expr_uncompute.specs.Code.{place_words as words_of_place, operand_cells, checked_cells as checked_of, open_cells, prepare_cells, parts_cells, prepared_value_cells, prepared_test_cells, value_cells, test_cells, result_of};
-ghost use Rattle.register_expressions.specs.Number.{read_of};
+ghost use Rattle.register_expressions.specs.Number.{lvalue_read};
 ghost use Rattle.expr_uncompute.specs.Promises.{ValueLaw, TestLaw};
 ghost use Rattle.register_expressions.specs.Steps.{tokens};
 ghost use Rattle.register_expressions.specs.code_scope.Visible.{spot_of as spot_of_name, free_of, known_by};
@@ -39,8 +39,8 @@ pub fn words(e: &Expr) -> u32
 
 #[cycle(count_words)]
 fn read_words(place: &Place) -> u32
-    requires { words_of (read_of (lvalue_of place.now)) ≤ 1000 }
-    ensures { result ≡ words_of (read_of (lvalue_of place.now)) }
+    requires { words_of (lvalue_read (lvalue_of place.now)) ≤ 1000 }
+    ensures { result ≡ words_of (lvalue_read (lvalue_of place.now)) }
 {
     match &place.index {
         None => 0,
@@ -79,7 +79,7 @@ fn operand_read(
     requires apart { into ≢ CONTENT }
     ensures { IfOk result (λ p.
         p ≡ unmarked (operand_cells (spot_of_name (known_by names.now))
-        (free_of (known_by names.now)) (read_of (lvalue_of place.now)) i into)) }
+        (free_of (known_by names.now)) (lvalue_read (lvalue_of place.now)) i into)) }
 {
     match &place.index {
         None => copy(alloc, spot_of(names, &place.name.text), into),
@@ -144,7 +144,7 @@ fn open_read(alloc: Global, names: &Names, place: &Place, i: u32) -> Result<Piec
     requires { i ≤ 1000 }
     ensures { IfOk result (λ p.
         p ≡ unmarked (open_cells (spot_of_name (known_by names.now)) (free_of (known_by names.now))
-        (read_of (lvalue_of place.now)) i)) }
+        (lvalue_read (lvalue_of place.now)) i)) }
 {
     match &place.index {
         None => reached(alloc, spot_of(names, &place.name.text)),
@@ -215,10 +215,10 @@ pub fn prepare(alloc: Global, names: &Names, e: &Expr, i: u32) -> Result<Piece, 
 
 #[cycle(prepared)]
 fn prepare_read(alloc: Global, names: &Names, place: &Place, i: u32) -> Result<Piece, NoMemory>
-    requires { i + words_of (read_of (lvalue_of place.now)) ≤ 1000 }
+    requires { i + words_of (lvalue_read (lvalue_of place.now)) ≤ 1000 }
     ensures { IfOk result (λ p.
         p ≡ unmarked (prepare_cells (spot_of_name (known_by names.now))
-        (free_of (known_by names.now)) (read_of (lvalue_of place.now)) i)) }
+        (free_of (known_by names.now)) (lvalue_read (lvalue_of place.now)) i)) }
 {
     match &place.index {
         None => Ok(empty(alloc)),
@@ -233,10 +233,10 @@ fn prepare_read(alloc: Global, names: &Names, place: &Place, i: u32) -> Result<P
 }
 
 fn parts_read(alloc: Global, names: &Names, place: &Place, i: u32) -> Result<Piece, NoMemory>
-    requires { i + words_of (read_of (lvalue_of place.now)) ≤ 1000 }
+    requires { i + words_of (lvalue_read (lvalue_of place.now)) ≤ 1000 }
     ensures { IfOk result (λ p.
         p ≡ unmarked (parts_cells (spot_of_name (known_by names.now)) (free_of (known_by names.now))
-        (read_of (lvalue_of place.now)) i)) }
+        (lvalue_read (lvalue_of place.now)) i)) }
 {
     match &place.index {
         None => Ok(empty(alloc)),
@@ -264,7 +264,7 @@ pub fn parts(alloc: Global, names: &Names, e: &Expr, i: u32) -> Result<Piece, No
 }
 
 fn read_register(place: &Place) -> u8
-    ensures value { result ≡ result_of (read_of (lvalue_of place.now)) }
+    ensures value { result ≡ result_of (lvalue_read (lvalue_of place.now)) }
     ensures known { (result ≡ CONTENT) ⊎ (result ≡ ITEM) }
 {
     match &place.index {

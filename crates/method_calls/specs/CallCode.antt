@@ -3,13 +3,13 @@ use Rattle.std.specs.Prelude.{ℕ, ◌+◌, Bool, false, List, [], ◌∷◌, �
 use Rattle.refine_form.specs.rpp_words.Words.{negated}
 use Rattle.refine_form.specs.rpp_words.declared.input.TheConstants.{FRAME_WORDS}
 use Rattle.refine_form.specs.declared.spot.Spot.{Spot}
-use Rattle.refine_form.specs.declared.spot.Spot.TheVariants.{Field, Frame}
+use Rattle.refine_form.specs.declared.spot.Spot.TheVariants.{Frame}
 use Rattle.refine_form.specs.rpp_tree.declared.tree.Ident.{Ident}
 use Rattle.refine_form.specs.pisa_isa.declared.cell.Cell.{Cell}
 use Rattle.refine_form.specs.pisa_isa.declared.fixed.TheConstants.{STACK_CELL, END_CELL}
 use Rattle.refine_form.specs.code_conventions.Cells.{add, sub, exch, addi}
 use Rattle.refine_form.specs.code_conventions.declared.faults.TheConstants.{DELOCAL, NIL, TOO_DEEP, TOUCHED}
-use Rattle.refine_form.specs.code_conventions.declared.memory.TheConstants.{FIRST_VARIABLE, HEADER_WORDS}
+use Rattle.refine_form.specs.code_conventions.declared.memory.TheConstants.{FIRST_VARIABLE}
 use Rattle.refine_form.specs.code_conventions.declared.memory.TheConstants.{MAIN_OBJECT}
 use Rattle.refine_form.specs.code_conventions.declared.memory.TheConstants.{OBJECT_WORD, PLACE_WORD}
 use Rattle.refine_form.specs.code_conventions.declared.memory.TheConstants.{TABLE_HEADER}
@@ -22,19 +22,11 @@ use Rattle.refine_form.specs.paired_code.Layout.{mirror_cells, check_equal_cells
 use Rattle.refine_form.specs.paired_code.Layout.{check_positive_cells, enter_at_cells}
 use Rattle.refine_form.specs.paired_code.Rows.{line}
 use Rattle.refine_form.specs.Cells.{around}
+pub use Rattle.refine_form.specs.Cells.{base_of, offset_of}
 
 -- the first variable's word in a frame
 abbrev pub first_word : ℕ
 first_word = FIRST_VARIABLE
-
--- the register from which a storage slot is reached, and how far it is
-abbrev pub base_of : Spot → ℕ
-base_of (Field i) = OBJECT
-base_of (Frame j) = FRAME
-
-abbrev pub offset_of : Spot → ℕ
-offset_of (Field i) = HEADER_WORDS + i
-offset_of (Frame j) = j
 
 -- the base goes to the storage slot
 abbrev pub reach_row : Spot → List Cell

@@ -23,7 +23,7 @@ use Rattle.static_layout.specs.roopl_semantics.Execution.{not_same_fault}
 use Rattle.expr_uncompute.specs.refine_form.declared.spot.Spot.{Spot}
 use Rattle.expr_uncompute.specs.refine_form.Form.{told, turned as facing}
 use Rattle.expr_uncompute.specs.Code.{place_words}
-use Rattle.expr_uncompute.specs.register_expressions.Number.{place_address, read_of, index_of, shares}
+use Rattle.expr_uncompute.specs.register_expressions.Number.{place_address, lvalue_read, index_of, shares}
 use Rattle.expr_uncompute.specs.Steps.{place_steps}
 use Rattle.expr_uncompute.specs.register_expressions.Laws.{bases_of}
 use Rattle.expr_uncompute.specs.Promises.{free_at, CanRun}
@@ -106,7 +106,7 @@ module _ (setting : Setting) (address slot : State → ℕ → ℕ) (R : State �
   -- what a copy and its inverse need of the relation
   pub record CopyFacts : Type 0 where
     pub can : (st : State) (m : Memory) → R st m → CanRun spot free (place_words source + place_words target)
-        (read_of source) (read_of target) m
+        (lvalue_read source) (lvalue_read target) m
     pub source_means : (st : State) (m : Memory) → R st m
         → MeansPlace (address st) (slot st) setting.program st spot (bases_of m) m.cells source
     pub target_means : (st : State) (m : Memory) → R st m

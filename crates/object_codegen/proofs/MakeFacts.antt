@@ -19,7 +19,7 @@ use Rattle.expr_uncompute.specs.refine_form.Form.{registers}
 use Rattle.expr_uncompute.specs.refine_form.declared.spot.Spot.{Spot}
 use Rattle.expr_uncompute.specs.register_expressions.Code.{words}
 use Rattle.expr_uncompute.specs.Code.{place_words}
-use Rattle.expr_uncompute.specs.register_expressions.Number.{read_of, index_of}
+use Rattle.expr_uncompute.specs.register_expressions.Number.{lvalue_read, index_of}
 use Rattle.expr_uncompute.specs.register_expressions.Laws.{bases_of}
 use Rattle.expr_uncompute.specs.Promises.{free_at, CanRun}
 use Rattle.expr_uncompute.specs.Found.{Changes}
@@ -129,7 +129,7 @@ module _ (setting : Setting) (address slot : State → ℕ → ℕ) (R : State �
 
     pub record ObjectFacts : Type 0 where
       pub regs_are : (st : State) (m : Memory) → R st m → m.regs ≡ registers 0 object frame 0 0 0 0 0
-      pub can : (st : State) (m : Memory) → R st m → CanRun spot free (place_words target) (read_of target) (Null 0) m
+      pub can : (st : State) (m : Memory) → R st m → CanRun spot free (place_words target) (lvalue_read target) (Null 0) m
       pub means : (st : State) (m : Memory) → R st m → MeansPlace (address st) (slot st) setting.program st spot
           (bases_of m) m.cells target
       pub tells : (st : State) (m : Memory) → R st m → TellsShares (address st) (slot st) setting.program st spot
@@ -179,7 +179,7 @@ module _ (setting : Setting) (address slot : State → ℕ → ℕ) (R : State �
     pub record ArrayFacts : Type 0 where
       pub regs_are : (st : State) (m : Memory) → R st m → m.regs ≡ registers 0 object frame 0 0 0 0 0
       pub can : (st : State) (m : Memory) → R st m → CanRun spot free (place_words (Whole name) + words size)
-          (read_of (Whole name)) size m
+          (lvalue_read (Whole name)) size m
       pub means : (st : State) (m : Memory) → R st m → MeansPlace (address st) (slot st) setting.program st spot
           (bases_of m) m.cells (Whole name)
       pub size_means : (st : State) (m : Memory) → R st m → Means (address st) (slot st) setting.program st spot

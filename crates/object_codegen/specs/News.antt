@@ -19,7 +19,7 @@ use Rattle.expr_uncompute.specs.refine_form.Form.{registers}
 use Rattle.expr_uncompute.specs.refine_form.declared.spot.Spot.{Spot}
 use Rattle.expr_uncompute.specs.register_expressions.Code.{words}
 use Rattle.expr_uncompute.specs.Code.{place_words}
-use Rattle.expr_uncompute.specs.register_expressions.Number.{number, read_of, place_address, update_shares}
+use Rattle.expr_uncompute.specs.register_expressions.Number.{number, lvalue_read, place_address, update_shares}
 use Rattle.expr_uncompute.specs.Steps.{place_steps, fetch_steps}
 use Rattle.expr_uncompute.specs.register_expressions.Laws.{bases_of}
 use Rattle.expr_uncompute.specs.Laws.{Stays}
@@ -189,18 +189,18 @@ pub record ObjectLaw (spot : List ℕ → Spot) (free table fields order : ℕ) 
     (p : List Symbol) : Type 0 where
   pub makes : (im : Image) (m : Memory) (object frame a : ℕ)
       → m.regs ≡ registers 0 object frame 0 0 0 0 0
-      → CanRun spot free (place_words target) (read_of target) (Null 0) m
+      → CanRun spot free (place_words target) (lvalue_read target) (Null 0) m
       → place_address spot (bases_of m) m.cells target ≡ Ok a
       → update_shares spot (bases_of m) m.cells target (Null 0) ≡ false
       → Makes im m object frame (free_at free m) (place_words target) (found_place_steps target) a 0
       order
       (Fixed table fields) (Stays spot (bases_of m) (free_at free m) target (Null 0) m.cells) p
   pub place_faults : (im : Image) (d : Bool) (m : Memory)
-      → CanRun spot free (place_words target) (read_of target) (Null 0) m → (code : ℕ)
+      → CanRun spot free (place_words target) (lvalue_read target) (Null 0) m → (code : ℕ)
       → place_address spot (bases_of m) m.cells target ≡ Err code
       → IsTrap im p d m code (place_steps target)
   pub sharing_faults : (im : Image) (d : Bool) (m : Memory)
-      → CanRun spot free (place_words target) (read_of target) (Null 0) m → (a : ℕ)
+      → CanRun spot free (place_words target) (lvalue_read target) (Null 0) m → (a : ℕ)
       → place_address spot (bases_of m) m.cells target ≡ Ok a
       → update_shares spot (bases_of m) m.cells target (Null 0) ≡ true
       → IsTrap im p d m shared_array_fault (found_place_steps target)
@@ -211,7 +211,7 @@ pub record ArrayLaw (spot : List ℕ → Spot) (free : ℕ) (target : Lvalue) (s
     (p : List Symbol) : Type 0 where
   pub makes : (im : Image) (m : Memory) (object frame a v : ℕ)
       → m.regs ≡ registers 0 object frame 0 0 0 0 0
-      → CanRun spot free (place_words target + words size) (read_of target) size m
+      → CanRun spot free (place_words target + words size) (lvalue_read target) size m
       → place_address spot (bases_of m) m.cells target ≡ Ok a
       → number spot (bases_of m) m.cells size ≡ Ok v
       → update_shares spot (bases_of m) m.cells target size ≡ false
@@ -220,23 +220,23 @@ pub record ArrayLaw (spot : List ℕ → Spot) (free : ℕ) (target : Lvalue) (s
       (Stays spot (bases_of m) (free_at free m) target size m.cells) p
   pub length_faults : (im : Image) (m : Memory) (object frame a v : ℕ)
       → m.regs ≡ registers 0 object frame 0 0 0 0 0
-      → CanRun spot free (place_words target + words size) (read_of target) size m
+      → CanRun spot free (place_words target + words size) (lvalue_read target) size m
       → place_address spot (bases_of m) m.cells target ≡ Ok a
       → number spot (bases_of m) m.cells size ≡ Ok v
       → update_shares spot (bases_of m) m.cells target size ≡ false → slice_index m.cells a ≡ 0
       → is_less 0 v ≡ false
       → Will im p false m (TrapsWithin length_fault (found_value_steps target size + 5))
   pub place_faults : (im : Image) (d : Bool) (m : Memory)
-      → CanRun spot free (place_words target + words size) (read_of target) size m → (code : ℕ)
+      → CanRun spot free (place_words target + words size) (lvalue_read target) size m → (code : ℕ)
       → place_address spot (bases_of m) m.cells target ≡ Err code
       → IsTrap im p d m code (place_steps target)
   pub length_value_faults : (im : Image) (d : Bool) (m : Memory)
-      → CanRun spot free (place_words target + words size) (read_of target) size m → (a code : ℕ)
+      → CanRun spot free (place_words target + words size) (lvalue_read target) size m → (a code : ℕ)
       → place_address spot (bases_of m) m.cells target ≡ Ok a
       → number spot (bases_of m) m.cells size ≡ Err code
       → IsTrap im p d m code (place_steps target + fetch_steps size)
   pub sharing_faults : (im : Image) (d : Bool) (m : Memory)
-      → CanRun spot free (place_words target + words size) (read_of target) size m → (a v : ℕ)
+      → CanRun spot free (place_words target + words size) (lvalue_read target) size m → (a v : ℕ)
       → place_address spot (bases_of m) m.cells target ≡ Ok a
       → number spot (bases_of m) m.cells size ≡ Ok v
       → update_shares spot (bases_of m) m.cells target size ≡ true

@@ -11,7 +11,7 @@ use Rattle.static_layout.specs.roopl_semantics.Value.{nil_fault}
 use Rattle.static_layout.specs.roopl_semantics.Execution.{not_nil_fault, not_same_fault}
 use Rattle.expr_uncompute.specs.refine_form.declared.spot.Spot.{Spot}
 use Rattle.expr_uncompute.specs.Code.{place_words}
-use Rattle.expr_uncompute.specs.register_expressions.Number.{read_of, index_of, place_address, shares}
+use Rattle.expr_uncompute.specs.register_expressions.Number.{lvalue_read, index_of, place_address, shares}
 use Rattle.expr_uncompute.specs.Steps.{place_steps}
 use Rattle.expr_uncompute.specs.register_expressions.Laws.{bases_of}
 use Rattle.expr_uncompute.specs.Promises.{free_at, CanRun, IsTrap}
@@ -62,8 +62,8 @@ pub record Shares (low p q x c : ℕ) (cells : List ℕ) : Type 0 where
 -- both places are found, and the second one shares no array
 pub record Places (spot : List ℕ → Spot) (free : ℕ) (source target : Lvalue) (m : Memory)
     (a a' : ℕ) : Type 0 where
-  pub can : CanRun spot free (place_words source + place_words target) (read_of source)
-      (read_of target) m
+  pub can : CanRun spot free (place_words source + place_words target) (lvalue_read source)
+      (lvalue_read target) m
   pub source_at : place_address spot (bases_of m) m.cells source ≡ Ok a
   pub target_at : place_address spot (bases_of m) m.cells target ≡ Ok a'
   pub apart : shares spot (bases_of m) m.cells target (index_of source) (index_of target) ≡ false
@@ -93,18 +93,18 @@ pub record CopyLaw (spot : List ℕ → Spot) (free : ℕ) (source target : Lval
       (LeavesWithin (record m { cells = unreferring a' x c m.cells })
       (copy_steps source target) (copy_steps source target))
   pub source_faults : (im : Image) (d : Bool) (m : Memory)
-      → CanRun spot free (place_words source + place_words target) (read_of source) (read_of target)
+      → CanRun spot free (place_words source + place_words target) (lvalue_read source) (lvalue_read target)
       m
       → (code : ℕ) → place_address spot (bases_of m) m.cells source ≡ Err code
       → IsTrap im p d m code (place_steps source)
   pub target_faults : (im : Image) (d : Bool) (m : Memory)
-      → CanRun spot free (place_words source + place_words target) (read_of source) (read_of target)
+      → CanRun spot free (place_words source + place_words target) (lvalue_read source) (lvalue_read target)
       m
       → (a code : ℕ) → place_address spot (bases_of m) m.cells source ≡ Ok a
       → place_address spot (bases_of m) m.cells target ≡ Err code
       → IsTrap im p d m code (place_steps source + place_steps target)
   pub sharing_faults : (im : Image) (d : Bool) (m : Memory)
-      → CanRun spot free (place_words source + place_words target) (read_of source) (read_of target)
+      → CanRun spot free (place_words source + place_words target) (lvalue_read source) (lvalue_read target)
       m
       → (a a' : ℕ) → place_address spot (bases_of m) m.cells source ≡ Ok a
       → place_address spot (bases_of m) m.cells target ≡ Ok a'

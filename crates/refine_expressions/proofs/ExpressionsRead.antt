@@ -31,7 +31,7 @@ use Rattle.expr_uncompute.proofs.refine_frame_laws.ExpressionWords.{both_or_none
 use Rattle.refine_calls.specs.refine_form.Form.{Scope}
 use Rattle.refine_calls.specs.refine_form.Frames.{Under, base, value_word}
 use Rattle.refine_calls.specs.refine_form.Stands.{shape_of, extra, setup, Reads}
-use Rattle.expr_uncompute.specs.register_expressions.Number.{Bases, word_of, IsArray, Sees, read_of}
+use Rattle.expr_uncompute.specs.register_expressions.Number.{Bases, word_of, IsArray, Sees, lvalue_read}
 use Rattle.expr_uncompute.specs.Means.{is_equation, shown, AreOperands, words as both_words, compared, OperandsOf}
 use Rattle.expr_uncompute.specs.Means.{IsInt, StandsArray, Means, MeansPlace}
 use Rattle.refine_expressions.specs.Typing.{spot_in, free_in}
@@ -282,6 +282,6 @@ module _ (setting : Setting) (statics : List ℕ) (few : length statics ≤ MOST
       )
 
   pub sees_place : (target : Lvalue) (k : Kind) → PlaceHasWords target → place_type T S target ≡ Ok k
-      → Sees (spot_in P s) B low cells (read_of target)
+      → Sees (spot_in P s) B low cells (lvalue_read target)
   sees_place (Whole name) k w q = name_low setting statics classes s u st cells h name k q
   sees_place (Item name index) k w q = sees (Element name index) k w q

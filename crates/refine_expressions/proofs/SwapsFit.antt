@@ -27,7 +27,7 @@ use Rattle.refine_calls.specs.refine_form.Worlds.{Place, world_of, rates_of}
 use Rattle.refine_calls.proofs.Bridge.{typed, reads_of}
 use Rattle.refine_calls.proofs.MovesFit.{place_of}
 use Rattle.expr_uncompute.specs.Code.{place_words}
-use Rattle.expr_uncompute.specs.register_expressions.Number.{read_of, index_of}
+use Rattle.expr_uncompute.specs.register_expressions.Number.{lvalue_read, index_of}
 use Rattle.expr_uncompute.specs.register_expressions.Laws.{bases_of}
 use Rattle.expr_uncompute.specs.Laws.{swapped_at}
 use Rattle.expr_uncompute.specs.Promises.{CanRun, SwapLaw}
@@ -197,8 +197,8 @@ module _ (p : Place) (few : length p.statics ≤ MOST_STATICS) (classes : KnowsC
       rules : SwapTyped p.setting classes (context p classes s u st m.cells g) left right
       rules = swap_typed p.setting classes (context p classes s u st m.cells g) at left right ok.rules
 
-      can : CanRun spot free (place_words left + place_words right) (read_of left) (read_of right) m
-      can = subst (λ z. CanRun spot free (place_words left + place_words right) (read_of left) (read_of right) z)
+      can : CanRun spot free (place_words left + place_words right) (lvalue_read left) (lvalue_read right) m
+      can = subst (λ z. CanRun spot free (place_words left + place_words right) (lvalue_read left) (lvalue_read right) z)
           (sym (known p classes s u st m r)) (record {
             ready = ready p few classes s u st m.cells g (place_words left + place_words right) 0 0 ok.room;
             first = sees_place p.setting p.statics few classes s u st m.cells g left rules.kind ok.has_words.0

@@ -26,7 +26,7 @@ use Rattle.refine_calls.specs.refine_form.Worlds.{Place, world_of, rates_of}
 use Rattle.refine_calls.proofs.Bridge.{typed, reads_of}
 use Rattle.expr_uncompute.specs.register_expressions.Code.{words}
 use Rattle.expr_uncompute.specs.Code.{place_words}
-use Rattle.expr_uncompute.specs.register_expressions.Number.{read_of, index_of}
+use Rattle.expr_uncompute.specs.register_expressions.Number.{lvalue_read, index_of}
 use Rattle.expr_uncompute.specs.register_expressions.Laws.{bases_of}
 use Rattle.expr_uncompute.specs.Promises.{CanRun, UpdateLaw}
 use Rattle.expr_uncompute.specs.Means.{shown, cell_address, Means, MeansPlace, TellsShares}
@@ -73,8 +73,8 @@ module _ (p : Place) (few : length p.statics ≤ MOST_STATICS) (classes : KnowsC
     rules : UpdateTyped p.setting classes (context p classes s u st m.cells h) target e
     rules = update_typed p.setting classes (context p classes s u st m.cells h) at op target e ok.rules
 
-    can : CanRun spot free (place_words target + words e) (read_of target) e m
-    can = subst (λ z. CanRun spot free (place_words target + words e) (read_of target) e z)
+    can : CanRun spot free (place_words target + words e) (lvalue_read target) e m
+    can = subst (λ z. CanRun spot free (place_words target + words e) (lvalue_read target) e z)
         (sym (known p classes s u st m r)) (record {
           ready = ready p few classes s u st m.cells h (place_words target + words e) 0 0 ok.room;
           first = sees_place p.setting p.statics few classes s u st m.cells h target kind.Int ok.has_words.0

@@ -54,7 +54,7 @@ use Rattle.object_codegen.specs.register_expressions.Code.{words}
 use Rattle.object_codegen.specs.expr_uncompute.Code.{place_words}
 use Rattle.object_codegen.specs.register_expressions.Laws.{bases_of}
 use Rattle.object_codegen.specs.expr_uncompute.Means.{shown, cell_address, Means, MeansPlace, SameValues}
-use Rattle.object_codegen.specs.register_expressions.Number.{read_of}
+use Rattle.object_codegen.specs.register_expressions.Number.{lvalue_read}
 use Rattle.object_codegen.specs.expr_uncompute.Promises.{free_at, CanRun}
 use Rattle.refine_expressions.specs.Typing.{HasRoom, IsPassed, typing_in, spot_in, free_in}
 use Rattle.refine_expressions.proofs.ExpressionsRead.{means, sees, means_place, sees_place, value_is}
@@ -136,8 +136,8 @@ module _ (p : Place) (routine : ℕ → Ident → ℕ) (linked : IsLinked p rout
     abbrev t : Typed p.setting (extra u []) (shape_of p.setting.program s) s.class st
     t = typed p.setting p.statics s u [] st m.cells rd
 
-    can : CanRun spot free n (read_of (Whole name)) size m
-    can = subst (λ z. CanRun spot free n (read_of (Whole name)) size z) (sym (known p classes s u st m r)) (record {
+    can : CanRun spot free n (lvalue_read (Whole name)) size m
+    can = subst (λ z. CanRun spot free n (lvalue_read (Whole name)) size z) (sym (known p classes s u st m r)) (record {
       ready = ready p few classes s u st m.cells rd n 0 0 room;
       first = sees_place p.setting p.statics few classes s u st m.cells rd (Whole name) array tt place_typed;
       second = sees p.setting p.statics few classes s u st m.cells rd size kind.Int size_words size_typed;

@@ -31,7 +31,7 @@ use Rattle.object_codegen.specs.refine_form.declared.spot.Spot.{Spot}
 use Rattle.object_codegen.specs.expr_uncompute.Code.{place_words}
 use Rattle.object_codegen.specs.register_expressions.Laws.{bases_of}
 use Rattle.object_codegen.specs.expr_uncompute.Means.{shown, cell_address, MeansPlace, TellsShares}
-use Rattle.object_codegen.specs.register_expressions.Number.{read_of, index_of}
+use Rattle.object_codegen.specs.register_expressions.Number.{lvalue_read, index_of}
 use Rattle.object_codegen.specs.expr_uncompute.Promises.{free_at, CanRun}
 use Rattle.object_codegen.specs.Promises.{CopyLaw, referring, unreferring}
 use Rattle.object_codegen.proofs.CopyRows as rows
@@ -93,8 +93,8 @@ module _ (p : Place) (few : length p.statics ≤ MOST_STATICS) (classes : KnowsC
     abbrev second : Kind
     second = typing.parts.second
 
-    can : CanRun spot free (place_words source + place_words target) (read_of source) (read_of target) m
-    can = subst (λ z. CanRun spot free (place_words source + place_words target) (read_of source) (read_of target) z)
+    can : CanRun spot free (place_words source + place_words target) (lvalue_read source) (lvalue_read target) m
+    can = subst (λ z. CanRun spot free (place_words source + place_words target) (lvalue_read source) (lvalue_read target) z)
         (sym (known p classes s u st m r)) (record {
           ready = ready p few classes s u st m.cells h (place_words source + place_words target) 0 0 room;
           first = sees_place p.setting p.statics few classes s u st m.cells h source first source_words

@@ -52,7 +52,7 @@ use Rattle.object_codegen.specs.refine_form.declared.spot.Spot.{Spot}
 use Rattle.object_codegen.specs.expr_uncompute.Code.{place_words}
 use Rattle.object_codegen.specs.register_expressions.Laws.{bases_of}
 use Rattle.object_codegen.specs.expr_uncompute.Means.{cell_address, MeansPlace, TellsShares, SameCells}
-use Rattle.object_codegen.specs.register_expressions.Number.{read_of, index_of}
+use Rattle.object_codegen.specs.register_expressions.Number.{lvalue_read, index_of}
 use Rattle.object_codegen.specs.expr_uncompute.Promises.{free_at, CanRun}
 use Rattle.refine_expressions.specs.refine_calls.Laws.{IsLinked}
 use Rattle.refine_expressions.proofs.refine_calls_laws.Bridge.{typed, reads_of}
@@ -209,8 +209,8 @@ module _ (p : Place) (routine : ℕ → Ident → ℕ) (linked : IsLinked p rout
       abbrev rd : Reads p.setting p.statics s u [] st m.cells
       rd = reads_of r.open_frame
 
-      can : CanRun spot free (place_words target) (read_of target) (Null 0) m
-      can = subst (λ z. CanRun spot free (place_words target) (read_of target) (Null 0) z)
+      can : CanRun spot free (place_words target) (lvalue_read target) (Null 0) m
+      can = subst (λ z. CanRun spot free (place_words target) (lvalue_read target) (Null 0) z)
           (sym (known p classes s u st m r)) (record {
             ready = ready p linked.routed.few classes s u st m.cells rd (place_words target) 0 0 room;
             first = sees_place p.setting p.statics linked.routed.few classes s u st m.cells rd target parts.type

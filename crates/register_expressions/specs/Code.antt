@@ -9,16 +9,15 @@ use Rattle.rpp_tree.specs.Tree.{Expression, Number, Null, Variable, Element, Bin
 use Rattle.code_scope.specs.pisa_isa.declared.cell.Op.{Op}
 use Rattle.code_scope.specs.pisa_isa.declared.cell.Op.TheVariants.{Add, Sub, Xor, Addi, Xori, Andx, Orx, Sltx}
 use Rattle.code_scope.specs.pisa_isa.declared.cell.Op.TheVariants.{Exch}
-use Rattle.code_scope.specs.code_conventions.declared.registers.TheConstants.{CONTENT, FRAME, LEFT, LEFT_TRUTH}
-use Rattle.code_scope.specs.code_conventions.declared.registers.TheConstants.{LINK, NOUGHT, OBJECT, OUTCOME}
+use Rattle.code_scope.specs.code_conventions.declared.registers.TheConstants.{CONTENT, LEFT, LEFT_TRUTH}
+use Rattle.code_scope.specs.code_conventions.declared.registers.TheConstants.{LINK, NOUGHT, OUTCOME}
 use Rattle.code_scope.specs.code_conventions.declared.registers.TheConstants.{RIGHT, RIGHT_TRUTH, TRUTH}
 use Rattle.code_scope.specs.paired_code.declared.part.Symbol.{Symbol}
 use Rattle.code_scope.specs.paired_code.declared.part.Symbol.TheVariants.{Own}
-use Rattle.code_scope.specs.paired_code.Layout.{mirror_cells, check_equal_cells, check_positive_cells}
+use Rattle.code_scope.specs.paired_code.Layout.{check_equal_cells, check_positive_cells}
 use Rattle.code_scope.specs.code_conventions.declared.memory.TheConstants.{HEADER_WORDS}
 use Rattle.code_scope.specs.code_conventions.declared.faults.TheConstants.{NIL, INDEX}
 use Rattle.code_scope.specs.refine_form.declared.spot.Spot.{Spot}
-use Rattle.code_scope.specs.refine_form.declared.spot.Spot.TheVariants.{Field, Frame}
 use Rattle.code_scope.specs.Visible.{offset_of}
 use Rattle.register_expressions.specs.declared.held.Kind.{Kind}
 use Rattle.register_expressions.specs.declared.held.Kind.TheVariants.{Changes, Gives, Joins}
@@ -26,6 +25,7 @@ use Rattle.register_expressions.specs.declared.held.Kind.TheVariants.{Neither}
 use Rattle.register_expressions.specs.Held.{kind, past, need, told_need, left_at, right_at}
 use Rattle.register_expressions.specs.Held.{is_variable, is_literal, literal_in, is_zero, spot_in}
 use Rattle.register_expressions.specs.Held.{is_truth}
+pub use Rattle.refine_form.specs.Cells.{around, base_of}
 
 -- a register that no code of expressions uses for itself
 abbrev pub Target : ℕ → Type 0
@@ -69,15 +69,7 @@ orx d s t = three Orx d s t
 abbrev pub sltx : (d s t : ℕ) → Symbol
 sltx d s t = three Sltx d s t
 
--- a fragment between another and its inverse
-abbrev pub around : List Symbol → List Symbol → List Symbol
-around w mid = w ++ (mid ++ mirror_cells w)
-
 -- ---- words of memory
-
-abbrev pub base_of : Spot → ℕ
-base_of (Field i) = OBJECT
-base_of (Frame i) = FRAME
 
 -- the base goes to a storage slot, whose word is then in `CONTENT`
 abbrev pub reach_cells : Spot → List Symbol

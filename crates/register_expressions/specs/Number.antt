@@ -8,6 +8,7 @@ use Rattle.code_scope.specs.code_conventions.declared.memory.TheConstants.{HEADE
 use Rattle.code_scope.specs.roopl_semantics.Operators.{operated}
 use Rattle.code_scope.specs.refine_form.declared.spot.Spot.{Spot}
 use Rattle.code_scope.specs.refine_form.declared.spot.Spot.TheVariants.{Field, Frame}
+pub use Rattle.rpp_tree.specs.Tree.{lvalue_read}
 
 -- the addresses of the current object and of the current frame
 pub record Bases : Type 0 where
@@ -42,11 +43,6 @@ combined op (Ok left) (Ok right) = Ok (operated op left right)
 abbrev pub given : Result ℕ ℕ → ℕ
 given (Ok v) = v
 given (Err fault) = 0
-
--- a place as an expression that reads it
-abbrev pub read_of : Lvalue → Expression
-read_of (Whole name) = Variable name
-read_of (Item name index) = Element name index
 
 -- the index of a place; nil if it is no element
 abbrev pub index_of : Lvalue → Expression

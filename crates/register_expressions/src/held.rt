@@ -4,7 +4,7 @@ ghost use Rattle.rpp_tree.specs.Views.{expression_of, lvalue_of};
 ghost use Rattle.code_scope.specs.paired_code.Code.{unmarked};
 ghost use Rattle.register_expressions.specs.Code.{Target, words as words_of, sltx as sltx_cell, xor as xor_cell, xori as xori_cell, exch as exch_cell, around, reach_cells, copy_cells, nil_check_of, index_check_of, point_of, part as part_of, before, core, told_cells, element_cells, operands_cells, core_cells, change_cells, literal_cells, give_cells, held_cells, given_cells, held_value_cells, held_truth_cells, held_test_cells};
 ghost use Rattle.register_expressions.specs.Held.{kind as kind_of, own as own_of, beside as beside_of, past as past_of, need as need_of, told_need as told_need_of, left_at as left_place, right_at as right_place, has_parts as parts_in, is_held as held_of, has_element as element_in, is_opened_once as opened_once, is_near as near_of, is_near_index as near_index, is_variable as variable_of, is_literal as literal_is, literal_in, is_zero as zero_is, spot_in, tells as tells_of, is_truth as truth_is};
-ghost use Rattle.register_expressions.specs.Number.{read_of};
+ghost use Rattle.register_expressions.specs.Number.{lvalue_read};
 ghost use Rattle.code_scope.specs.Visible.{spot_of as spot_of_name, known_by, offset_of};
 
 use crate::cells::{add, addi, andx, enclosed, orx, sltx, sub, xor, xori};
@@ -118,9 +118,9 @@ fn own(kind: Kind, left: bool, right: bool) -> u32
 
 #[cycle(need)]
 fn read_need(place: &Place) -> u32
-    requires { words_of (read_of (lvalue_of place.now)) ≤ 1000 }
-    ensures value { result ≡ need_of (read_of (lvalue_of place.now)) }
-    ensures bound { result ≤ 11 * words_of (read_of (lvalue_of place.now)) + 1 }
+    requires { words_of (lvalue_read (lvalue_of place.now)) ≤ 1000 }
+    ensures value { result ≡ need_of (lvalue_read (lvalue_of place.now)) }
+    ensures bound { result ≤ 11 * words_of (lvalue_read (lvalue_of place.now)) + 1 }
     ensures some { 1 ≤ result }
 {
     match &place.index {
@@ -534,11 +534,11 @@ fn held_element(alloc: Global, spot: Spot, index: Piece, k: u32) -> Result<Piece
 #[cycle(held)]
 #[tactic(auto, using(crate::proofs::HeldBounds::need_least))]
 fn held_read(alloc: Global, names: &Names, place: &Place, k: u32) -> Result<Piece, NoMemory>
-    requires room { words_of (read_of (lvalue_of place.now)) ≤ 1000 }
-    requires few { k + need_of (read_of (lvalue_of place.now)) ≤ 9 }
+    requires room { words_of (lvalue_read (lvalue_of place.now)) ≤ 1000 }
+    requires few { k + need_of (lvalue_read (lvalue_of place.now)) ≤ 9 }
     ensures { IfOk result (λ p.
         p ≡ unmarked (held_cells (spot_of_name (known_by names.now))
-        (read_of (lvalue_of place.now)) k)) }
+        (lvalue_read (lvalue_of place.now)) k)) }
 {
     match &place.index {
         None => copy(alloc, spot_of(names, &place.name.text), part(k)),
@@ -784,13 +784,13 @@ fn plain_read(
     names: &Names,
     into: u8,
 ) -> Result<Piece, NoMemory>
-    requires same { expression_of e.now ≡ read_of (lvalue_of place.now) }
+    requires same { expression_of e.now ≡ lvalue_read (lvalue_of place.now) }
     requires register { Target into }
     requires room { words_of (expression_of e.now) ≤ 1000 }
     requires few { need_of (expression_of e.now) < 10 }
     ensures { IfOk result (λ p.
         p ≡ unmarked (held_value_cells (spot_of_name (known_by names.now))
-        (read_of (lvalue_of place.now)) into)) }
+        (lvalue_read (lvalue_of place.now)) into)) }
 {
     match &place.index {
         None => copy(alloc, spot_of(names, &place.name.text), into),

@@ -30,7 +30,7 @@ use Rattle.roopl_lexer.specs.declared.token.Symbol.TheVariants as sign
 use Rattle.roopl_parser.specs.declared.error.ParseError.{ParseError}
 use Rattle.roopl_parser.specs.Operators.{Span, tok, ident, binary_operator, level_of, at_level, operator_at}
 use Rattle.roopl_parser.specs.Operators.{update_operator}
-use Rattle.roopl_parser.specs.Grammar.{read_place, IsExpr, number, null, read, parens, weaker, binary, IsIndexed, whole}
+use Rattle.roopl_parser.specs.Grammar.{lvalue_read, IsExpr, number, null, read, parens, weaker, binary, IsIndexed, whole}
 use Rattle.roopl_parser.specs.Grammar.{item, IsPlace, place, IsBracketed, plain, array, IsType, ints, objects, IsVar}
 use Rattle.roopl_parser.specs.Grammar.{var, IsSized, one, sized as many, IsMade, words, named, IsMoreNames, close}
 use Rattle.roopl_parser.specs.Grammar.{comma, IsNames, none, some, IsTarget, own, on, IsAssigned, update, swap}
@@ -331,7 +331,7 @@ module _ (strict : Bool) (end : ℕ) where
         ∙ run_index_end strict end rest (suc n) p i (Build MakeRead ∷ s) (AnIdent (ident a name) ∷ vs) b.0
         ∙ run_build strict end rest (suc n) MakeRead s (APlace (Whole (ident a name)) ∷ vs))
     expr_reads (read {a} {name} {rest} (item {a = x} {b = z} {ts} {e} d)) p i n f g h b s vs =
-        let q : suc n + nodes e ≡ n + nodes (read_place (Item (ident a name) e)) = omega arith in
+        let q : suc n + nodes e ≡ n + nodes (lvalue_read (Item (ident a name) e)) = omega arith in
         stops strict a.at true (name_mark n i) (scan strict end (tok x (Sign sign.LeftBracket) ∷ ts) (suc n)
         (Index p i ∷ Build MakeRead ∷ s) (AnIdent (ident a name) ∷ vs))
         (λ t. item_room n i true (omega (arith, g t)) (omega (arith, h t)))
@@ -345,7 +345,7 @@ module _ (strict : Bool) (end : ℕ) where
         ∙ read_sign z sign.RightBracket rest _ (Build MakeElement ∷ Build MakeRead ∷ s) _
         ∙ run_build strict end rest _ MakeElement (Build MakeRead ∷ s) _
         ∙ run_build strict end rest _ MakeRead s _
-        ∙ ap (λ m. scan strict end rest m s (AnExpr (read_place (Item (ident a name) e)) ∷ vs)) q
+        ∙ ap (λ m. scan strict end rest m s (AnExpr (lvalue_read (Item (ident a name) e)) ∷ vs)) q
     expr_reads (parens {a} {b = z} {ts} {rest} {e} d) p i n f g h b s vs =
         stops strict a.at (here (is_sign sign.LeftBracket) ts) (parens_mark p)
         (scan strict end ts n (Level 9 (suc p) i ∷ ASign sign.RightParen ∷ s) vs)

@@ -17,7 +17,7 @@ use Rattle.roopl_lexer.specs.declared.token.Keyword.TheVariants as word
 use Rattle.roopl_lexer.specs.declared.token.Symbol.TheVariants as sign
 use Rattle.roopl_parser.specs.declared.error.ParseError.{ParseError}
 use Rattle.roopl_parser.specs.declared.error.ParseError.TheVariants.{Limit}
-use Rattle.roopl_parser.specs.Grammar.{read_place}
+use Rattle.roopl_parser.specs.Grammar.{lvalue_read}
 use Rattle.roopl_parser.specs.Reader.{Part, Value, Rule, Step, Wrong, Next, Within, Build, Count, Level, More, Index}
 use Rattle.roopl_parser.specs.Reader.{Spot, Kind, Brackets, Sized, Single, Block, Stmts, Branches, Scope, Parent}
 use Rattle.roopl_parser.specs.Reader.{Fields, Procedures, Program, AName, AWord, AParent, Many, AddStatement, MakeBlock}
@@ -28,7 +28,7 @@ use Rattle.roopl_parser.specs.Reader.{is_sign, led, scan, walk, ends, Gives}
 use Rattle.roopl_parser.specs.Viable.{place_of}
 
 pub read_back : (name : Ident) (index : Option (Box Expr Global))
-    → read_of name (back-Place-index index) ≡ read_place (lvalue_with name index)
+    → read_of name (back-Place-index index) ≡ lvalue_read (lvalue_with name index)
 read_back name None = refl
 read_back name (Some index) = refl
 

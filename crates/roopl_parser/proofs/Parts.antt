@@ -35,7 +35,7 @@ use Rattle.roopl_lexer.specs.declared.error.LexError.{LexError}
 use Rattle.rpp_tree.specs.declared.limits.TheConstants.{MOST_NUMBER}
 use Rattle.roopl_parser.specs.Operators.{Span, tok, ident, operator_at, update_operator}
 use Rattle.roopl_parser.specs.Grammar as grammar
-use Rattle.roopl_parser.specs.Grammar.{read_place, IsExpr, IsIndexed, IsPlace, IsType, IsVar, IsSized, IsMade}
+use Rattle.roopl_parser.specs.Grammar.{lvalue_read, IsExpr, IsIndexed, IsPlace, IsType, IsVar, IsSized, IsMade}
 use Rattle.roopl_parser.specs.Grammar.{IsMoreNames, IsNames, IsTarget, IsAssigned, IsStatement, IsBranches, IsScope}
 use Rattle.roopl_parser.specs.Grammar.{IsBlock, IsStatements, IsMoreParams, IsParams, IsMethod, IsMethods, IsFields}
 use Rattle.roopl_parser.specs.Grammar.{IsParent, IsClass, IsClasses, Derives}
@@ -203,8 +203,8 @@ module _ (P : ℕ → Type 0) where
   fewer a less = record { names = a.names; places = a.places; numbers = a.numbers; tokens = omega (arith, a.tokens) }
 
   read_parts : {ts rest : List Token} (p : Lvalue) → Parts P ts rest (lvalue_names p) (lvalue_places p)
-      (lvalue_numbers p) (lvalue_tokens p) → Parts P ts rest (expression_names (read_place p))
-      (expression_places (read_place p)) (expression_numbers (read_place p)) (expression_tokens (read_place p))
+      (lvalue_numbers p) (lvalue_tokens p) → Parts P ts rest (expression_names (lvalue_read p))
+      (expression_places (lvalue_read p)) (expression_numbers (lvalue_read p)) (expression_tokens (lvalue_read p))
   read_parts (Whole name) a = a
   read_parts (Item name index) a = a
 

@@ -22,7 +22,7 @@ use Rattle.roopl_lexer.specs.declared.token.Symbol.{Symbol}
 use Rattle.roopl_lexer.specs.declared.token.Symbol.TheVariants as sign
 use Rattle.roopl_parser.specs.Operators.{Span, tok, ident, binary_operator, level_of, at_level, operator_at}
 use Rattle.roopl_parser.specs.Operators.{update_operator}
-use Rattle.roopl_parser.specs.Grammar.{read_place, array_of, IsExpr, number, null, read, parens, weaker, binary}
+use Rattle.roopl_parser.specs.Grammar.{lvalue_read, array_of, IsExpr, number, null, read, parens, weaker, binary}
 use Rattle.roopl_parser.specs.Grammar.{IsIndexed, whole, item, IsPlace, place, IsBracketed, plain, array, IsType, ints}
 use Rattle.roopl_parser.specs.Grammar.{objects, IsVar, var, IsSized, one, sized as many, IsMade, words, named}
 use Rattle.roopl_parser.specs.Grammar.{IsMoreNames, close, comma, IsNames, none, some, IsTarget, own, on, IsAssigned}
@@ -163,7 +163,7 @@ operand_sound : (k p i : ℕ) (s : List Part) (n : ℕ) (vs : List Value) (a : S
     (q : Value) → Then_gen (operand k p i s n vs a.at kind) ts q → Gen (Level k p i ∷ s) vs (tok a kind ∷ ts) q
 operand_sound k p i s n vs a (token.Number w) ts q g = mores_sound k p i s vs _ ts (Number a.at w) q number g
 operand_sound k p i s n vs a (token.Word word.Nil) ts q g = mores_sound k p i s vs _ ts (Null a.at) q null g
-operand_sound k p i s n vs a (token.Name x) ts q g = mores_sound k p i s vs _ g.0 (read_place g.1) q (read g.2) g.3
+operand_sound k p i s n vs a (token.Name x) ts q g = mores_sound k p i s vs _ g.0 (lvalue_read g.1) q (read g.2) g.3
 operand_sound k p i s n vs a (token.Sign sign.LeftParen) ts q g = let h = g.3 in
     mores_sound k p i s vs _ h.1 g.1 q (parens (expr_to h.2 g.2)) h.3
 operand_sound k p i s n vs a _ ts q g = absurd g

@@ -6,7 +6,7 @@ use Rattle.rpp_tree.specs.declared.tree.VarType.{VarType}
 use Rattle.rpp_tree.specs.declared.tree.VarType.TheVariants as kind
 use Rattle.rpp_tree.specs.declared.tree.BinOp.{BinOp}
 use Rattle.rpp_tree.specs.declared.tree.UpdateOp.{UpdateOp}
-use Rattle.rpp_tree.specs.Tree.{Expression, Number, Null, Variable, Element, Binary, Lvalue, Whole}
+use Rattle.rpp_tree.specs.Tree.{Expression, Number, Null, Binary, Lvalue, Whole}
 use Rattle.rpp_tree.specs.Tree.{Item, Creation, Object, Ints, Objects, Statement, Statements}
 use Rattle.rpp_tree.specs.Tree.{Update, Swap, If, From, Construct, Local, New, Delete, Copy, Uncopy}
 use Rattle.rpp_tree.specs.Tree.{Call, Skip, Procedure, ClassText, Source}
@@ -19,11 +19,7 @@ use Rattle.roopl_lexer.specs.declared.token.Keyword.{Keyword}
 use Rattle.roopl_lexer.specs.declared.token.Keyword.TheVariants as word
 use Rattle.roopl_lexer.specs.declared.token.Symbol.TheVariants as sign
 use Rattle.roopl_parser.specs.Operators.{Span, tok, ident, operator_at, update_operator}
-
--- the value of a place
-abbrev pub read_place : Lvalue → Expression
-read_place (Whole name) = Variable name
-read_place (Item name index) = Element name index
+pub use Rattle.rpp_tree.specs.Tree.{lvalue_read}
 
 -- the type of arrays of this
 abbrev pub array_of : VarType → VarType
@@ -39,7 +35,7 @@ mutual
         → IsExpr 0 (tok a (token.Number w) ∷ rest) rest (Number a.at w)
     null : {a : Span} {rest : List Token} → IsExpr 0 (tok a (Word word.Nil) ∷ rest) rest (Null a.at)
     read : {a : Span} {name : List ℕ} {ts rest : List Token} {p : Lvalue}
-        → IsIndexed (ident a name) ts rest p → IsExpr 0 (tok a (Name name) ∷ ts) rest (read_place p)
+        → IsIndexed (ident a name) ts rest p → IsExpr 0 (tok a (Name name) ∷ ts) rest (lvalue_read p)
     parens : {a b : Span} {ts rest : List Token} {e : Expression}
         → IsExpr 9 ts (tok b (Sign sign.RightParen) ∷ rest) e
         → IsExpr 0 (tok a (Sign sign.LeftParen) ∷ ts) rest e

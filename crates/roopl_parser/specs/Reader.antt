@@ -28,7 +28,7 @@ use Rattle.roopl_lexer.specs.declared.token.Symbol.TheVariants as sign
 use Rattle.roopl_parser.specs.declared.error.ParseError.{ParseError}
 use Rattle.roopl_parser.specs.declared.error.ParseError.TheVariants.{Syntax, Limit, NoMemory}
 use Rattle.roopl_parser.specs.Operators.{operator_at, update_operator}
-use Rattle.roopl_parser.specs.Grammar.{read_place, array_of}
+use Rattle.roopl_parser.specs.Grammar.{lvalue_read, array_of}
 
 -- what has been read
 pub data Value : Type 0 where
@@ -206,7 +206,7 @@ abbrev pub fifth : List Value → Value
 fifth vs = top (under (under (under (under vs))))
 
 abbrev pub build : Rule → List Value → List Value
-build MakeRead vs = AnExpr (read_place (as_place (top vs))) ∷ under vs
+build MakeRead vs = AnExpr (lvalue_read (as_place (top vs))) ∷ under vs
 build MakeWhole vs = APlace (Whole (as_name (top vs))) ∷ under vs
 build MakeElement vs = APlace (Item (as_name (second vs)) (as_expr (top vs))) ∷ under (under vs)
 build (MakeBinary at op) vs = AnExpr (Binary at op (as_expr (second vs)) (as_expr (top vs)))

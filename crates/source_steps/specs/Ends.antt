@@ -152,8 +152,3 @@ array_undeleted setting target size head element st = do
 -- the slot of a name, or 0
 abbrev pub slot_or_first : Source → ℕ → List ℕ → ℕ
 slot_or_first program class name = unwrap_or (method_slot program class name) 0
-
--- a call's direction, as it stands or undone
-abbrev pub call_turned : Bool → Bool → Bool
-call_turned true back = not back
-call_turned false back = back

@@ -2,9 +2,9 @@
 ghost use Rattle.std.specs.Prelude.{◌≡◌, ◌≤◌, OnOk, IfErr};
 ghost use Rattle.rpp_tree.specs.Tree.{Update, Swap};
 ghost use Rattle.rpp_tree.specs.Views.{expression_of, lvalue_of};
-ghost use Rattle.source_store.specs.inverse_rules.Inverse.{inverse_operator};
+ghost use Rattle.source_store.specs.inverse_rules.Inverse.{inverse_operator, call_direction};
 ghost use Rattle.source_store.specs.roopl_semantics.Operators.{updated};
-ghost use Rattle.source_steps.specs.Ends.{Ends, does_simply, call_turned};
+ghost use Rattle.source_steps.specs.Ends.{Ends, does_simply};
 ghost use Rattle.source_steps.specs.Metered.{IsOwn, OnFault};
 ghost use Rattle.source_steps.specs.StateView.{IsFramed, state_of, setting_of};
 
@@ -101,7 +101,7 @@ pub fn undone(op: UpdateOp) -> UpdateOp
 
 /// The direction of a call, as it stands or undone.
 pub fn turned_call(back: bool, call_back: bool) -> bool
-    ensures { result ≡ call_turned back call_back }
+    ensures { result ≡ call_direction back call_back }
 {
     if back { !call_back } else { call_back }
 }
