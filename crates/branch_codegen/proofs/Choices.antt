@@ -18,7 +18,7 @@ use Rattle.refine_expressions.proofs.paired_code_laws.Does.{bit as flag_bit}
 use Rattle.refine_expressions.specs.roopl_semantics.Run.{Run, Done as DoneRun, Fault as FaultRun, More as MoreRun, ◌>>=◌, give, fault_if}
 use Rattle.refine_expressions.specs.roopl_semantics.Store.{Value, State}
 use Rattle.refine_expressions.specs.roopl_semantics.Value.{evaluated}
-use Rattle.refine_expressions.specs.roopl_semantics.Execution.{Setting, exec, holds, fi_fault}
+use Rattle.refine_expressions.specs.roopl_semantics.Execution.{Setting, exec, holds, FI}
 use Rattle.refine_form.specs.Form.{World, Scope, Open, Owes, StmtLaw, BlockLaw, TestLaw, tested, told, one, turned}
 use Rattle.branch_codegen.specs.Branches.{flips, part_code, if_code}
 use Rattle.refine_form.proofs.Told.{alone, told_after, told_bind, same_then}
@@ -46,7 +46,7 @@ module _ (setting : Setting) (n : ℕ) (at : ℕ) (test : Expression) (taken oth
   choice_is true st = refl
   choice_is false st = refl
 
-  agreed_is : (b x : Bool) (end : State) → told (fault_if fi_fault (if b then not x else x) >>= λ z. give end)
+  agreed_is : (b x : Bool) (end : State) → told (fault_if FI (if b then not x else x) >>= λ z. give end)
       ≡ agreed (xor b x) end
   agreed_is true true end = refl
   agreed_is true false end = refl
@@ -55,7 +55,7 @@ module _ (setting : Setting) (n : ℕ) (at : ℕ) (test : Expression) (taken oth
 
   pub told_if : (st : State) → told (one setting n (If at test taken other after) st) ≡ says_if st
   told_if st =
-      let last : Bool → State → Value → Run State = λ b end x. fault_if fi_fault (if b then not (holds x) else holds x)
+      let last : Bool → State → Value → Run State = λ b end x. fault_if FI (if b then not (holds x) else holds x)
       >>= λ z. give end in
       let rest : Bool → State → Run State = λ b end. evaluated setting.program after end >>= last b end in
       let mid : Value → Run State = λ v. exec setting n (if holds v then taken else other) st >>= rest (holds v) in

@@ -22,7 +22,7 @@ use Rattle.refine_expressions.specs.roopl_semantics.Run.{Run, Done as DoneRun, F
 use Rattle.refine_expressions.specs.roopl_semantics.Run.{given, after_cost}
 use Rattle.refine_expressions.specs.roopl_semantics.Store.{Value, State}
 use Rattle.refine_expressions.specs.roopl_semantics.Value.{evaluated, value}
-use Rattle.refine_expressions.specs.roopl_semantics.Execution.{Setting, exec, holds, loop_fault, turns, turn_end}
+use Rattle.refine_expressions.specs.roopl_semantics.Execution.{Setting, exec, holds, turns, turn_end}
 use Rattle.refine_form.specs.Form.{World, Scope, Open, Owes, StmtLaw, BlockLaw, TestLaw, test_rates, tested, told}
 use Rattle.refine_form.specs.Form.{one, turned}
 use Rattle.refine_expressions.specs.paired_code.Rows.{line}
@@ -143,7 +143,7 @@ module _ (w : World) (thousand : w.rates.steps ≡ 1000) (counts : 1 ≤ w.rates
       (λ c end2. told_then (told (tested w.setting e1 end2)) (λ c b2. looped b2 (says j end2))))))
 
   looped_is : (j : ℕ) (b : Bool) (end : State) → told (turns w.setting j (exec w.setting n) e1 first again e2 end)
-      ≡ says j end → told (fault_if loop_fault b >>= λ z. turns w.setting j (exec w.setting n) e1 first again e2 end)
+      ≡ says j end → told (fault_if LOOP b >>= λ z. turns w.setting j (exec w.setting n) e1 first again e2 end)
       ≡ looped b (says j end)
   looped_is j true end ih = refl
   looped_is j false end ih = told_after 0 (turns w.setting j (exec w.setting n) e1 first again e2 end)
@@ -156,7 +156,7 @@ module _ (w : World) (thousand : w.rates.steps ≡ 1000) (counts : 1 ≤ w.rates
       (λ c end2. told_then (told (tested w.setting e1 end2)) (λ c b2. looped b2 (says j end2))))
   end_is j true end ih = refl
   end_is j false end ih =
-      let go : State → Value → Run State = λ end2 v. fault_if loop_fault (holds v) >>= λ z. turns w.setting j
+      let go : State → Value → Run State = λ end2 v. fault_if LOOP (holds v) >>= λ z. turns w.setting j
       (exec w.setting n) e1 first again e2 end2 in
       told_bind (exec w.setting n again end) (λ end2. evaluated w.setting.program e1 end2 >>= go end2)
       ∙ same_then (told (exec w.setting n again end)) (λ end2. told (evaluated w.setting.program e1 end2 >>= go end2))
@@ -532,7 +532,7 @@ module _ (w : World) (thousand : w.rates.steps ≡ 1000) (counts : 1 ≤ w.rates
         → told (one w.setting n (From at e1 body1 body2 e2) st)
         ≡ plus 1 (enters w thousand counts s u d e1 e2 body1 body2 n true n st)
     told_from n d u e1 e2 body1 body2 st =
-        let go : Value → Run State = λ v. fault_if loop_fault (not (holds v)) >>= λ z. turns w.setting n
+        let go : Value → Run State = λ v. fault_if LOOP (not (holds v)) >>= λ z. turns w.setting n
         (exec w.setting n) e1 body1 body2 e2 st in
         told_after 1 (evaluated w.setting.program e1 st >>= go)
         ∙ ap (plus 1) (

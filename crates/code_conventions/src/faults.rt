@@ -1,4 +1,6 @@
-// The numbers of the faults, with which the machine traps.
+// The numbers of the faults, with which the machine traps, and their names.
+ghost use Rattle.std.specs.Prelude.{◌≡◌};
+ghost use Rattle.code_conventions.specs.Faults.{fault_name as name_of_fault};
 
 /// The test of `fi` does not fit the side that ran.
 pub const FI: u32 = 1;
@@ -32,3 +34,28 @@ pub const TOO_DEEP: u32 = 14;
 pub const TOUCHED: u32 = 15;
 /// A place that changes is an element of an array that is read for the change.
 pub const SHARED_ARRAY: u32 = 16;
+
+/// The name of a fault, with a space before it. A number that is no fault has none.
+pub fn fault_name(code: u32) -> &'static str
+    ensures { result.now ≡ name_of_fault code }
+{
+    match code {
+        FI => " Fi",
+        LOOP => " Loop",
+        DELOCAL => " Delocal",
+        NOT_NIL => " NotNil",
+        NIL => " Nil",
+        COUNT => " Count",
+        NOT_EMPTY => " NotEmpty",
+        HEAP_FULL => " HeapFull",
+        INDEX => " Index",
+        NOT_SAME => " NotSame",
+        CLASS_DIFFERS => " ClassDiffers",
+        LENGTH_DIFFERS => " LengthDiffers",
+        LENGTH => " Length",
+        TOO_DEEP => " TooDeep",
+        TOUCHED => " Touched",
+        SHARED_ARRAY => " SharedArray",
+        _ => "",
+    }
+}

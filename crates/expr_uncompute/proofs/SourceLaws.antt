@@ -14,7 +14,7 @@ use Rattle.register_expressions.specs.roopl_semantics.Value.{Cell, read, value, 
 use Rattle.register_expressions.specs.refine_form.declared.spot.Spot.{Spot}
 use Rattle.register_expressions.specs.Code.{words}
 use Rattle.expr_uncompute.specs.Code.{place_words}
-use Rattle.register_expressions.specs.roopl_semantics.Elements.{shared_array_fault}
+use Rattle.register_expressions.specs.roopl_semantics.Elements.{SHARED_ARRAY}
 use Rattle.register_expressions.specs.Number.{Bases, number, lvalue_read, index_of, place_address, update_shares}
 use Rattle.register_expressions.specs.Number.{swap_shares, Sees, Same, SamePlace}
 use Rattle.expr_uncompute.specs.Steps.{value_steps, test_steps, place_steps, fetch_steps, apart_steps, both_apart_steps}
@@ -154,7 +154,7 @@ module _ (address slot : ℕ → ℕ) (program : Source) (spot : List ℕ → Sp
       → MeansPlace address slot program st spot (bases_of m) m.cells target
       → Means address slot program st spot (bases_of m) m.cells e → cell_of program st target ≡ Ok cell
       → value program st e ≡ Ok v → update_shares spot (bases_of m) m.cells target e ≡ true
-      → IsTrap im p d m shared_array_fault (place_steps target + fetch_steps e + apart_steps target (index_of target) e)
+      → IsTrap im p d m SHARED_ARRAY (place_steps target + fetch_steps e + apart_steps target (index_of target) e)
   source_update_sharing op target e p law im d m st cell v can h k nc n shared =
       law.sharing_faults im d m can (cell_address address slot cell) (shown address slot v)
       (place_is address slot program st spot (bases_of m) m.cells target h ∙ ap (cell_result address slot) nc)
@@ -232,7 +232,7 @@ module _ (address slot : ℕ → ℕ) (program : Source) (spot : List ℕ → Sp
       → MeansPlace address slot program st spot (bases_of m) m.cells left
       → MeansPlace address slot program st spot (bases_of m) m.cells right → cell_of program st left ≡ Ok x
       → cell_of program st right ≡ Ok y → swap_shares spot (bases_of m) m.cells left right ≡ true
-      → IsTrap im p d m shared_array_fault (place_steps left + place_steps right + both_apart_steps left right)
+      → IsTrap im p d m SHARED_ARRAY (place_steps left + place_steps right + both_apart_steps left right)
   source_swap_sharing left right p law im d m st x y can h k nx ny shared =
       law.sharing_faults im d m can (cell_address address slot x) (cell_address address slot y)
       (place_is address slot program st spot (bases_of m) m.cells left h ∙ ap (cell_result address slot) nx)

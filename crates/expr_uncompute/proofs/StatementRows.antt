@@ -15,7 +15,7 @@ use Rattle.register_expressions.specs.roopl_semantics.Run.{Run, after_cost, give
 use Rattle.register_expressions.specs.roopl_semantics.Store.{Value, Word, State, number_of}
 use Rattle.register_expressions.specs.roopl_semantics.Value.{Cell, read, written, value, cell_of}
 use Rattle.register_expressions.specs.roopl_semantics.Elements.{elements, index_elements, own_element, share_array, read_cost}
-use Rattle.register_expressions.specs.roopl_semantics.Elements.{shared_array_fault}
+use Rattle.register_expressions.specs.roopl_semantics.Elements.{SHARED_ARRAY}
 use Rattle.register_expressions.specs.roopl_semantics.Execution.{Setting, Runner, statement}
 use Rattle.register_expressions.specs.refine_form.declared.spot.Spot.{Spot}
 use Rattle.register_expressions.specs.refine_form.Form.{told, turned as facing}
@@ -38,7 +38,7 @@ use Rattle.expr_uncompute.proofs.Bounds.{swap_least, place_less, place_most, fet
 
 -- the check of arrays, with its count
 abbrev kept_by : ℕ → Bool → Run (Unit {0})
-kept_by cost shared = spend cost >>= λ _. fault_if shared_array_fault shared
+kept_by cost shared = spend cost >>= λ _. fault_if SHARED_ARRAY shared
 
 module _ (setting : Setting) (address slot : State → ℕ → ℕ) (R : State → Memory → Type 0) (spot : List ℕ → Spot)
     (free : ℕ) where

@@ -8,7 +8,7 @@ use Rattle.register_expressions.specs.code_conventions.declared.registers.TheCon
 use Rattle.register_expressions.specs.paired_code.declared.part.Symbol.{Symbol}
 use Rattle.register_expressions.specs.paired_code.Machine.{Image, with_reg}
 use Rattle.register_expressions.specs.paired_code.Pieces.{Outcome, Done, Trapped, Will}
-use Rattle.register_expressions.specs.roopl_semantics.Elements.{shared_array_fault}
+use Rattle.register_expressions.specs.roopl_semantics.Elements.{SHARED_ARRAY}
 use Rattle.register_expressions.specs.refine_form.declared.spot.Spot.{Spot}
 use Rattle.register_expressions.specs.Code.{words}
 use Rattle.expr_uncompute.specs.Code.{place_words}
@@ -101,7 +101,7 @@ pub record PlaceAroundLaw (spot : List ℕ → Spot) (free : ℕ) (target : Lval
       → CanRun spot free (place_words target) (lvalue_read target) (Null 0) m → (a : ℕ)
       → place_address spot (bases_of m) m.cells target ≡ Ok a
       → update_shares spot (bases_of m) m.cells target (Null 0) ≡ true
-      → IsTrap im p d m shared_array_fault (found_place_steps target)
+      → IsTrap im p d m SHARED_ARRAY (found_place_steps target)
 
 -- one that changes a place by a value: the value's fault comes between the two
 pub record ValueAroundLaw (spot : List ℕ → Spot) (free : ℕ) (target : Lvalue) (value : Expression)
@@ -128,7 +128,7 @@ pub record ValueAroundLaw (spot : List ℕ → Spot) (free : ℕ) (target : Lval
       → place_address spot (bases_of m) m.cells target ≡ Ok a
       → number spot (bases_of m) m.cells value ≡ Ok v
       → update_shares spot (bases_of m) m.cells target value ≡ true
-      → IsTrap im p d m shared_array_fault (found_value_steps target value)
+      → IsTrap im p d m SHARED_ARRAY (found_value_steps target value)
 
 -- after a change both places are where they were, and the second one still shares no array
 pub record PlacesStay (spot : List ℕ → Spot) (b : Bases) (low : ℕ) (source target : Lvalue)
@@ -169,4 +169,4 @@ pub record PlacesAroundLaw (spot : List ℕ → Spot) (free : ℕ) (source targe
       → (a a' : ℕ) → place_address spot (bases_of m) m.cells source ≡ Ok a
       → place_address spot (bases_of m) m.cells target ≡ Ok a'
       → shares spot (bases_of m) m.cells target (index_of source) (index_of target) ≡ true
-      → IsTrap im p d m shared_array_fault (found_places_steps source target)
+      → IsTrap im p d m SHARED_ARRAY (found_places_steps source target)

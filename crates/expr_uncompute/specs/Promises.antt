@@ -7,7 +7,7 @@ use Rattle.register_expressions.specs.code_conventions.declared.registers.TheCon
 use Rattle.register_expressions.specs.paired_code.declared.part.Symbol.{Symbol}
 use Rattle.register_expressions.specs.paired_code.Machine.{Image, reg}
 use Rattle.register_expressions.specs.paired_code.Pieces.{Done, Trapped, Runs}
-use Rattle.register_expressions.specs.roopl_semantics.Elements.{shared_array_fault}
+use Rattle.register_expressions.specs.roopl_semantics.Elements.{SHARED_ARRAY}
 use Rattle.register_expressions.specs.refine_form.declared.spot.Spot.{Spot}
 use Rattle.register_expressions.specs.Code.{words}
 use Rattle.expr_uncompute.specs.Code.{place_words}
@@ -75,7 +75,7 @@ pub record UpdateLaw (spot : List ℕ → Spot) (free : ℕ) (op : UpdateOp) (ta
       → place_address spot (bases_of m) m.cells target ≡ Ok a
       → number spot (bases_of m) m.cells value ≡ Ok v
       → update_shares spot (bases_of m) m.cells target value ≡ true
-      → IsTrap im p d m shared_array_fault
+      → IsTrap im p d m SHARED_ARRAY
       (place_steps target + fetch_steps value + apart_steps target (index_of target) value)
 
 -- either way two places are swapped; if they are one, nothing changes
@@ -102,5 +102,5 @@ pub record SwapLaw (spot : List ℕ → Spot) (free : ℕ) (left right : Lvalue)
       → (a a' : ℕ) → place_address spot (bases_of m) m.cells left ≡ Ok a
       → place_address spot (bases_of m) m.cells right ≡ Ok a'
       → swap_shares spot (bases_of m) m.cells left right ≡ true
-      → IsTrap im p d m shared_array_fault
+      → IsTrap im p d m SHARED_ARRAY
       (place_steps left + place_steps right + both_apart_steps left right)

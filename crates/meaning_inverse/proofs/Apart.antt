@@ -17,7 +17,7 @@ use Rattle.meaning_reached.specs.class_rules.Program.{setting_in}
 use Rattle.meaning_reached.specs.roopl_semantics.Store.{Value, Word, Nil, Name, Head, OfClass, OfInts, OfObjects, Object, Store, State}
 use Rattle.meaning_reached.specs.roopl_semantics.Store.{number_of, same_value, object_named, object_at, no_object, class_of_head}
 use Rattle.meaning_reached.specs.roopl_semantics.Value.{Cell, Slot, Part, cell_named, own_class, variable_value, element_cell}
-use Rattle.meaning_reached.specs.roopl_semantics.Value.{element_of, read, written, value as value_in, cell_of, index_fault}
+use Rattle.meaning_reached.specs.roopl_semantics.Value.{element_of, read, written, value as value_in, cell_of, INDEX}
 use Rattle.meaning_reached.specs.roopl_semantics.Execution.{Setting, same_cell}
 use Rattle.meaning_reached.specs.meaning_sound.Sound.{fits, named_fits, head_fits, head_of, head_named, cell_kind}
 use Rattle.meaning_reached.specs.meaning_sound.Sound.{Typed}
@@ -202,7 +202,7 @@ element_is program st name index c e = by (value_in program st index) e
     at Nil i h q = cc
     at (Name b) i h q = inside (nat_lt i (length (object_at st.store b).cells)) q
       where
-        inside : (t : Bool) → (if t then Ok (Part b i) else Err index_fault) ≡ Ok c → IsElement program st name.text c
+        inside : (t : Bool) → (if t then Ok (Part b i) else Err INDEX) ≡ Ok c → IsElement program st name.text c
         inside true z = record { array = b; index = i; is = (let y : Part b i ≡ c = cc in sym y); holds = h }
         inside false z = cc
 

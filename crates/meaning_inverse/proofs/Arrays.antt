@@ -7,10 +7,10 @@ use Rattle.meaning_reached.specs.rpp_tree.Tree.{Expression, Lvalue, Ints, Object
 use Rattle.meaning_reached.specs.roopl_semantics.Run.{Run, Done, ◌>>=◌, give as ends, spend, fault_if}
 use Rattle.meaning_reached.specs.roopl_semantics.Store.{Value, Word, Nil, Head, OfInts, OfObjects, Object, State, is_nil, is_zero}
 use Rattle.meaning_reached.specs.roopl_semantics.Store.{number_of, object_at, no_object}
-use Rattle.meaning_reached.specs.roopl_semantics.Value.{Cell, read, value as value_in, cell_of, evaluated, found, nil_fault}
+use Rattle.meaning_reached.specs.roopl_semantics.Value.{Cell, read, value as value_in, cell_of, evaluated, found, NIL}
 use Rattle.meaning_reached.specs.roopl_semantics.Execution.{Setting, statement, exec, allocated, freed, new_array, delete_array}
-use Rattle.meaning_reached.specs.roopl_semantics.Execution.{new_object, order_of_cells, all_zero, not_nil_fault, length_fault}
-use Rattle.meaning_reached.specs.roopl_semantics.Execution.{length_differs_fault, count_fault, not_empty_fault}
+use Rattle.meaning_reached.specs.roopl_semantics.Execution.{new_object, order_of_cells, all_zero, NOT_NIL, LENGTH}
+use Rattle.meaning_reached.specs.roopl_semantics.Execution.{LENGTH_DIFFERS, COUNT, NOT_EMPTY}
 use Rattle.meaning_reached.specs.roopl_semantics.Agreement.{renamed}
 use Rattle.meaning_inverse.proofs.Runs.{in_parts, done_result, done_cost, given_done, passed_check}
 use Rattle.meaning_reached.specs.buddy_book.Place.{Taken, count_taken, place as place_of}
@@ -64,8 +64,8 @@ module _ (setting : Setting) (G : Ground setting) where
       let d5 : Cell → ℕ → Unit {0} → Run State = λ x n u. allocated setting n x (head n) (replicate n element) a >>= d6
       n in
       let d4 : Cell → ℕ → Unit {0} → Run State = λ x n u. spend (h + 1) >>= d5 x n in
-      let d3 : Cell → ℕ → Unit {0} → Run State = λ x n u. fault_if length_fault (is_less n 1) >>= d4 x n in
-      let d2 : Cell → Value → Run State = λ x v. fault_if not_nil_fault (not (is_nil (read a x))) >>= d3 x (number_of v)
+      let d3 : Cell → ℕ → Unit {0} → Run State = λ x n u. fault_if LENGTH (is_less n 1) >>= d4 x n in
+      let d2 : Cell → Value → Run State = λ x v. fault_if NOT_NIL (not (is_nil (read a x))) >>= d3 x (number_of v)
       in
       let d1 : Cell → Run State = λ x. evaluated setting.program size a >>= d2 x in
       let one = in_parts (found setting.program target a) d1 b c e in
@@ -77,8 +77,8 @@ module _ (setting : Setting) (G : Ground setting) where
           (cell : Cell) (v : Value) (b1 a1 b2 a2 : ℕ)
           → found setting.program target a ≡ Done cell b1 → b1 + a1 ≡ c → evaluated setting.program size a ≡ Done v b2
           → b2 + a2 ≡ a1
-          → (fault_if not_nil_fault (not (is_nil (read a cell))) >>=
-          (λ u. fault_if length_fault (is_less (number_of v) 1) >>=
+          → (fault_if NOT_NIL (not (is_nil (read a cell))) >>=
+          (λ u. fault_if LENGTH (is_less (number_of v) 1) >>=
           (λ w. spend (setting.limits.heap + 1) >>= (λ x. allocated setting (number_of v) cell
           (head (number_of v)) (replicate (number_of v) element) a >>=
           (λ s. spend (number_of v) >>= (λ y. ends s)))))) ≡ Done b a2
@@ -89,16 +89,16 @@ module _ (setting : Setting) (G : Ground setting) where
           let d6 : State → Run State = λ s. spend n >>= (λ u. ends s) in
           let d5 : Unit {0} → Run State = λ u. allocated setting n cell (head n) (replicate n element) a >>= d6 in
           let d4 : Unit {0} → Run State = λ u. spend (h + 1) >>= d5 in
-          let d3 : Unit {0} → Run State = λ u. fault_if length_fault (is_less n 1) >>= d4 in
-          let three = in_parts (fault_if not_nil_fault (not (is_nil (read a cell)))) d3 b a2 e in
-          let four = in_parts (fault_if length_fault (is_less n 1)) d4 b three.after three.second in
+          let d3 : Unit {0} → Run State = λ u. fault_if LENGTH (is_less n 1) >>= d4 in
+          let three = in_parts (fault_if NOT_NIL (not (is_nil (read a cell)))) d3 b a2 e in
+          let four = in_parts (fault_if LENGTH (is_less n 1)) d4 b three.after three.second in
           let five = in_parts (spend (h + 1)) d5 b four.after four.second in
           let six = in_parts (allocated setting n cell (head n) (replicate n element) a) d6 b five.after five.second in
           let seven = in_parts (spend n) (λ u. ends six.middle) b six.after six.second in
           let place_a = given_done (index_nodes target) (cell_of setting.program a target) cell b1 first in
           let value_a = given_done (nodes size) (value_in setting.program a size) v b2 second in
-          let check = passed_check not_nil_fault (not (is_nil (read a cell))) three.middle three.before three.first in
-          let check2 = passed_check length_fault (is_less n 1) four.middle four.before four.first in
+          let check = passed_check NOT_NIL (not (is_nil (read a cell))) three.middle three.before three.first in
+          let check2 = passed_check LENGTH (is_less n 1) four.middle four.before four.first in
           let spent = done_cost tt five.middle (h + 1) five.before five.first in
           let spent2 = done_cost tt seven.middle n seven.before seven.first in
           let was = was_allocated setting n cell (head n) (replicate n element) a six.middle six.before six.first in
@@ -196,13 +196,13 @@ module _ (setting : Setting) (G : Ground setting) where
       let h = setting.limits.heap in
       let thing : Cell → Object = λ x. object_at a.store (number_of (read a x)) in
       let d7 : Cell → Unit {0} → Run State = λ x u. ends (freed setting x (number_of (read a x)) a) in
-      let d6 : Cell → Unit {0} → Run State = λ x u. fault_if not_empty_fault (not (all_zero (thing x).cells)) >>= d7 x
+      let d6 : Cell → Unit {0} → Run State = λ x u. fault_if NOT_EMPTY (not (all_zero (thing x).cells)) >>= d7 x
       in
       let d5 : Cell → Unit {0} → Run State = λ x u. spend (h + 1 + length (thing x).cells) >>= d6 x in
-      let d4 : Cell → Unit {0} → Run State = λ x u. fault_if count_fault (not (nat_eq (thing x).count 1)) >>= d5 x in
-      let d3 : Cell → Value → Unit {0} → Run State = λ x v u. fault_if length_differs_fault
+      let d4 : Cell → Unit {0} → Run State = λ x u. fault_if COUNT (not (nat_eq (thing x).count 1)) >>= d5 x in
+      let d3 : Cell → Value → Unit {0} → Run State = λ x v u. fault_if LENGTH_DIFFERS
       (not (nat_eq (length (thing x).cells) (number_of v))) >>= d4 x in
-      let d2 : Cell → Value → Run State = λ x v. fault_if nil_fault (is_nil (read a x)) >>= d3 x v in
+      let d2 : Cell → Value → Run State = λ x v. fault_if NIL (is_nil (read a x)) >>= d3 x v in
       let d1 : Cell → Run State = λ x. evaluated setting.program size a >>= d2 x in
       let one = in_parts (found setting.program target a) d1 b c e in
       let two = in_parts (evaluated setting.program size a) (d2 one.middle) b one.after one.second in
@@ -213,42 +213,42 @@ module _ (setting : Setting) (G : Ground setting) where
           (b1 a1 b2 a2 : ℕ)
           → found setting.program target a ≡ Done cell b1 → b1 + a1 ≡ c → evaluated setting.program size a ≡ Done v b2
           → b2 + a2 ≡ a1 → (thing : Object) → object_at a.store (number_of (read a cell)) ≡ thing
-          → (fault_if nil_fault (is_nil (read a cell)) >>= (λ t. fault_if length_differs_fault
+          → (fault_if NIL (is_nil (read a cell)) >>= (λ t. fault_if LENGTH_DIFFERS
           (not (nat_eq (length (object_at a.store (number_of (read a cell))).cells) (number_of v))) >>=
-          (λ u. fault_if count_fault (not (nat_eq (object_at a.store (number_of (read a cell))).count 1)) >>=
+          (λ u. fault_if COUNT (not (nat_eq (object_at a.store (number_of (read a cell))).count 1)) >>=
           (λ w.
           spend (setting.limits.heap + 1 + length (object_at a.store (number_of (read a cell))).cells) >>=
-          (λ x. fault_if not_empty_fault (not (all_zero (object_at a.store (number_of (read a cell))).cells)) >>=
+          (λ x. fault_if NOT_EMPTY (not (all_zero (object_at a.store (number_of (read a cell))).cells)) >>=
           (λ y. ends (freed setting cell (number_of (read a cell)) a))))))) ≡ Done b a2
           → WasDeleted target size a b c
       was_deleted_at target size a b c cell v b1 a1 b2 a2 first sum1 second sum2 thing is_thing e =
           let h = setting.limits.heap in
           let end = freed setting cell (number_of (read a cell)) a in
-          let P : Object → Type 0 = λ o. (fault_if nil_fault (is_nil (read a cell)) >>=
-          (λ t. fault_if length_differs_fault (not (nat_eq (length o.cells) (number_of v))) >>=
-          (λ u. fault_if count_fault (not (nat_eq o.count 1)) >>= (λ w.
-          spend (h + 1 + length o.cells) >>= (λ x. fault_if not_empty_fault (not (all_zero o.cells)) >>=
+          let P : Object → Type 0 = λ o. (fault_if NIL (is_nil (read a cell)) >>=
+          (λ t. fault_if LENGTH_DIFFERS (not (nat_eq (length o.cells) (number_of v))) >>=
+          (λ u. fault_if COUNT (not (nat_eq o.count 1)) >>= (λ w.
+          spend (h + 1 + length o.cells) >>= (λ x. fault_if NOT_EMPTY (not (all_zero o.cells)) >>=
           (λ y. ends end)))))) ≡ Done b a2 in
           let e' = subst P is_thing e in
           let d7 : Unit {0} → Run State = λ u. ends end in
-          let d6 : Unit {0} → Run State = λ u. fault_if not_empty_fault (not (all_zero thing.cells)) >>= d7 in
+          let d6 : Unit {0} → Run State = λ u. fault_if NOT_EMPTY (not (all_zero thing.cells)) >>= d7 in
           let d5 : Unit {0} → Run State = λ u. spend (h + 1 + length thing.cells) >>= d6 in
-          let d4 : Unit {0} → Run State = λ u. fault_if count_fault (not (nat_eq thing.count 1)) >>= d5 in
-          let d3 : Unit {0} → Run State = λ u. fault_if length_differs_fault
+          let d4 : Unit {0} → Run State = λ u. fault_if COUNT (not (nat_eq thing.count 1)) >>= d5 in
+          let d3 : Unit {0} → Run State = λ u. fault_if LENGTH_DIFFERS
           (not (nat_eq (length thing.cells) (number_of v))) >>= d4 in
-          let three = in_parts (fault_if nil_fault (is_nil (read a cell))) d3 b a2 e' in
-          let four = in_parts (fault_if length_differs_fault (not (nat_eq (length thing.cells) (number_of v)))) d4 b
+          let three = in_parts (fault_if NIL (is_nil (read a cell))) d3 b a2 e' in
+          let four = in_parts (fault_if LENGTH_DIFFERS (not (nat_eq (length thing.cells) (number_of v)))) d4 b
           three.after three.second in
-          let five = in_parts (fault_if count_fault (not (nat_eq thing.count 1))) d5 b four.after four.second in
+          let five = in_parts (fault_if COUNT (not (nat_eq thing.count 1))) d5 b four.after four.second in
           let six = in_parts (spend (h + 1 + length thing.cells)) d6 b five.after five.second in
-          let seven = in_parts (fault_if not_empty_fault (not (all_zero thing.cells))) d7 b six.after six.second in
+          let seven = in_parts (fault_if NOT_EMPTY (not (all_zero thing.cells))) d7 b six.after six.second in
           let place_a = given_done (index_nodes target) (cell_of setting.program a target) cell b1 first in
           let value_a = given_done (nodes size) (value_in setting.program a size) v b2 second in
-          let c3 = passed_check nil_fault (is_nil (read a cell)) three.middle three.before three.first in
-          let c4 = passed_check length_differs_fault (not (nat_eq (length thing.cells) (number_of v))) four.middle
+          let c3 = passed_check NIL (is_nil (read a cell)) three.middle three.before three.first in
+          let c4 = passed_check LENGTH_DIFFERS (not (nat_eq (length thing.cells) (number_of v))) four.middle
           four.before four.first in
-          let c5 = passed_check count_fault (not (nat_eq thing.count 1)) five.middle five.before five.first in
-          let c7 = passed_check not_empty_fault (not (all_zero thing.cells)) seven.middle seven.before seven.first in
+          let c5 = passed_check COUNT (not (nat_eq thing.count 1)) five.middle five.before five.first in
+          let c7 = passed_check NOT_EMPTY (not (all_zero thing.cells)) seven.middle seven.before seven.first in
           let spent = done_cost tt six.middle (h + 1 + length thing.cells) six.before six.first in
           record {
             cell = cell;

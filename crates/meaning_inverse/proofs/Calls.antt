@@ -12,9 +12,9 @@ use Rattle.meaning_reached.specs.roopl_semantics.Store.{Value, Word, Nil, Name, 
 use Rattle.meaning_reached.specs.roopl_semantics.Store.{object_at, class_of_head, no_object}
 use Rattle.meaning_reached.specs.class_rules.Members.{field_of}
 use Rattle.meaning_reached.specs.roopl_semantics.Value.{Cell, Slot, Part, slot_of, slot_or_field, cell_named, own_class, value_at, read}
-use Rattle.meaning_reached.specs.roopl_semantics.Value.{nil_fault}
+use Rattle.meaning_reached.specs.roopl_semantics.Value.{NIL}
 use Rattle.meaning_reached.specs.roopl_semantics.Execution.{Setting, statement, exec, bound, moved_out, moved_back, in_direction}
-use Rattle.meaning_reached.specs.roopl_semantics.Execution.{cells_named, class_of, is_too_deep, too_deep_fault, invoked}
+use Rattle.meaning_reached.specs.roopl_semantics.Execution.{cells_named, class_of, is_too_deep, TOO_DEEP, invoked}
 use Rattle.meaning_reached.specs.roopl_semantics.Agreement.{renamed}
 use Rattle.meaning_inverse.specs.StatesAgree.{renamed_binding}
 use Rattle.meaning_inverse.proofs.Runs.{in_parts, done_then, done_cost, passed_check, passes, Runs}
@@ -299,11 +299,11 @@ module _ (setting : Setting) (G : Ground setting) where
   undo_call_own n ih C at back method args a b c typed good good_b later e f b' sees =
       let cells = cells_named setting a args in
       let proc = method_named setting.program (own_class a) method.text in
-      let one = in_parts (spend (length args)) (λ u. fault_if too_deep_fault (is_too_deep setting a) >>=
+      let one = in_parts (spend (length args)) (λ u. fault_if TOO_DEEP (is_too_deep setting a) >>=
       (λ w. invoked setting (exec setting n) back proc a.self [] cells a)) b c e in
-      let two = in_parts (fault_if too_deep_fault (is_too_deep setting a))
+      let two = in_parts (fault_if TOO_DEEP (is_too_deep setting a))
       (λ w. invoked setting (exec setting n) back proc a.self [] cells a) b one.after one.second in
-      let check = passed_check too_deep_fault (is_too_deep setting a) two.middle two.before two.first in
+      let check = passed_check TOO_DEEP (is_too_deep setting a) two.middle two.before two.first in
       let live_a = (G.live C a good).self in
       let S : ℕ → Type 0 = λ n. IsLive b.store n in
       let live_b = subst S later.self (G.live C b good_b).self in
@@ -327,14 +327,14 @@ module _ (setting : Setting) (G : Ground setting) where
         back = call.end;
         names = call.names;
         does = record {
-          by = λ m l. done_then (spend (length args)) (λ u. fault_if too_deep_fault (is_too_deep setting b') >>=
+          by = λ m l. done_then (spend (length args)) (λ u. fault_if TOO_DEEP (is_too_deep setting b') >>=
               (λ w. invoked setting (exec setting m) (not back)
               (method_named setting.program (own_class b') method.text) b'.self [] (cells_named setting b' args)
               b')) tt call.end (length args) two.after c refl
-              (done_then (fault_if too_deep_fault (is_too_deep setting b'))
+              (done_then (fault_if TOO_DEEP (is_too_deep setting b'))
               (λ w. invoked setting (exec setting m) (not back)
               (method_named setting.program (own_class b') method.text) b'.self [] (cells_named setting b' args)
-              b') tt call.end 0 two.after two.after (passes too_deep_fault (is_too_deep setting b')
+              b') tt call.end 0 two.after two.after (passes TOO_DEEP (is_too_deep setting b')
               (too_deep_seen f a b b' later sees ∙ check.0))
               (same m ∙ call.goes m (let s1 = one.sum in let s2 = two.sum in omega arith)) (omega arith))
               (let s1 = one.sum in let s2 = two.sum in let z = check.1 in omega arith);
@@ -354,16 +354,16 @@ module _ (setting : Setting) (G : Ground setting) where
       let cell = cell_named setting.program a name.text in
       let number = number_of (read a cell) in
       let proc0 = method_named setting.program (class_of setting a number) method.text in
-      let one = in_parts (spend (length args)) (λ u. fault_if nil_fault (is_nil (read a cell)) >>=
-      (λ w. fault_if too_deep_fault (is_too_deep setting a) >>=
+      let one = in_parts (spend (length args)) (λ u. fault_if NIL (is_nil (read a cell)) >>=
+      (λ w. fault_if TOO_DEEP (is_too_deep setting a) >>=
       (λ x. invoked setting (exec setting n) back proc0 number (cell ∷ []) cells a))) b c e in
-      let two = in_parts (fault_if nil_fault (is_nil (read a cell)))
-      (λ w. fault_if too_deep_fault (is_too_deep setting a) >>=
+      let two = in_parts (fault_if NIL (is_nil (read a cell)))
+      (λ w. fault_if TOO_DEEP (is_too_deep setting a) >>=
       (λ x. invoked setting (exec setting n) back proc0 number (cell ∷ []) cells a)) b one.after one.second in
-      let three = in_parts (fault_if too_deep_fault (is_too_deep setting a))
+      let three = in_parts (fault_if TOO_DEEP (is_too_deep setting a))
       (λ x. invoked setting (exec setting n) back proc0 number (cell ∷ []) cells a) b two.after two.second in
-      let not_nil = passed_check nil_fault (is_nil (read a cell)) two.middle two.before two.first in
-      let check = passed_check too_deep_fault (is_too_deep setting a) three.middle three.before three.first in
+      let not_nil = passed_check NIL (is_nil (read a cell)) two.middle two.before two.first in
+      let check = passed_check TOO_DEEP (is_too_deep setting a) three.middle three.before three.first in
       let facts = G.call C at back name method args a typed good not_nil.0 check.0 in
       let self = facts.0 in
       let proc = method_named setting.program (class_of setting a self) method.text in
@@ -414,16 +414,16 @@ module _ (setting : Setting) (G : Ground setting) where
         back = call.end;
         names = call.names;
         does = record {
-          by = λ m l. done_then (spend (length args)) (λ u. fault_if nil_fault
+          by = λ m l. done_then (spend (length args)) (λ u. fault_if NIL
               (is_nil (read b' (cell_named setting.program b' name.text))) >>=
-              (λ w. fault_if too_deep_fault (is_too_deep setting b') >>= (λ x. invoke m))) tt call.end (length args)
+              (λ w. fault_if TOO_DEEP (is_too_deep setting b') >>= (λ x. invoke m))) tt call.end (length args)
               three.after c refl
-              (done_then (fault_if nil_fault (is_nil (read b' (cell_named setting.program b' name.text))))
-              (λ w. fault_if too_deep_fault (is_too_deep setting b') >>= (λ x. invoke m)) tt call.end 0
-              three.after three.after (passes nil_fault (is_nil
+              (done_then (fault_if NIL (is_nil (read b' (cell_named setting.program b' name.text))))
+              (λ w. fault_if TOO_DEEP (is_too_deep setting b') >>= (λ x. invoke m)) tt call.end 0
+              three.after three.after (passes NIL (is_nil
               (read b' (cell_named setting.program b' name.text))) (ap is_nil holds'))
-              (done_then (fault_if too_deep_fault (is_too_deep setting b')) (λ x. invoke m) tt call.end 0 three.after
-              three.after (passes too_deep_fault (is_too_deep setting b')
+              (done_then (fault_if TOO_DEEP (is_too_deep setting b')) (λ x. invoke m) tt call.end 0 three.after
+              three.after (passes TOO_DEEP (is_too_deep setting b')
               (too_deep_seen f a b b' later sees ∙ check.0))
               (same m ∙ call.goes m (let s1 = one.sum in let s2 = two.sum in let s3 = three.sum in omega arith))
               (omega arith)) (omega arith))

@@ -7,10 +7,10 @@ use Rattle.meaning_reached.specs.rpp_tree.Tree.{Lvalue, Copy, Uncopy, End, Then,
 use Rattle.meaning_reached.specs.roopl_semantics.Run.{Run, Done, ◌>>=◌, give, fault_if}
 use Rattle.meaning_reached.specs.roopl_semantics.Store.{Value, Word, Nil, Name, Object, State, is_nil, number_of, same_value}
 use Rattle.meaning_reached.specs.roopl_semantics.Store.{object_named, no_object, changed_at}
-use Rattle.meaning_reached.specs.roopl_semantics.Value.{Cell, Slot, Part, read, written, cell_of, found, nil_fault}
+use Rattle.meaning_reached.specs.roopl_semantics.Value.{Cell, Slot, Part, read, written, cell_of, found, NIL}
 use Rattle.meaning_reached.specs.roopl_semantics.Elements.{index_elements, own_element, share_array, read_cost, kept_apart}
-use Rattle.meaning_reached.specs.roopl_semantics.Execution.{Setting, statement, exec, same_cell, counted, one_less, not_nil_fault}
-use Rattle.meaning_reached.specs.roopl_semantics.Execution.{not_same_fault}
+use Rattle.meaning_reached.specs.roopl_semantics.Execution.{Setting, statement, exec, same_cell, counted, one_less, NOT_NIL}
+use Rattle.meaning_reached.specs.roopl_semantics.Execution.{NOT_SAME}
 use Rattle.meaning_reached.specs.roopl_semantics.Agreement.{renamed}
 use Rattle.meaning_inverse.proofs.Runs.{in_parts, done_then, done_result, done_cost, given_done, apart_done, done_apart}
 use Rattle.meaning_inverse.proofs.Runs.{passed_check, passes}
@@ -149,11 +149,11 @@ module _ (setting : Setting) (G : Ground setting) where
                 (index_nodes target + (spent + 0)) targets
                 (done_then (kept_apart setting.program (own_element target)
                 (index_elements source ++ index_elements target) b') _ tt back spent 0 (spent + 0) unshared
-                (done_then (fault_if nil_fault (is_nil (read b' x'))) _ tt back 0 0 0
-                (passes nil_fault (is_nil (read b' x')) (ap is_nil reads_x'))
-                (done_then (fault_if not_same_fault (not (same_value (read b' x') (read b' y')) || same_cell x' y')) _
+                (done_then (fault_if NIL (is_nil (read b' x'))) _ tt back 0 0 0
+                (passes NIL (is_nil (read b' x')) (ap is_nil reads_x'))
+                (done_then (fault_if NOT_SAME (not (same_value (read b' x') (read b' y')) || same_cell x' y')) _
                 tt
-                back 0 0 0 (passes not_same_fault (not (same_value (read b' x') (read b' y')) || same_cell x' y')
+                back 0 0 0 (passes NOT_SAME (not (same_value (read b' x') (read b' y')) || same_cell x' y')
                 check) (ap (λ s. Done s 0) result) refl) refl) refl) refl) cost;
           };
           sees = subst R same (counted_seen h f (written b y Nil) (written b' y' Nil) (written_seen h f b b' sees y Nil)
@@ -172,9 +172,9 @@ module _ (setting : Setting) (G : Ground setting) where
       → Sees setting.limits.heap f b b' → UndoneExactly setting (Copy at kind source target) f a b b' c
   copy_exactly n C at kind source target a b c typed good good_b e f b' sees =
       let d4 : Cell → Cell → Unit {0} → Run State = λ x y w. give (copied a x y) in
-      let d3 : Cell → Cell → Unit {0} → Run State = λ x y u. fault_if not_nil_fault (not (is_nil (read a y))) >>= d4 x y
+      let d3 : Cell → Cell → Unit {0} → Run State = λ x y u. fault_if NOT_NIL (not (is_nil (read a y))) >>= d4 x y
       in
-      let d2 : Cell → Cell → Unit {0} → Run State = λ x y z. fault_if nil_fault (is_nil (read a x)) >>= d3 x y in
+      let d2 : Cell → Cell → Unit {0} → Run State = λ x y z. fault_if NIL (is_nil (read a x)) >>= d3 x y in
       let d1 : Cell → Cell → Run State = λ x y. kept_apart setting.program (own_element target)
       (index_elements source ++ index_elements target) a >>= d2 x y in
       let one = in_parts (found setting.program source a) (λ x. found setting.program target a >>= d1 x) b c e in
@@ -183,14 +183,14 @@ module _ (setting : Setting) (G : Ground setting) where
       let y = two.middle in
       let five = in_parts (kept_apart setting.program (own_element target)
       (index_elements source ++ index_elements target) a) (d2 x y) b two.after two.second in
-      let three = in_parts (fault_if nil_fault (is_nil (read a x))) (d3 x y) b five.after five.second in
-      let four = in_parts (fault_if not_nil_fault (not (is_nil (read a y)))) (d4 x y) b three.after three.second in
+      let three = in_parts (fault_if NIL (is_nil (read a x))) (d3 x y) b five.after five.second in
+      let four = in_parts (fault_if NOT_NIL (not (is_nil (read a y)))) (d4 x y) b three.after three.second in
       let from = given_done (index_nodes source) (cell_of setting.program a source) x one.before one.first in
       let to = given_done (index_nodes target) (cell_of setting.program a target) y two.before two.first in
       let unshared = apart_done setting.program (own_element target) (index_elements source ++ index_elements target) a
       five.middle five.before five.first in
-      let some = passed_check nil_fault (is_nil (read a x)) three.middle three.before three.first in
-      let none = passed_check not_nil_fault (not (is_nil (read a y))) four.middle four.before four.first in
+      let some = passed_check NIL (is_nil (read a x)) three.middle three.before three.first in
+      let none = passed_check NOT_NIL (not (is_nil (read a y))) four.middle four.before four.first in
       let none' = not_false (is_nil (read a y)) none.0 in
       copied_undone at kind source target a x y b c (G.copy C at kind source target a x y typed good from.0 to.0
       unshared.0 some.0 none') some.0 none' (done_result (copied a x y) b 0 four.after four.second)
@@ -260,10 +260,10 @@ module _ (setting : Setting) (G : Ground setting) where
                 (index_nodes target + (spent + 0)) targets
                 (done_then (kept_apart setting.program (own_element target)
                 (index_elements source ++ index_elements target) b') _ tt back spent 0 (spent + 0) unshared
-                (done_then (fault_if nil_fault (is_nil (read b' x'))) _ tt back 0 0 0
-                (passes nil_fault (is_nil (read b' x')) (ap is_nil reads_x'))
-                (done_then (fault_if not_nil_fault (not (is_nil (read b' y')))) _ tt back 0 0 0
-                (passes not_nil_fault (not (is_nil (read b' y'))) (ap (λ v. not (is_nil v)) reads_y'))
+                (done_then (fault_if NIL (is_nil (read b' x'))) _ tt back 0 0 0
+                (passes NIL (is_nil (read b' x')) (ap is_nil reads_x'))
+                (done_then (fault_if NOT_NIL (not (is_nil (read b' y')))) _ tt back 0 0 0
+                (passes NOT_NIL (not (is_nil (read b' y'))) (ap (λ v. not (is_nil v)) reads_y'))
                 (ap (λ s. Done s 0) result) refl) refl) refl) refl) cost;
           };
           sees = subst R same (counted_seen h f (written b y (Name n)) (written b' y' (Name (f.there n)))
@@ -285,9 +285,9 @@ module _ (setting : Setting) (G : Ground setting) where
       → Sees setting.limits.heap f b b' → UndoneExactly setting (Uncopy at kind source target) f a b b' c
   uncopy_exactly n C at kind source target a b c typed good good_b e f b' sees =
       let d4 : Cell → Cell → Unit {0} → Run State = λ x y w. give (uncopied a x y) in
-      let d3 : Cell → Cell → Unit {0} → Run State = λ x y u. fault_if not_same_fault
+      let d3 : Cell → Cell → Unit {0} → Run State = λ x y u. fault_if NOT_SAME
       (not (same_value (read a x) (read a y)) || same_cell x y) >>= d4 x y in
-      let d2 : Cell → Cell → Unit {0} → Run State = λ x y z. fault_if nil_fault (is_nil (read a x)) >>= d3 x y in
+      let d2 : Cell → Cell → Unit {0} → Run State = λ x y z. fault_if NIL (is_nil (read a x)) >>= d3 x y in
       let d1 : Cell → Cell → Run State = λ x y. kept_apart setting.program (own_element target)
       (index_elements source ++ index_elements target) a >>= d2 x y in
       let one = in_parts (found setting.program source a) (λ x. found setting.program target a >>= d1 x) b c e in
@@ -296,15 +296,15 @@ module _ (setting : Setting) (G : Ground setting) where
       let y = two.middle in
       let five = in_parts (kept_apart setting.program (own_element target)
       (index_elements source ++ index_elements target) a) (d2 x y) b two.after two.second in
-      let three = in_parts (fault_if nil_fault (is_nil (read a x))) (d3 x y) b five.after five.second in
-      let four = in_parts (fault_if not_same_fault (not (same_value (read a x) (read a y)) || same_cell x y)) (d4 x y) b
+      let three = in_parts (fault_if NIL (is_nil (read a x))) (d3 x y) b five.after five.second in
+      let four = in_parts (fault_if NOT_SAME (not (same_value (read a x) (read a y)) || same_cell x y)) (d4 x y) b
       three.after three.second in
       let from = given_done (index_nodes source) (cell_of setting.program a source) x one.before one.first in
       let to = given_done (index_nodes target) (cell_of setting.program a target) y two.before two.first in
       let unshared = apart_done setting.program (own_element target) (index_elements source ++ index_elements target) a
       five.middle five.before five.first in
-      let some = passed_check nil_fault (is_nil (read a x)) three.middle three.before three.first in
-      let check = passed_check not_same_fault (not (same_value (read a x) (read a y)) || same_cell x y) four.middle
+      let some = passed_check NIL (is_nil (read a x)) three.middle three.before three.first in
+      let check = passed_check NOT_SAME (not (same_value (read a x) (read a y)) || same_cell x y) four.middle
       four.before four.first in
       let parts = neither (same_value (read a x) (read a y)) (same_cell x y) check.0 in
       let alike = is_same_value (read a x) (read a y) parts.0 in

@@ -20,15 +20,15 @@ use Rattle.meaning_reached.specs.roopl_semantics.Store.{Value, Word, Nil, Name, 
 use Rattle.meaning_reached.specs.roopl_semantics.Store.{number_of, is_nil, is_zero, same_value, zero_values, cleared, object_named}
 use Rattle.meaning_reached.specs.roopl_semantics.Store.{object_at, without}
 use Rattle.meaning_reached.specs.roopl_semantics.Value.{Cell, Slot, Part, read, written, value as value_in, evaluated, found}
-use Rattle.meaning_reached.specs.roopl_semantics.Value.{cell_named, nil_fault}
+use Rattle.meaning_reached.specs.roopl_semantics.Value.{cell_named, NIL}
 use Rattle.meaning_reached.specs.roopl_semantics.Elements.{elements, index_elements, own_element, kept_apart}
 use Rattle.meaning_reached.specs.roopl_semantics.Execution.{Setting, Runner, holds, opened, closed, moved_out, moved_back, in_direction}
 use Rattle.meaning_reached.specs.roopl_semantics.Execution.{new_object, order_of_cells, counted, one_less, constructed, element_call}
 use Rattle.meaning_reached.specs.roopl_semantics.Execution.{cells_named, class_of, is_too_deep, invoked, allocated, freed, new_array}
 use Rattle.meaning_reached.specs.roopl_semantics.Execution.{delete_array, with_local, turn_end, turns, statement, exec, same_cell}
-use Rattle.meaning_reached.specs.roopl_semantics.Execution.{is_of_class, all_zero, fi_fault, loop_fault, not_nil_fault, count_fault}
-use Rattle.meaning_reached.specs.roopl_semantics.Execution.{not_empty_fault, heap_full_fault, not_same_fault, class_differs_fault}
-use Rattle.meaning_reached.specs.roopl_semantics.Execution.{length_differs_fault, length_fault, too_deep_fault, touched_fault}
+use Rattle.meaning_reached.specs.roopl_semantics.Execution.{is_of_class, all_zero, FI, LOOP, NOT_NIL, COUNT}
+use Rattle.meaning_reached.specs.roopl_semantics.Execution.{NOT_EMPTY, HEAP_FULL, NOT_SAME, CLASS_DIFFERS}
+use Rattle.meaning_reached.specs.roopl_semantics.Execution.{LENGTH_DIFFERS, LENGTH, TOO_DEEP, TOUCHED}
 use Rattle.meaning_reached.proofs.meaning_sound_laws.Cells.{changed_objects}
 use Rattle.meaning_reached.proofs.meaning_sound_laws.Classes.{KnowsClasses}
 use Rattle.meaning_reached.proofs.class_rules_laws.PassedRules.{both_passed}
@@ -99,7 +99,7 @@ elements_moved_back : (cells : List Cell) (values : List Value) (st : State) →
     → Ends (moved_back cells values st) EndsWithElements
 elements_moved_back [] values st f = ends_done st 0 EndsWithElements f
 elements_moved_back (c ∷ cells) [] st f = ends_done st 0 EndsWithElements f
-elements_moved_back (c ∷ cells) (v ∷ values) st f = ends_then (fault_if touched_fault (not (is_zero (read st c)))) _ _
+elements_moved_back (c ∷ cells) (v ∷ values) st f = ends_then (fault_if TOUCHED (not (is_zero (read st c)))) _ _
     (λ u. elements_moved_back cells values (written st c v) (elements_written st c v f))
 
 -- a check that passed, an evaluation, a place
@@ -157,13 +157,13 @@ module _ (setting : Setting) (classes : KnowsClasses setting.program) (run : Run
       by more end g' true = ends_done end 0 EndsWithElements g'.arrays
       by more end g' false = ends_on (run again end) _ (Good setting C) EndsWithElements (all.by C again end k g')
           (λ next gn. ends_then (evaluated setting.program entry next) _ _
-          (λ v. ends_then (fault_if loop_fault (holds v)) _ _ (λ u. more next gn)))
+          (λ v. ends_then (fault_if LOOP (holds v)) _ _ (λ u. more next gn)))
 
   elements_allocated : (size : ℕ) (cell : Cell) (head : Head) (cells : List Value) (st : State)
       → HasElements (new_object head cells) → ArraysHaveElements st.store
       → Ends (allocated setting size cell head cells st) EndsWithElements
   elements_allocated size cell head cells st new f =
-      ends_then (fault_if heap_full_fault (nat_lt setting.limits.heap (order_of_cells size) || is_none
+      ends_then (fault_if HEAP_FULL (nat_lt setting.limits.heap (order_of_cells size) || is_none
       (place setting.limits.heap (Taken (2 + count_taken st.log) (order_of_cells size) ∷ st.log)))) _ _
       (λ u. ends_done (written (added st size head cells) cell (Name (2 + count_taken st.log))) 0 EndsWithElements
       (elements_written (added st size head cells) cell (Name (2 + count_taken st.log))
@@ -173,9 +173,9 @@ module _ (setting : Setting) (classes : KnowsClasses setting.program) (run : Run
       → ArraysHaveElements st.store → Ends (new_array setting target size head element st) EndsWithElements
   elements_new_array target size head element st f =
       ends_then (found setting.program target st) _ _ (λ cell. ends_then (evaluated setting.program size st) _ _
-      (λ v. ends_then (fault_if not_nil_fault (not (is_nil (read st cell)))) _ _ (λ a.
-      ends_on (fault_if length_fault (is_less (number_of v) 1)) _ (λ u. is_less (number_of v) 1 ≡ false)
-      EndsWithElements (checked_ends length_fault (is_less (number_of v) 1))
+      (λ v. ends_then (fault_if NOT_NIL (not (is_nil (read st cell)))) _ _ (λ a.
+      ends_on (fault_if LENGTH (is_less (number_of v) 1)) _ (λ u. is_less (number_of v) 1 ≡ false)
+      EndsWithElements (checked_ends LENGTH (is_less (number_of v) 1))
       (λ b long. ends_then (spend (setting.limits.heap + 1)) _ _ (λ c.
       ends_on (allocated setting (number_of v) cell (head (number_of v)) (replicate (number_of v) element) st) _
       EndsWithElements EndsWithElements
@@ -187,13 +187,13 @@ module _ (setting : Setting) (classes : KnowsClasses setting.program) (run : Run
       → Ends (delete_array setting target size st) EndsWithElements
   elements_delete_array target size st s f =
       ends_then (found setting.program target st) _ _ (λ cell. ends_then (evaluated setting.program size st) _ _
-      (λ v. ends_then (fault_if nil_fault (is_nil (read st cell))) _ _ (λ a.
-      ends_then (fault_if length_differs_fault (not (nat_eq
+      (λ v. ends_then (fault_if NIL (is_nil (read st cell))) _ _ (λ a.
+      ends_then (fault_if LENGTH_DIFFERS (not (nat_eq
       (length (object_at st.store (number_of (read st cell))).cells) (number_of v)))) _ _
-      (λ b. ends_then (fault_if count_fault (not (nat_eq (object_at st.store (number_of (read st cell))).count 1)))
+      (λ b. ends_then (fault_if COUNT (not (nat_eq (object_at st.store (number_of (read st cell))).count 1)))
       _ _ (λ c.
       ends_then (spend (setting.limits.heap + 1 + length (object_at st.store (number_of (read st cell))).cells)) _ _
-      (λ d. ends_then (fault_if not_empty_fault (not (all_zero
+      (λ d. ends_then (fault_if NOT_EMPTY (not (all_zero
       (object_at st.store (number_of (read st cell))).cells))) _ _ (λ x.
       ends_done (freed setting cell (number_of (read st cell)) st) 0 EndsWithElements
       (elements_freed setting cell (number_of (read st cell)) st s f))))))))
@@ -248,7 +248,7 @@ module _ (setting : Setting) (classes : KnowsClasses setting.program) (run : Run
       (chosen C (holds v) taken other (record { passes = b.0; plain = h.plain.0.1 })
       (record { passes = b.1; plain = h.plain.0.2 })) g) (λ end good.
       ends_then (evaluated setting.program after end) _ _ (λ w. ends_then
-      (fault_if fi_fault (if holds v then not (holds w) else holds w)) _ _
+      (fault_if FI (if holds v then not (holds w) else holds w)) _ _
       (λ u. ends_done end 0 EndsWithElements good.arrays))))
   elements_statement C n (From at entry first again exit) st h g =
       let typing = setting_in setting.program (table_of setting.program) C.class in
@@ -256,7 +256,7 @@ module _ (setting : Setting) (classes : KnowsClasses setting.program) (run : Run
       (in_turn (check_statements typing C.locals first) (check_statements typing C.locals again))
       (first_rule setting C (From at entry first again exit) h) in
       let b = both_passed (check_statements typing C.locals first) (check_statements typing C.locals again) a.1 in
-      ends_then (evaluated setting.program entry st) _ _ (λ v. ends_then (fault_if loop_fault (not (holds v))) _ _
+      ends_then (evaluated setting.program entry st) _ _ (λ v. ends_then (fault_if LOOP (not (holds v))) _ _
       (λ u. elements_turns C n entry first again exit st (record { passes = b.0; plain = h.plain.0.1 })
       (record { passes = b.1; plain = h.plain.0.2 }) g))
   elements_statement C n (Construct at class name body end) st h g =
@@ -276,7 +276,7 @@ module _ (setting : Setting) (classes : KnowsClasses setting.program) (run : Run
       let cells = zero_values (class_fields setting.program number) in
       ends_then (found setting.program target st) _ _ (λ cell. ends_then
       (kept_apart setting.program (own_element target) (index_elements target) st) _ _
-      (λ z. ends_then (fault_if not_nil_fault (not (is_nil (read st cell)))) _ _
+      (λ z. ends_then (fault_if NOT_NIL (not (is_nil (read st cell)))) _ _
       (λ u. ends_then (spend (setting.limits.heap + 1)) _ _
       (λ w. elements_allocated (length cells) cell (OfClass number) cells st (λ z. cc) g.arrays))))
   elements_statement C n (New at (Ints size) target) st h g = elements_new_array target size OfInts (Word 0) st g.arrays
@@ -285,12 +285,12 @@ module _ (setting : Setting) (classes : KnowsClasses setting.program) (run : Run
   elements_statement C n (Delete at (AnObject class) target) st h g =
       ends_then (found setting.program target st) _ _ (λ cell. ends_then
       (kept_apart setting.program (own_element target) (index_elements target) st) _ _
-      (λ z. ends_then (fault_if nil_fault (is_nil (read st cell))) _ _ (λ a.
-      ends_then (fault_if class_differs_fault (not (is_of_class (object_at st.store (number_of (read st cell))).head
+      (λ z. ends_then (fault_if NIL (is_nil (read st cell))) _ _ (λ a.
+      ends_then (fault_if CLASS_DIFFERS (not (is_of_class (object_at st.store (number_of (read st cell))).head
       (class_number setting.program class.text)))) _ _ (λ b.
-      ends_then (fault_if count_fault (not (nat_eq (object_at st.store (number_of (read st cell))).count 1))) _ _
+      ends_then (fault_if COUNT (not (nat_eq (object_at st.store (number_of (read st cell))).count 1))) _ _
       (λ c. ends_then (spend (setting.limits.heap + 1)) _ _ (λ d.
-      ends_then (fault_if not_empty_fault (not (all_zero (object_at st.store (number_of (read st cell))).cells))) _ _
+      ends_then (fault_if NOT_EMPTY (not (all_zero (object_at st.store (number_of (read st cell))).cells))) _ _
       (λ x. ends_done (freed setting cell (number_of (read st cell)) st) 0 EndsWithElements
       (elements_freed setting cell (number_of (read st cell)) st g.drawn g.arrays))))))))
   elements_statement C n (Delete at (Ints size) target) st h g = elements_delete_array target size st g.drawn g.arrays
@@ -300,8 +300,8 @@ module _ (setting : Setting) (classes : KnowsClasses setting.program) (run : Run
       ends_then (found setting.program source st) _ _ (λ a. ends_then (found setting.program target st) _ _
       (λ b. ends_then (kept_apart setting.program (own_element target)
       (index_elements source ++ index_elements target) st) _ _
-      (λ z. ends_then (fault_if nil_fault (is_nil (read st a))) _ _
-      (λ u. ends_then (fault_if not_nil_fault (not (is_nil (read st b)))) _ _ (λ w.
+      (λ z. ends_then (fault_if NIL (is_nil (read st a))) _ _
+      (λ u. ends_then (fault_if NOT_NIL (not (is_nil (read st b)))) _ _ (λ w.
       ends_done (counted suc (written st b (read st a)) (number_of (read st a))) 0 EndsWithElements
       (elements_counted suc (written st b (read st a)) (number_of (read st a))
       (elements_written st b (read st a) g.arrays)))))))
@@ -309,8 +309,8 @@ module _ (setting : Setting) (classes : KnowsClasses setting.program) (run : Run
       ends_then (found setting.program source st) _ _ (λ a. ends_then (found setting.program target st) _ _
       (λ b. ends_then (kept_apart setting.program (own_element target)
       (index_elements source ++ index_elements target) st) _ _
-      (λ z. ends_then (fault_if nil_fault (is_nil (read st a))) _ _ (λ u.
-      ends_then (fault_if not_same_fault (not (same_value (read st a) (read st b)) || same_cell a b)) _ _ (λ w.
+      (λ z. ends_then (fault_if NIL (is_nil (read st a))) _ _ (λ u.
+      ends_then (fault_if NOT_SAME (not (same_value (read st a) (read st b)) || same_cell a b)) _ _ (λ w.
       ends_done (counted one_less (written st b Nil) (number_of (read st a))) 0 EndsWithElements
       (elements_counted one_less (written st b Nil) (number_of (read st a))
       (elements_written st b Nil g.arrays)))))))
@@ -318,15 +318,15 @@ module _ (setting : Setting) (classes : KnowsClasses setting.program) (run : Run
       let c = own_call setting classes C at back method args st h g.sound in
       let P : ℕ → Type 0 = λ k. Ends (invoked setting run back (method_named setting.program k method.text) st.self []
       (cells_named setting st args) st) EndsWithElements in
-      ends_then (spend (length args)) _ _ (λ u. ends_then (fault_if too_deep_fault (is_too_deep setting st)) _ _ (λ w.
+      ends_then (spend (length args)) _ _ (λ u. ends_then (fault_if TOO_DEEP (is_too_deep setting st)) _ _ (λ w.
       subst P (sym c.class_is) (elements_invoked C back (method_named setting.program c.own method.text) st.self c.own
       c.params [] (cells_named setting st args) [] st g c.call)))
   elements_statement C n (Call at back (Some (Whole name)) method args) st h g =
       let cell = cell_named setting.program st name.text in
       let self = number_of (read st cell) in
-      ends_then (spend (length args)) _ _ (λ u. ends_on (fault_if nil_fault (is_nil (read st cell))) _
-      (λ u. is_nil (read st cell) ≡ false) EndsWithElements (checked_ends nil_fault (is_nil (read st cell)))
-      (λ w some. ends_then (fault_if too_deep_fault (is_too_deep setting st)) _ _ (λ x.
+      ends_then (spend (length args)) _ _ (λ u. ends_on (fault_if NIL (is_nil (read st cell))) _
+      (λ u. is_nil (read st cell) ≡ false) EndsWithElements (checked_ends NIL (is_nil (read st cell)))
+      (λ w some. ends_then (fault_if TOO_DEEP (is_too_deep setting st)) _ _ (λ x.
       let c = object_call setting classes C at back name method args st h g.sound some in
       let P : ℕ → Type 0 = λ k. Ends (invoked setting run back (method_named setting.program k method.text) c.self
       (cell ∷ []) (cells_named setting st args) st) EndsWithElements in

@@ -15,12 +15,12 @@ use Rattle.meaning_reached.specs.roopl_semantics.Run.{Run, Done, ◌>>=◌, give
 use Rattle.meaning_reached.specs.roopl_semantics.Store.{Value, Word, Nil, Name, Head, OfClass, OfInts, OfObjects, Object, State}
 use Rattle.meaning_reached.specs.roopl_semantics.Store.{main_name, is_nil, is_zero, number_of, zero_value, zero_values, object_named}
 use Rattle.meaning_reached.specs.roopl_semantics.Store.{object_at, no_object}
-use Rattle.meaning_reached.specs.roopl_semantics.Value.{Cell, Slot, Part, read, cell_of, evaluated, found, nil_fault}
+use Rattle.meaning_reached.specs.roopl_semantics.Value.{Cell, Slot, Part, read, cell_of, evaluated, found, NIL}
 use Rattle.meaning_reached.specs.roopl_semantics.Elements.{index_elements, own_element, share_array, read_cost, kept_apart}
 use Rattle.meaning_reached.specs.roopl_semantics.Execution.{Setting, Runner, statement, exec, allocated, freed, new_array, delete_array}
-use Rattle.meaning_reached.specs.roopl_semantics.Execution.{new_object, order_of_cells, is_of_class, all_zero, not_nil_fault}
-use Rattle.meaning_reached.specs.roopl_semantics.Execution.{length_fault, length_differs_fault, count_fault, not_empty_fault}
-use Rattle.meaning_reached.specs.roopl_semantics.Execution.{heap_full_fault, class_differs_fault}
+use Rattle.meaning_reached.specs.roopl_semantics.Execution.{new_object, order_of_cells, is_of_class, all_zero, NOT_NIL}
+use Rattle.meaning_reached.specs.roopl_semantics.Execution.{LENGTH, LENGTH_DIFFERS, COUNT, NOT_EMPTY}
+use Rattle.meaning_reached.specs.roopl_semantics.Execution.{HEAP_FULL, CLASS_DIFFERS}
 use Rattle.meaning_reached.specs.roopl_semantics.Agreement.{renamed, renamed_object}
 use Rattle.meaning_reached.specs.roopl_semantics.Laws.{book_of, block_in}
 use Rattle.meaning_inverse.proofs.Runs.{in_parts, done_then, done_result, done_cost, given_done, apart_done, done_apart}
@@ -134,7 +134,7 @@ module _ (setting : Setting) where
       let d3 : Cell → Unit {0} → Run State = λ x u. allocated setting (length (new_cells setting.program class)) x
       (OfClass (number_named setting.program class)) (new_cells setting.program class) st in
       let d2 : Cell → Unit {0} → Run State = λ x u. spend (h + 1) >>= d3 x in
-      let d1 : Cell → Unit {0} → Run State = λ x u. fault_if not_nil_fault (not (is_nil (read st x))) >>= d2 x in
+      let d1 : Cell → Unit {0} → Run State = λ x u. fault_if NOT_NIL (not (is_nil (read st x))) >>= d2 x in
       let d0 : Cell → Run State = λ x. kept_apart setting.program (own_element target) (index_elements target) st >>= d1
       x in
       let k = read_cost (own_element target) (index_elements target) in
@@ -142,8 +142,8 @@ module _ (setting : Setting) where
       (index_nodes target + (k + (h + 1))) finds
       (done_then (kept_apart setting.program (own_element target) (index_elements target) st) (d1 cell) tt end k (h + 1)
       (k + (h + 1)) (done_apart setting.program (own_element target) (index_elements target) st unshared)
-      (done_then (fault_if not_nil_fault (not (is_nil (read st cell)))) (d2 cell) tt end 0 (h + 1) (h + 1)
-      (passes not_nil_fault (not (is_nil (read st cell))) (ap (λ v. not (is_nil v)) nil))
+      (done_then (fault_if NOT_NIL (not (is_nil (read st cell)))) (d2 cell) tt end 0 (h + 1) (h + 1)
+      (passes NOT_NIL (not (is_nil (read st cell))) (ap (λ v. not (is_nil v)) nil))
       (done_then (spend (h + 1)) (d3 cell) tt end (h + 1) 0 (h + 1) refl done (omega arith)) (omega arith)) refl) refl
 
   delete_goes : (m at : ℕ) (run : Runner) (class : Ident) (target : Lvalue) (st : State) (cell : Cell) (name : ℕ)
@@ -161,13 +161,13 @@ module _ (setting : Setting) where
       let end = freed setting cell name st in
       let thing : Cell → Object = λ x. object_at st.store (number_of (read st x)) in
       let d6 : Cell → Unit {0} → Run State = λ x u. ends (freed setting x (number_of (read st x)) st) in
-      let d5 : Cell → Unit {0} → Run State = λ x u. fault_if not_empty_fault (not (all_zero (thing x).cells)) >>= d6 x
+      let d5 : Cell → Unit {0} → Run State = λ x u. fault_if NOT_EMPTY (not (all_zero (thing x).cells)) >>= d6 x
       in
       let d4 : Cell → Unit {0} → Run State = λ x u. spend (h + 1) >>= d5 x in
-      let d3 : Cell → Unit {0} → Run State = λ x u. fault_if count_fault (not (nat_eq (thing x).count 1)) >>= d4 x in
-      let d2 : Cell → Unit {0} → Run State = λ x u. fault_if class_differs_fault
+      let d3 : Cell → Unit {0} → Run State = λ x u. fault_if COUNT (not (nat_eq (thing x).count 1)) >>= d4 x in
+      let d2 : Cell → Unit {0} → Run State = λ x u. fault_if CLASS_DIFFERS
       (not (is_of_class (thing x).head (class_number setting.program class.text))) >>= d3 x in
-      let d1 : Cell → Unit {0} → Run State = λ x u. fault_if nil_fault (is_nil (read st x)) >>= d2 x in
+      let d1 : Cell → Unit {0} → Run State = λ x u. fault_if NIL (is_nil (read st x)) >>= d2 x in
       let d0 : Cell → Run State = λ x. kept_apart setting.program (own_element target) (index_elements target) st >>= d1
       x in
       let k = read_cost (own_element target) (index_elements target) in
@@ -183,17 +183,17 @@ module _ (setting : Setting) where
       (index_nodes target + (k + (h + 1))) finds
       (done_then (kept_apart setting.program (own_element target) (index_elements target) st) (d1 cell) tt end k (h + 1)
       (k + (h + 1)) (done_apart setting.program (own_element target) (index_elements target) st unshared)
-      (done_then (fault_if nil_fault (is_nil (read st cell))) (d2 cell) tt end 0 (h + 1) (h + 1)
-      (passes nil_fault (is_nil (read st cell)) (ap is_nil holds))
-      (done_then (fault_if class_differs_fault (not (is_of_class (thing cell).head
+      (done_then (fault_if NIL (is_nil (read st cell))) (d2 cell) tt end 0 (h + 1) (h + 1)
+      (passes NIL (is_nil (read st cell)) (ap is_nil holds))
+      (done_then (fault_if CLASS_DIFFERS (not (is_of_class (thing cell).head
       (class_number setting.program class.text)))) (d3 cell) tt end 0 (h + 1) (h + 1)
-      (passes class_differs_fault (not (is_of_class (thing cell).head (class_number setting.program class.text)))
+      (passes CLASS_DIFFERS (not (is_of_class (thing cell).head (class_number setting.program class.text)))
       is_class)
-      (done_then (fault_if count_fault (not (nat_eq (thing cell).count 1))) (d4 cell) tt end 0 (h + 1) (h + 1)
-      (passes count_fault (not (nat_eq (thing cell).count 1)) is_counted)
+      (done_then (fault_if COUNT (not (nat_eq (thing cell).count 1))) (d4 cell) tt end 0 (h + 1) (h + 1)
+      (passes COUNT (not (nat_eq (thing cell).count 1)) is_counted)
       (done_then (spend (h + 1)) (d5 cell) tt end (h + 1) 0 (h + 1) refl
-      (done_then (fault_if not_empty_fault (not (all_zero (thing cell).cells))) (d6 cell) tt end 0 0 0
-      (passes not_empty_fault (not (all_zero (thing cell).cells)) is_empty)
+      (done_then (fault_if NOT_EMPTY (not (all_zero (thing cell).cells))) (d6 cell) tt end 0 0 0
+      (passes NOT_EMPTY (not (all_zero (thing cell).cells)) is_empty)
       (ap (λ v. Done (freed setting cell (number_of v) st) 0) holds) refl) (omega arith)) (omega arith)) (omega arith))
       (omega arith)) refl) refl
 
@@ -210,8 +210,8 @@ module _ (setting : Setting) where
       let d5 : Cell → ℕ → Unit {0} → Run State = λ x n u. allocated setting n x (head n) (replicate n element) st >>= d6
       n in
       let d4 : Cell → ℕ → Unit {0} → Run State = λ x n u. spend (h + 1) >>= d5 x n in
-      let d3 : Cell → ℕ → Unit {0} → Run State = λ x n u. fault_if length_fault (is_less n 1) >>= d4 x n in
-      let d2 : Cell → Value → Run State = λ x v. fault_if not_nil_fault (not (is_nil (read st x))) >>= d3 x
+      let d3 : Cell → ℕ → Unit {0} → Run State = λ x n u. fault_if LENGTH (is_less n 1) >>= d4 x n in
+      let d2 : Cell → Value → Run State = λ x v. fault_if NOT_NIL (not (is_nil (read st x))) >>= d3 x
       (number_of v) in
       let d1 : Cell → Run State = λ x. evaluated setting.program size st >>= d2 x in
       let last : d6 count end ≡ Done end count = ap (Done end) (let z : count + 0 ≡ count = omega arith in z) in
@@ -219,10 +219,10 @@ module _ (setting : Setting) where
       (index_nodes target + (nodes size + (h + 1 + count))) finds
       (done_then (evaluated setting.program size st) (d2 cell) (Word count) end (nodes size) (h + 1 + count)
       (nodes size + (h + 1 + count)) evaluates
-      (done_then (fault_if not_nil_fault (not (is_nil (read st cell)))) (d3 cell count) tt end 0 (h + 1 + count)
-      (h + 1 + count) (passes not_nil_fault (not (is_nil (read st cell))) (ap (λ v. not (is_nil v)) nil))
-      (done_then (fault_if length_fault (is_less count 1)) (d4 cell count) tt end 0 (h + 1 + count) (h + 1 + count)
-      (passes length_fault (is_less count 1) long)
+      (done_then (fault_if NOT_NIL (not (is_nil (read st cell)))) (d3 cell count) tt end 0 (h + 1 + count)
+      (h + 1 + count) (passes NOT_NIL (not (is_nil (read st cell))) (ap (λ v. not (is_nil v)) nil))
+      (done_then (fault_if LENGTH (is_less count 1)) (d4 cell count) tt end 0 (h + 1 + count) (h + 1 + count)
+      (passes LENGTH (is_less count 1) long)
       (done_then (spend (h + 1)) (d5 cell count) tt end (h + 1) count (h + 1 + count) refl
       (done_then (allocated setting count cell (head count) (replicate count element) st) (d6 count) end end 0 count
       count done last (omega arith)) refl) (omega arith)) (omega arith)) refl) refl
@@ -239,13 +239,13 @@ module _ (setting : Setting) where
       let end = freed setting cell name st in
       let thing : Cell → Object = λ x. object_at st.store (number_of (read st x)) in
       let d7 : Cell → Unit {0} → Run State = λ x u. ends (freed setting x (number_of (read st x)) st) in
-      let d6 : Cell → Unit {0} → Run State = λ x u. fault_if not_empty_fault (not (all_zero (thing x).cells)) >>= d7 x
+      let d6 : Cell → Unit {0} → Run State = λ x u. fault_if NOT_EMPTY (not (all_zero (thing x).cells)) >>= d7 x
       in
       let d5 : Cell → Unit {0} → Run State = λ x u. spend (h + 1 + length (thing x).cells) >>= d6 x in
-      let d4 : Cell → Unit {0} → Run State = λ x u. fault_if count_fault (not (nat_eq (thing x).count 1)) >>= d5 x in
-      let d3 : Cell → Value → Unit {0} → Run State = λ x v u. fault_if length_differs_fault
+      let d4 : Cell → Unit {0} → Run State = λ x u. fault_if COUNT (not (nat_eq (thing x).count 1)) >>= d5 x in
+      let d3 : Cell → Value → Unit {0} → Run State = λ x v u. fault_if LENGTH_DIFFERS
       (not (nat_eq (length (thing x).cells) (number_of v))) >>= d4 x in
-      let d2 : Cell → Value → Run State = λ x v. fault_if nil_fault (is_nil (read st x)) >>= d3 x v in
+      let d2 : Cell → Value → Run State = λ x v. fault_if NIL (is_nil (read st x)) >>= d3 x v in
       let d1 : Cell → Run State = λ x. evaluated setting.program size st >>= d2 x in
       let is_thing : thing cell ≡ new_object head (replicate count element) =
       ap (λ v. object_at st.store (number_of v)) holds ∙ is in
@@ -260,17 +260,17 @@ module _ (setting : Setting) where
       (index_nodes target + (nodes size + (h + 1 + count))) finds
       (done_then (evaluated setting.program size st) (d2 cell) (Word count) end (nodes size) (h + 1 + count)
       (nodes size + (h + 1 + count)) evaluates
-      (done_then (fault_if nil_fault (is_nil (read st cell))) (d3 cell (Word count)) tt end 0 (h + 1 + count)
-      (h + 1 + count) (passes nil_fault (is_nil (read st cell)) (ap is_nil holds))
-      (done_then (fault_if length_differs_fault (not (nat_eq (length (thing cell).cells) count))) (d4 cell) tt end 0
-      (h + 1 + count) (h + 1 + count) (passes length_differs_fault
+      (done_then (fault_if NIL (is_nil (read st cell))) (d3 cell (Word count)) tt end 0 (h + 1 + count)
+      (h + 1 + count) (passes NIL (is_nil (read st cell)) (ap is_nil holds))
+      (done_then (fault_if LENGTH_DIFFERS (not (nat_eq (length (thing cell).cells) count))) (d4 cell) tt end 0
+      (h + 1 + count) (h + 1 + count) (passes LENGTH_DIFFERS
       (not (nat_eq (length (thing cell).cells) count)) is_long)
-      (done_then (fault_if count_fault (not (nat_eq (thing cell).count 1))) (d5 cell) tt end 0 (h + 1 + count)
-      (h + 1 + count) (passes count_fault (not (nat_eq (thing cell).count 1)) is_counted)
+      (done_then (fault_if COUNT (not (nat_eq (thing cell).count 1))) (d5 cell) tt end 0 (h + 1 + count)
+      (h + 1 + count) (passes COUNT (not (nat_eq (thing cell).count 1)) is_counted)
       (done_then (spend (h + 1 + length (thing cell).cells)) (d6 cell) tt end (h + 1 + length (thing cell).cells) 0
       (h + 1 + count) refl
-      (done_then (fault_if not_empty_fault (not (all_zero (thing cell).cells))) (d7 cell) tt end 0 0 0
-      (passes not_empty_fault (not (all_zero (thing cell).cells)) is_empty)
+      (done_then (fault_if NOT_EMPTY (not (all_zero (thing cell).cells))) (d7 cell) tt end 0 0 0
+      (passes NOT_EMPTY (not (all_zero (thing cell).cells)) is_empty)
       (ap (λ v. Done (freed setting cell (number_of v) st) 0) holds) refl)
       (ap (λ k. h + 1 + k + 0) many ∙ (let z : h + 1 + count + 0 ≡ h + 1 + count = omega arith in z)))
       (omega arith)) (omega arith)) (omega arith)) refl) refl
@@ -289,8 +289,8 @@ module _ (setting : Setting) where
   was_allocated size cell head cells a b cost e =
       let test = nat_lt setting.limits.heap (order_of_cells size) || is_none
       (place setting.limits.heap (Taken (2 + count_taken a.log) (order_of_cells size) ∷ a.log)) in
-      let one = in_parts (fault_if heap_full_fault test) (λ u. ends (made a cell size head cells)) b cost e in
-      let check = passed_check heap_full_fault test one.middle one.before one.first in
+      let one = in_parts (fault_if HEAP_FULL test) (λ u. ends (made a cell size head cells)) b cost e in
+      let check = passed_check HEAP_FULL test one.middle one.before one.first in
       let parts = either_false (nat_lt setting.limits.heap (order_of_cells size))
       (is_none (place setting.limits.heap (Taken (2 + count_taken a.log) (order_of_cells size) ∷ a.log))) check.0 in
       record {
@@ -308,9 +308,9 @@ module _ (setting : Setting) where
   allocates size cell head cells st low some =
       let test = nat_lt setting.limits.heap (order_of_cells size) || is_none
       (place setting.limits.heap (Taken (2 + count_taken st.log) (order_of_cells size) ∷ st.log)) in
-      done_then (fault_if heap_full_fault test) (λ u. ends (made st cell size head cells)) tt
+      done_then (fault_if HEAP_FULL test) (λ u. ends (made st cell size head cells)) tt
       (made st cell size head cells) 0 0 0
-      (passes heap_full_fault test (both_false (nat_lt setting.limits.heap (order_of_cells size))
+      (passes HEAP_FULL test (both_false (nat_lt setting.limits.heap (order_of_cells size))
       (is_none (place setting.limits.heap (Taken (2 + count_taken st.log) (order_of_cells size) ∷ st.log))) low
       some)) refl refl
 
@@ -424,20 +424,20 @@ module _ (setting : Setting) (G : Ground setting) where
       let cells = new_cells setting.program class in
       let d3 : Cell → Unit {0} → Run State = λ cell w. allocated setting (length cells) cell (OfClass number) cells a in
       let d2 : Cell → Unit {0} → Run State = λ cell u. spend (h + 1) >>= d3 cell in
-      let d1 : Cell → Unit {0} → Run State = λ cell u. fault_if not_nil_fault (not (is_nil (read a cell))) >>= d2 cell
+      let d1 : Cell → Unit {0} → Run State = λ cell u. fault_if NOT_NIL (not (is_nil (read a cell))) >>= d2 cell
       in
       let one = in_parts (found setting.program target a) (λ cell. kept_apart setting.program (own_element target)
       (index_elements target) a >>= d1 cell) b c e in
       let cell = one.middle in
       let check_apart = in_parts (kept_apart setting.program (own_element target) (index_elements target) a) (d1 cell) b
       one.after one.second in
-      let two = in_parts (fault_if not_nil_fault (not (is_nil (read a cell)))) (d2 cell) b check_apart.after
+      let two = in_parts (fault_if NOT_NIL (not (is_nil (read a cell)))) (d2 cell) b check_apart.after
       check_apart.second in
       let three = in_parts (spend (h + 1)) (d3 cell) b two.after two.second in
       let unshared = apart_done setting.program (own_element target) (index_elements target) a check_apart.middle
       check_apart.before check_apart.first in
       let place_a = given_done (index_nodes target) (cell_of setting.program a target) cell one.before one.first in
-      let check = passed_check not_nil_fault (not (is_nil (read a cell))) two.middle two.before two.first in
+      let check = passed_check NOT_NIL (not (is_nil (read a cell))) two.middle two.before two.first in
       let spent = done_cost tt three.middle (h + 1) three.before three.first in
       let nil = is_nil_value (read a cell) (not_false (is_nil (read a cell)) check.0) in
       let facts = G.new_object C at class target a cell typed good place_a.0 unshared.0 nil in
@@ -482,13 +482,13 @@ module _ (setting : Setting) (G : Ground setting) where
       let cells = new_cells setting.program class in
       let thing : Cell → Object = λ x. object_at a.store (number_of (read a x)) in
       let last : Cell → Unit {0} → Run State = λ x u. ends (freed setting x (number_of (read a x)) a) in
-      let d6 : Cell → Unit {0} → Run State = λ x u. fault_if not_empty_fault (not (all_zero (thing x).cells)) >>= last x
+      let d6 : Cell → Unit {0} → Run State = λ x u. fault_if NOT_EMPTY (not (all_zero (thing x).cells)) >>= last x
       in
       let d5 : Cell → Unit {0} → Run State = λ x u. spend (h + 1) >>= d6 x in
-      let d4 : Cell → Unit {0} → Run State = λ x u. fault_if count_fault (not (nat_eq (thing x).count 1)) >>= d5 x in
-      let d3 : Cell → Unit {0} → Run State = λ x u. fault_if class_differs_fault
+      let d4 : Cell → Unit {0} → Run State = λ x u. fault_if COUNT (not (nat_eq (thing x).count 1)) >>= d5 x in
+      let d3 : Cell → Unit {0} → Run State = λ x u. fault_if CLASS_DIFFERS
       (not (is_of_class (thing x).head (class_number setting.program class.text))) >>= d4 x in
-      let d2 : Cell → Unit {0} → Run State = λ x u. fault_if nil_fault (is_nil (read a x)) >>= d3 x in
+      let d2 : Cell → Unit {0} → Run State = λ x u. fault_if NIL (is_nil (read a x)) >>= d3 x in
       let d1 : Cell → Run State = λ x. kept_apart setting.program (own_element target) (index_elements target) a >>= d2
       x in
       let one = in_parts (found setting.program target a) d1 b c e in
@@ -497,21 +497,21 @@ module _ (setting : Setting) (G : Ground setting) where
       let unshared = apart_done setting.program (own_element target) (index_elements target) a check_apart.middle
       check_apart.before check_apart.first in
       let cell = one.middle in
-      let two = in_parts (fault_if nil_fault (is_nil (read a cell))) (d3 cell) b check_apart.after check_apart.second in
-      let three = in_parts (fault_if class_differs_fault (not
+      let two = in_parts (fault_if NIL (is_nil (read a cell))) (d3 cell) b check_apart.after check_apart.second in
+      let three = in_parts (fault_if CLASS_DIFFERS (not
       (is_of_class (thing cell).head (class_number setting.program class.text)))) (d4 cell) b two.after
       two.second in
-      let four = in_parts (fault_if count_fault (not (nat_eq (thing cell).count 1))) (d5 cell) b three.after
+      let four = in_parts (fault_if COUNT (not (nat_eq (thing cell).count 1))) (d5 cell) b three.after
       three.second in
       let five = in_parts (spend (h + 1)) (d6 cell) b four.after four.second in
-      let six = in_parts (fault_if not_empty_fault (not (all_zero (thing cell).cells))) (last cell) b five.after
+      let six = in_parts (fault_if NOT_EMPTY (not (all_zero (thing cell).cells))) (last cell) b five.after
       five.second in
       let place_a = given_done (index_nodes target) (cell_of setting.program a target) cell one.before one.first in
-      let c2 = passed_check nil_fault (is_nil (read a cell)) two.middle two.before two.first in
-      let c3 = passed_check class_differs_fault (not (is_of_class (thing cell).head
+      let c2 = passed_check NIL (is_nil (read a cell)) two.middle two.before two.first in
+      let c3 = passed_check CLASS_DIFFERS (not (is_of_class (thing cell).head
       (class_number setting.program class.text))) three.middle three.before three.first in
-      let c4 = passed_check count_fault (not (nat_eq (thing cell).count 1)) four.middle four.before four.first in
-      let c6 = passed_check not_empty_fault (not (all_zero (thing cell).cells)) six.middle six.before six.first in
+      let c4 = passed_check COUNT (not (nat_eq (thing cell).count 1)) four.middle four.before four.first in
+      let c6 = passed_check NOT_EMPTY (not (all_zero (thing cell).cells)) six.middle six.before six.first in
       let spent = done_cost tt five.middle (h + 1) five.before five.first in
       let GoodC : State → Type 0 = λ s. G.Good C s in
       let facts = G.delete_object C at class target a cell typed good place_a.0 unshared.0 c2.0

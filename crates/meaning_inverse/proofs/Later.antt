@@ -14,12 +14,12 @@ use Rattle.meaning_reached.specs.roopl_semantics.Store.{Value, Word, Nil, Name, 
 use Rattle.meaning_reached.specs.roopl_semantics.Store.{Binding, State, number_of, is_nil, same_value, zero_values, cleared}
 use Rattle.meaning_reached.specs.roopl_semantics.Store.{object_named, object_at, changed_at, without}
 use Rattle.meaning_reached.specs.roopl_semantics.Value.{Cell, Slot, Part, read, written, evaluated, found, cell_named, own_class}
-use Rattle.meaning_reached.specs.roopl_semantics.Value.{nil_fault}
+use Rattle.meaning_reached.specs.roopl_semantics.Value.{NIL}
 use Rattle.meaning_reached.specs.roopl_semantics.Elements.{elements, index_elements, own_element, kept_apart}
 use Rattle.meaning_reached.specs.rpp_words.Words.{is_less}
-use Rattle.meaning_reached.specs.roopl_semantics.Execution.{is_of_class, same_cell, fi_fault, loop_fault, class_differs_fault}
-use Rattle.meaning_reached.specs.roopl_semantics.Execution.{not_same_fault, too_deep_fault, not_nil_fault, length_fault}
-use Rattle.meaning_reached.specs.roopl_semantics.Execution.{length_differs_fault, count_fault, not_empty_fault, all_zero, Setting}
+use Rattle.meaning_reached.specs.roopl_semantics.Execution.{is_of_class, same_cell, FI, LOOP, CLASS_DIFFERS}
+use Rattle.meaning_reached.specs.roopl_semantics.Execution.{NOT_SAME, TOO_DEEP, NOT_NIL, LENGTH}
+use Rattle.meaning_reached.specs.roopl_semantics.Execution.{LENGTH_DIFFERS, COUNT, NOT_EMPTY, all_zero, Setting}
 use Rattle.meaning_reached.specs.roopl_semantics.Execution.{Runner, bound, opened, closed, rest_of, moved_out, moved_back, new_object}
 use Rattle.meaning_reached.specs.roopl_semantics.Execution.{order_of_cells, counted, one_less, element_name, constructed, element_call}
 use Rattle.meaning_reached.specs.roopl_semantics.Execution.{cells_named, class_of, is_too_deep, invoked, allocated, freed, new_array}
@@ -373,8 +373,8 @@ module _ (setting : Setting) (run : Runner) (ih : (b : Statements) (st : State) 
       → Ends (new_array setting target size head element st) (Keeps st)
   keeps_new_array target size head element st =
       ends_then (found setting.program target st) _ _ (λ cell. ends_then (evaluated setting.program size st) _ _
-      (λ v. ends_then (fault_if not_nil_fault (not (is_nil (read st cell)))) _ _
-      (λ a. ends_then (fault_if length_fault (is_less (number_of v) 1)) _ _
+      (λ v. ends_then (fault_if NOT_NIL (not (is_nil (read st cell)))) _ _
+      (λ a. ends_then (fault_if LENGTH (is_less (number_of v) 1)) _ _
       (λ b. ends_then (spend (setting.limits.heap + 1)) _ _ (λ c.
       ends_on (allocated setting (number_of v) cell (head (number_of v)) (replicate (number_of v) element) st) _
       (Keeps st) _ (keeps_allocated (number_of v) cell (head (number_of v)) (replicate (number_of v) element) st)
@@ -384,13 +384,13 @@ module _ (setting : Setting) (run : Runner) (ih : (b : Statements) (st : State) 
       → Ends (delete_array setting target size st) (Keeps st)
   keeps_delete_array target size st =
       ends_then (found setting.program target st) _ _ (λ cell. ends_then (evaluated setting.program size st) _ _
-      (λ v. ends_then (fault_if nil_fault (is_nil (read st cell))) _ _ (λ a.
-      ends_then (fault_if length_differs_fault (not (nat_eq
+      (λ v. ends_then (fault_if NIL (is_nil (read st cell))) _ _ (λ a.
+      ends_then (fault_if LENGTH_DIFFERS (not (nat_eq
       (length (object_at st.store (number_of (read st cell))).cells) (number_of v)))) _ _
-      (λ b. ends_then (fault_if count_fault (not (nat_eq (object_at st.store (number_of (read st cell))).count 1)))
+      (λ b. ends_then (fault_if COUNT (not (nat_eq (object_at st.store (number_of (read st cell))).count 1)))
       _ _ (λ c.
       ends_then (spend (setting.limits.heap + 1 + length (object_at st.store (number_of (read st cell))).cells)) _ _
-      (λ d. ends_then (fault_if not_empty_fault (not (all_zero
+      (λ d. ends_then (fault_if NOT_EMPTY (not (all_zero
       (object_at st.store (number_of (read st cell))).cells))) _ _ (λ x.
       ends_done _ 0 _ (later_freed setting cell (number_of (read st cell)) st))))))))
 
@@ -411,9 +411,9 @@ module _ (setting : Setting) (run : Runner) (ih : (b : Statements) (st : State) 
       ends_then (evaluated setting.program test st) _ _ (λ v. ends_on (run (cond (holds v) taken other) st) _ (Keeps st)
       _ (ih (cond (holds v) taken other) st) (λ end keeps.
       ends_then (evaluated setting.program after end) _ _ (λ w. ends_then
-      (fault_if fi_fault (if holds v then not (holds w) else holds w)) _ _ (λ u. ends_done end 0 _ keeps))))
+      (fault_if FI (if holds v then not (holds w) else holds w)) _ _ (λ u. ends_done end 0 _ keeps))))
   keeps_statement n (From at entry first again exit) st =
-      ends_then (evaluated setting.program entry st) _ _ (λ v. ends_then (fault_if loop_fault (not (holds v))) _ _
+      ends_then (evaluated setting.program entry st) _ _ (λ v. ends_then (fault_if LOOP (not (holds v))) _ _
       (λ u. keeps_turns n entry first again exit st))
   keeps_statement n (Construct at class name body end) st =
       keeps_local name.text (Null at) (constructed at class name body) (Null at) st
@@ -423,7 +423,7 @@ module _ (setting : Setting) (run : Runner) (ih : (b : Statements) (st : State) 
       let cells = zero_values (class_fields setting.program number) in
       ends_then (found setting.program target st) _ _ (λ cell. ends_then
       (kept_apart setting.program (own_element target) (index_elements target) st) _ _
-      (λ z. ends_then (fault_if not_nil_fault (not (is_nil (read st cell)))) _ _
+      (λ z. ends_then (fault_if NOT_NIL (not (is_nil (read st cell)))) _ _
       (λ u. ends_then (spend (setting.limits.heap + 1)) _ _
       (λ w. keeps_allocated (length cells) cell (OfClass number) cells st))))
   keeps_statement n (New at (Ints size) target) st = keeps_new_array target size OfInts (Word 0) st
@@ -432,12 +432,12 @@ module _ (setting : Setting) (run : Runner) (ih : (b : Statements) (st : State) 
   keeps_statement n (Delete at (AnObject class) target) st =
       ends_then (found setting.program target st) _ _ (λ cell. ends_then
       (kept_apart setting.program (own_element target) (index_elements target) st) _ _
-      (λ z. ends_then (fault_if nil_fault (is_nil (read st cell))) _ _ (λ a.
-      ends_then (fault_if class_differs_fault (not (is_of_class (object_at st.store (number_of (read st cell))).head
+      (λ z. ends_then (fault_if NIL (is_nil (read st cell))) _ _ (λ a.
+      ends_then (fault_if CLASS_DIFFERS (not (is_of_class (object_at st.store (number_of (read st cell))).head
       (class_number setting.program class.text)))) _ _ (λ b.
-      ends_then (fault_if count_fault (not (nat_eq (object_at st.store (number_of (read st cell))).count 1))) _ _
+      ends_then (fault_if COUNT (not (nat_eq (object_at st.store (number_of (read st cell))).count 1))) _ _
       (λ c. ends_then (spend (setting.limits.heap + 1)) _ _ (λ d.
-      ends_then (fault_if not_empty_fault (not (all_zero (object_at st.store (number_of (read st cell))).cells))) _ _
+      ends_then (fault_if NOT_EMPTY (not (all_zero (object_at st.store (number_of (read st cell))).cells))) _ _
       (λ x. ends_done (freed setting cell (number_of (read st cell)) st) 0 _
       (later_freed setting cell (number_of (read st cell)) st))))))))
   keeps_statement n (Delete at (Ints size) target) st = keeps_delete_array target size st
@@ -446,8 +446,8 @@ module _ (setting : Setting) (run : Runner) (ih : (b : Statements) (st : State) 
       ends_then (found setting.program source st) _ _ (λ a. ends_then (found setting.program target st) _ _
       (λ b. ends_then (kept_apart setting.program (own_element target)
       (index_elements source ++ index_elements target) st) _ _
-      (λ z. ends_then (fault_if nil_fault (is_nil (read st a))) _ _
-      (λ u. ends_then (fault_if not_nil_fault (not (is_nil (read st b)))) _ _ (λ w.
+      (λ z. ends_then (fault_if NIL (is_nil (read st a))) _ _
+      (λ u. ends_then (fault_if NOT_NIL (not (is_nil (read st b)))) _ _ (λ w.
       ends_done (counted suc (written st b (read st a)) (number_of (read st a))) 0 _
       (λ s. (let one = later_written st b (read st a) s in
       later_then st _ _ one (later_counted suc _ (number_of (read st a)) one.sound))))))))
@@ -455,20 +455,20 @@ module _ (setting : Setting) (run : Runner) (ih : (b : Statements) (st : State) 
       ends_then (found setting.program source st) _ _ (λ a. ends_then (found setting.program target st) _ _
       (λ b. ends_then (kept_apart setting.program (own_element target)
       (index_elements source ++ index_elements target) st) _ _
-      (λ z. ends_then (fault_if nil_fault (is_nil (read st a))) _ _ (λ u.
-      ends_then (fault_if not_same_fault (not (same_value (read st a) (read st b)) || same_cell a b)) _ _ (λ w.
+      (λ z. ends_then (fault_if NIL (is_nil (read st a))) _ _ (λ u.
+      ends_then (fault_if NOT_SAME (not (same_value (read st a) (read st b)) || same_cell a b)) _ _ (λ w.
       ends_done (counted one_less (written st b Nil) (number_of (read st a))) 0 _
       (λ s. (let one = later_written st b Nil s in later_then st _ _ one
       (later_counted one_less _ (number_of (read st a)) one.sound))))))))
   keeps_statement n (Call at back None method args) st =
-      ends_then (spend (length args)) _ _ (λ u. ends_then (fault_if too_deep_fault (is_too_deep setting st)) _ _ (λ w.
+      ends_then (spend (length args)) _ _ (λ u. ends_then (fault_if TOO_DEEP (is_too_deep setting st)) _ _ (λ w.
       keeps_invoked back (method_named setting.program (own_class st) method.text) st.self []
       (cells_named setting st args) st))
   keeps_statement n (Call at back (Some (Whole name)) method args) st =
       let cell = cell_named setting.program st name.text in
       let self = number_of (read st cell) in
-      ends_then (spend (length args)) _ _ (λ u. ends_then (fault_if nil_fault (is_nil (read st cell))) _ _
-      (λ w. ends_then (fault_if too_deep_fault (is_too_deep setting st)) _ _ (λ x.
+      ends_then (spend (length args)) _ _ (λ u. ends_then (fault_if NIL (is_nil (read st cell))) _ _
+      (λ w. ends_then (fault_if TOO_DEEP (is_too_deep setting st)) _ _ (λ x.
       keeps_invoked back (method_named setting.program (class_of setting st self) method.text) self (cell ∷ [])
       (cells_named setting st args) st)))
   keeps_statement n (Call at back (Some (Item name index)) method args) st =

@@ -5,7 +5,7 @@ use Rattle.meaning_reached.specs.rpp_tree.declared.tree.Var.{Var}
 use Rattle.meaning_reached.specs.roopl_semantics.Run.{Done, fault_if}
 use Rattle.meaning_reached.specs.roopl_semantics.Store.{Value, Word, Nil, Name, Binding, State, is_zero, cleared, object_named}
 use Rattle.meaning_reached.specs.roopl_semantics.Value.{Cell, Slot, Part, value_at, with_value, read, written}
-use Rattle.meaning_reached.specs.roopl_semantics.Execution.{same_cell, bound, moved_out, moved_back, touched_fault}
+use Rattle.meaning_reached.specs.roopl_semantics.Execution.{same_cell, bound, moved_out, moved_back, TOUCHED}
 use Rattle.meaning_reached.specs.roopl_semantics.Agreement.{renamed}
 use Rattle.meaning_inverse.specs.StatesAgree.{renamed_binding}
 use Rattle.meaning_inverse.proofs.Runs.{in_parts, done_then, done_result, done_cost, passed_check, passes}
@@ -46,7 +46,7 @@ read_moved_back : (cells : List Cell) (values : List Value) (c : Cell) (st end :
 read_moved_back [] values c st end cost h e = ap (λ s. read s c) (sym (done_result st end 0 cost e))
 read_moved_back (d ∷ cells) [] c st end cost h e = ap (λ s. read s c) (sym (done_result st end 0 cost e))
 read_moved_back (d ∷ cells) (v ∷ values) c st end cost h e =
-    let one = in_parts (fault_if touched_fault (not (is_zero (read st d))))
+    let one = in_parts (fault_if TOUCHED (not (is_zero (read st d))))
     (λ u. moved_back cells values (written st d v)) end cost e in
     read_moved_back cells values c (written st d v) end one.after h.1 one.second ∙ read_apart st d c v (turned c d h.0)
 
@@ -81,9 +81,9 @@ moved_back_does [] [] st end cost many apart there e sorts =
 moved_back_does [] (v ∷ values) st end cost many apart there e sorts = absurd (omega arith)
 moved_back_does (c ∷ cells) [] st end cost many apart there e sorts = absurd (omega arith)
 moved_back_does (c ∷ cells) (v ∷ values) st end cost many apart there e sorts =
-    let one = in_parts (fault_if touched_fault (not (is_zero (read st c))))
+    let one = in_parts (fault_if TOUCHED (not (is_zero (read st c))))
     (λ u. moved_back cells values (written st c v)) end cost e in
-    let check = passed_check touched_fault (not (is_zero (read st c))) one.middle one.before one.first in
+    let check = passed_check TOUCHED (not (is_zero (read st c))) one.middle one.before one.first in
     let stays : (d : Cell) → same_cell c d ≡ false → is_word (read st d) ≡ is_word (read end d)
     → is_word (read (written st c v) d) ≡ is_word (read end d) = λ d h k. ap is_word (read_apart st c d v h) ∙ k in
     let rest = moved_back_does cells values (written st c v) end one.after (omega arith) apart.1
@@ -124,9 +124,9 @@ moved_there_and_back (c ∷ cells) st apart there =
     ∙ written_twice (moved_out cells st) c (cleared (read st c)) (read st c)
     ∙ ap (written (moved_out cells st) c) (sym (read_moved_out cells c st apart.0))
     ∙ written_same (moved_out cells st) c in
-    done_then (fault_if touched_fault (not (is_zero (read s c))))
+    done_then (fault_if TOUCHED (not (is_zero (read s c))))
     (λ u. moved_back cells (map (read st) cells) (written s c (read st c))) tt st 0 0 0
-    (passes touched_fault (not (is_zero (read s c))) (ap (λ x. not (is_zero x)) reads
+    (passes TOUCHED (not (is_zero (read s c))) (ap (λ x. not (is_zero x)) reads
     ∙ ap not (cleared_zero (read st c))))
     (ap (moved_back cells (map (read st) cells)) back ∙ moved_there_and_back cells st apart.1 there.1) refl
 
@@ -161,19 +161,19 @@ moved_back_seen h f (c ∷ cells) [] first second end cost s e =
     let P : State → Type 0 = λ x. Sees h f x second in
     record { back = second; done = refl; sees = subst P (done_result first end 0 cost e) s }
 moved_back_seen h f (c ∷ cells) (v ∷ values) first second end cost s e =
-    let one = in_parts (fault_if touched_fault (not (is_zero (read first c))))
+    let one = in_parts (fault_if TOUCHED (not (is_zero (read first c))))
     (λ u. moved_back cells values (written first c v)) end cost e in
-    let check = passed_check touched_fault (not (is_zero (read first c))) one.middle one.before one.first in
+    let check = passed_check TOUCHED (not (is_zero (read first c))) one.middle one.before one.first in
     let c' = cell_for f c in
     let v' = renamed f.there v in
     let rest = moved_back_seen h f cells values (written first c v) (written second c' v') end one.after
     (written_seen h f first second s c v) one.second in
     record {
       back = rest.back;
-      done = done_then (fault_if touched_fault (not (is_zero (read second c'))))
+      done = done_then (fault_if TOUCHED (not (is_zero (read second c'))))
           (λ u. moved_back (map (cell_for f) cells) (map (renamed f.there) values) (written second c' v')) tt rest.back
           0 0 0
-          (passes touched_fault (not (is_zero (read second c')))
+          (passes TOUCHED (not (is_zero (read second c')))
           (ap (λ x. not (is_zero x)) (read_seen h f first second s c) ∙ ap not (same_is_zero f (read first c))
           ∙ check.0)) rest.done refl;
       sees = rest.sees;

@@ -7,7 +7,7 @@ use Rattle.meaning_reached.specs.inverse_rules.Inverse.{inverse}
 use Rattle.meaning_reached.specs.roopl_semantics.Run.{Run, Done, ◌>>=◌, give, fault_if}
 use Rattle.meaning_reached.specs.roopl_semantics.Store.{Value, State}
 use Rattle.meaning_reached.specs.roopl_semantics.Value.{value as value_in, evaluated}
-use Rattle.meaning_reached.specs.roopl_semantics.Execution.{Setting, statement, exec, holds, turns, turn_end, fi_fault, loop_fault}
+use Rattle.meaning_reached.specs.roopl_semantics.Execution.{Setting, statement, exec, holds, turns, turn_end, FI, LOOP}
 use Rattle.meaning_reached.specs.roopl_semantics.Agreement.{renamed}
 use Rattle.meaning_inverse.proofs.Runs.{in_parts, done_then, done_result, done_cost, given_done, passed_check, passes}
 use Rattle.meaning_inverse.proofs.Runs.{Runs}
@@ -61,22 +61,22 @@ module _ (setting : Setting) (G : Ground setting) where
   undo_if n ih C at test taken other after a b c typed good good_b e f b' sees =
       let one = in_parts (evaluated setting.program test a)
       (λ v. exec setting n (if holds v then taken else other) a >>=
-      (λ end. evaluated setting.program after end >>= (λ w. fault_if fi_fault
+      (λ end. evaluated setting.program after end >>= (λ w. fault_if FI
       (if holds v then not (holds w) else holds w) >>= (λ u. give end)))) b c e in
       let v = one.middle in
       let body = if holds v then taken else other in
       let two = in_parts (exec setting n body a) (λ end. evaluated setting.program after end >>=
-      (λ w. fault_if fi_fault (if holds v then not (holds w) else holds w) >>= (λ u. give end))) b one.after
+      (λ w. fault_if FI (if holds v then not (holds w) else holds w) >>= (λ u. give end))) b one.after
       one.second in
       let end = two.middle in
       let three = in_parts (evaluated setting.program after end)
-      (λ w. fault_if fi_fault (if holds v then not (holds w) else holds w) >>= (λ u. give end)) b two.after
+      (λ w. fault_if FI (if holds v then not (holds w) else holds w) >>= (λ u. give end)) b two.after
       two.second in
       let w = three.middle in
-      let four = in_parts (fault_if fi_fault (if holds v then not (holds w) else holds w)) (λ u. give end) b three.after
+      let four = in_parts (fault_if FI (if holds v then not (holds w) else holds w)) (λ u. give end) b three.after
       three.second in
       let is : end ≡ b = done_result end b 0 four.after four.second in
-      let check = passed_check fi_fault (if holds v then not (holds w) else holds w) four.middle four.before four.first
+      let check = passed_check FI (if holds v then not (holds w) else holds w) four.middle four.before four.first
       in
       let agree : holds w ≡ holds v = fi_checks (holds v) (holds w) check.0 in
       let first = given_done (nodes test) (value_in setting.program a test) v one.before one.first in
@@ -107,8 +107,8 @@ module _ (setting : Setting) (G : Ground setting) where
               (runs.by m (let i = one.sum in let j = two.sum in omega arith))
               (done_then (evaluated setting.program test back) _ v' back (nodes test) 0 (nodes test)
               (evaluated_seen setting.limits.heap g a back inner.sees setting.program test v clean_a.0 first.0)
-              (done_then (fault_if fi_fault (if holds w' then not (holds v') else holds v')) _ tt back 0 0 0
-              (passes fi_fault (if holds w' then not (holds v') else holds v')
+              (done_then (fault_if FI (if holds w' then not (holds v') else holds v')) _ tt back 0 0 0
+              (passes FI (if holds w' then not (holds v') else holds v')
               (fi_passes (holds v') (holds w') turn)) refl refl) (omega arith)) refl)
               (let z = done_cost end b 0 four.after four.second in let s1 = one.sum in let s2 = two.sum in
               let s3 = three.sum in let s4 = four.sum in let k1 = first.1 in let k2 = last.1 in
@@ -176,12 +176,12 @@ module _ (setting : Setting) (G : Ground setting) where
         (nodes entry + (c3 + (nodes exit + (c1 + d)))) enters
         (ap (λ t. turn_end setting (exec setting m) exit (inverse again) next t z') out
         ∙ done_then (exec setting m (inverse again) z') (λ end. evaluated setting.program exit end >>=
-        (λ v. fault_if loop_fault (holds v) >>= (λ u. next end))) x' rest.back c3 (nodes exit + (c1 + d))
+        (λ v. fault_if LOOP (holds v) >>= (λ u. next end))) x' rest.back c3 (nodes exit + (c1 + d))
         (c3 + (nodes exit + (c1 + d))) (runs_again.by m (omega arith))
-        (done_then (evaluated setting.program exit x') (λ v. fault_if loop_fault (holds v) >>= (λ u. next x')) v'
+        (done_then (evaluated setting.program exit x') (λ v. fault_if LOOP (holds v) >>= (λ u. next x')) v'
         rest.back (nodes exit) (c1 + d) (nodes exit + (c1 + d)) exits
-        (done_then (fault_if loop_fault (holds v')) (λ u. next x') tt rest.back 0 (c1 + d) (c1 + d)
-        (passes loop_fault (holds v') on) done (omega arith)) refl) refl)
+        (done_then (fault_if LOOP (holds v')) (λ u. next x') tt rest.back 0 (c1 + d) (c1 + d)
+        (passes LOOP (holds v') on) done (omega arith)) refl) refl)
         refl
       where
         by : (k : ℕ) → nodes entry + (c3 + (nodes exit + (c1 + d))) ≤ k
@@ -257,21 +257,21 @@ module _ (setting : Setting) (G : Ground setting) where
                 turn_back g start y y' x b' c1 d (c1 + d) k m rest runs refl (omega arith) (omega arith)
         by x v c1 c2 good_x undo later_x val false truth run sum more =
             let goes : (exec setting n again x >>= (λ end. evaluated setting.program entry end >>=
-            (λ w. fault_if loop_fault (holds w) >>= (λ u. turns setting j (exec setting n) entry first again
+            (λ w. fault_if LOOP (holds w) >>= (λ u. turns setting j (exec setting n) entry first again
             exit end)))) ≡ Done b c2 =
             ap (λ t. turn_end setting (exec setting n) entry again
             (turns setting j (exec setting n) entry first again exit) t x) (sym truth) ∙ run in
             let one = in_parts (exec setting n again x) (λ end. evaluated setting.program entry end >>=
-            (λ w. fault_if loop_fault (holds w) >>= (λ u. turns setting j (exec setting n) entry first again exit
+            (λ w. fault_if LOOP (holds w) >>= (λ u. turns setting j (exec setting n) entry first again exit
             end))) b c2 goes in
             let z = one.middle in
             let two = in_parts (evaluated setting.program entry z)
-            (λ w. fault_if loop_fault (holds w) >>= (λ u. turns setting j (exec setting n) entry first again exit
+            (λ w. fault_if LOOP (holds w) >>= (λ u. turns setting j (exec setting n) entry first again exit
             z)) b one.after one.second in
             let w = two.middle in
-            let three = in_parts (fault_if loop_fault (holds w))
+            let three = in_parts (fault_if LOOP (holds w))
             (λ u. turns setting j (exec setting n) entry first again exit z) b two.after two.second in
-            let check = passed_check loop_fault (holds w) three.middle three.before three.first in
+            let check = passed_check LOOP (holds w) three.middle three.before three.first in
             let enter = given_done (nodes entry) (value_in setting.program z entry) w two.before two.first in
             let blocks = G.turns C at entry first again exit typed in
             let good_z = G.keeps C n again x z one.before blocks.1 good_x one.first in
@@ -316,12 +316,12 @@ module _ (setting : Setting) (G : Ground setting) where
         → Undone setting (From at entry first again exit) f a b b' c
     undo_from a b c good e f b' sees =
         let one = in_parts (evaluated setting.program entry a)
-        (λ v. fault_if loop_fault (not (holds v)) >>= (λ u. turns setting n (exec setting n) entry first again exit
+        (λ v. fault_if LOOP (not (holds v)) >>= (λ u. turns setting n (exec setting n) entry first again exit
         a)) b c e in
         let v = one.middle in
-        let two = in_parts (fault_if loop_fault (not (holds v)))
+        let two = in_parts (fault_if LOOP (not (holds v)))
         (λ u. turns setting n (exec setting n) entry first again exit a) b one.after one.second in
-        let check = passed_check loop_fault (not (holds v)) two.middle two.before two.first in
+        let check = passed_check LOOP (not (holds v)) two.middle two.before two.first in
         let enter = given_done (nodes entry) (value_in setting.program a entry) v one.before one.first in
         let sound = G.sound C a good in
         let loop = loop_undone n a a b two.after (nodes entry) sound (later_itself a sound) good
@@ -344,12 +344,12 @@ module _ (setting : Setting) (G : Ground setting) where
           names = loop.names;
           does = record {
             by = λ m h.
-                done_then (evaluated setting.program exit b') (λ v. fault_if loop_fault (not (holds v)) >>=
+                done_then (evaluated setting.program exit b') (λ v. fault_if LOOP (not (holds v)) >>=
                 (λ u. turns setting m (exec setting m) exit (inverse first) (inverse again) entry b'))
                 loop.exit_value loop.back (nodes exit) loop.less c loop.is_exit
-                (done_then (fault_if loop_fault (not (holds loop.exit_value)))
+                (done_then (fault_if LOOP (not (holds loop.exit_value)))
                 (λ u. turns setting m (exec setting m) exit (inverse first) (inverse again) entry b') tt loop.back
-                0 loop.less loop.less (passes loop_fault (not (holds loop.exit_value)) (ap not loop.holds_there))
+                0 loop.less loop.less (passes LOOP (not (holds loop.exit_value)) (ap not loop.holds_there))
                 (loop.goes m m (let s1 = one.sum in let s2 = two.sum in let k1 = enter.1 in let k2 = check.1 in
                 omega arith) (let s1 = one.sum in let s2 = two.sum in let k1 = enter.1 in let k2 = check.1 in
                 omega arith)) (omega arith))

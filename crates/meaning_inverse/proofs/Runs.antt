@@ -5,7 +5,7 @@ use Rattle.meaning_reached.specs.rpp_tree.declared.tree.Ident.{Ident}
 use Rattle.meaning_reached.specs.rpp_tree.Tree.{Statement, Statements, Source, End, Then, joined}
 use Rattle.meaning_reached.specs.roopl_semantics.Run.{Run, Done, Fault, More, after_cost, ◌>>=◌, fault_if, given}
 use Rattle.meaning_reached.specs.roopl_semantics.Store.{State}
-use Rattle.meaning_reached.specs.roopl_semantics.Elements.{shared_array_fault, share_array, read_cost, kept_apart}
+use Rattle.meaning_reached.specs.roopl_semantics.Elements.{SHARED_ARRAY, share_array, read_cost, kept_apart}
 use Rattle.meaning_reached.specs.roopl_semantics.Execution.{Setting, statement, exec}
 use Rattle.meaning_reached.proofs.roopl_semantics_laws.CostBound.{exec_done_within}
 
@@ -75,14 +75,14 @@ checked_done k code false u c e = (refl, (let h = done_cost tt u (k + 0) c e in 
 pub apart_done : (program : Source) (changed reads : List Ident) (st : State) (u : Unit {0}) (c : ℕ)
     → kept_apart program changed reads st ≡ Done u c → (share_array program st changed reads ≡ false)
     × (read_cost changed reads ≡ c)
-apart_done program changed reads st u c e = checked_done (read_cost changed reads) shared_array_fault
+apart_done program changed reads st u c e = checked_done (read_cost changed reads) SHARED_ARRAY
     (share_array program st changed reads) u c e
 
 pub done_apart : (program : Source) (changed reads : List Ident) (st : State)
     → share_array program st changed reads ≡ false → kept_apart program changed reads st
     ≡ Done tt (read_cost changed reads)
 done_apart program changed reads st h =
-    ap (λ t. after_cost (read_cost changed reads) (fault_if shared_array_fault t)) h
+    ap (λ t. after_cost (read_cost changed reads) (fault_if SHARED_ARRAY t)) h
     ∙ ap (Done tt) (let z : read_cost changed reads + 0 ≡ read_cost changed reads = omega arith in z)
 
 pub given_done : {A : Type 0} (k : ℕ) (v : Result A ℕ) (x : A) (c : ℕ) → after_cost k (given v) ≡ Done x c

@@ -15,12 +15,12 @@ use Rattle.meaning_reached.specs.inverse_rules.Inverse.{inverse_as, inverse, inv
 use Rattle.meaning_reached.specs.roopl_semantics.Run.{Run, after_cost, ◌>>=◌, given, spend, fault_if}
 use Rattle.meaning_reached.specs.roopl_semantics.Store.{object_at, is_nil, Value, Head, OfClass, OfInts, OfObjects, State, Word, Nil}
 use Rattle.meaning_reached.specs.roopl_semantics.Store.{zero_values, number_of, same_value}
-use Rattle.meaning_reached.specs.roopl_semantics.Value.{nil_fault, Cell, Part, own_class, slot_or_field, slot_of, cell_named, read}
+use Rattle.meaning_reached.specs.roopl_semantics.Value.{NIL, Cell, Part, own_class, slot_or_field, slot_of, cell_named, read}
 use Rattle.meaning_reached.specs.roopl_semantics.Value.{variable_value, element_cell, element_of, read_cell, combined}
 use Rattle.meaning_reached.specs.roopl_semantics.Value.{value as value_in, cell_of, evaluated, found}
 use Rattle.meaning_reached.specs.roopl_semantics.Elements.{elements, index_elements, own_element, same_array, is_among, share_array}
-use Rattle.meaning_reached.specs.roopl_semantics.Elements.{read_cost, kept_apart, shared_array_fault}
-use Rattle.meaning_reached.specs.roopl_semantics.Execution.{not_nil_fault, class_differs_fault, too_deep_fault, is_of_class}
+use Rattle.meaning_reached.specs.roopl_semantics.Elements.{read_cost, kept_apart, SHARED_ARRAY}
+use Rattle.meaning_reached.specs.roopl_semantics.Execution.{NOT_NIL, CLASS_DIFFERS, TOO_DEEP, is_of_class}
 use Rattle.meaning_reached.specs.roopl_semantics.Execution.{is_too_deep, Setting, Runner, holds, opened, in_direction, constructed}
 use Rattle.meaning_reached.specs.roopl_semantics.Execution.{element_call, element_name, cells_named, class_of, invoked, allocated}
 use Rattle.meaning_reached.specs.roopl_semantics.Execution.{new_array, delete_array, with_local, turn_end, turns, statement, exec}
@@ -99,7 +99,7 @@ module _ (program : Source) where
 
   apart_same : (changed reads : List Ident) (st : State)
       → kept_apart other changed reads st ≡ kept_apart program changed reads st
-  apart_same changed reads st = ap (λ t. spend (read_cost changed reads) >>= (λ u. fault_if shared_array_fault t))
+  apart_same changed reads st = ap (λ t. spend (read_cost changed reads) >>= (λ u. fault_if SHARED_ARRAY t))
       (share_same st changed reads)
 
   module _ (limits : Limits) where
@@ -200,7 +200,7 @@ module _ (program : Source) where
       statement_same n (New at (AnObject class) target) st =
           same_bound _ _ _ _ (found_same target st) (λ cell. same_bound _ _ _ _
           (apart_same (own_element target) (index_elements target) st)
-          (λ u. goes_on (fault_if not_nil_fault (not (is_nil (read st cell)))) _ _
+          (λ u. goes_on (fault_if NOT_NIL (not (is_nil (read st cell)))) _ _
           (λ v. ap (after_cost (limits.heap + 1)) (
           ap (λ (o : Option ℕ). let cells = zero_values (class_fields other (unwrap_or o 0)) in
           allocated here (length cells) cell (OfClass (unwrap_or o 0)) cells st) (number_kept program class.text)
@@ -215,8 +215,8 @@ module _ (program : Source) where
       statement_same n (Delete at (AnObject class) target) st =
           same_bound _ _ _ _ (found_same target st) (λ cell. same_bound _ _ _ _
           (apart_same (own_element target) (index_elements target) st)
-          (λ u. goes_on (fault_if nil_fault (is_nil (read st cell))) _ _ (λ v.
-          same_bound _ _ _ _ (ap (λ (o : Option ℕ). fault_if class_differs_fault
+          (λ u. goes_on (fault_if NIL (is_nil (read st cell))) _ _ (λ v.
+          same_bound _ _ _ _ (ap (λ (o : Option ℕ). fault_if CLASS_DIFFERS
           (not (is_of_class (object_at st.store (number_of (read st cell))).head o)))
           (number_kept program class.text)) (λ w. refl))))
       statement_same n (Delete at (Ints size) target) st = delete_array_same target size st
@@ -230,7 +230,7 @@ module _ (program : Source) where
           (λ b. same_bound _ _ _ _ (apart_same (own_element target)
           (index_elements source ++ index_elements target) st) (λ u. refl)))
       statement_same n (Call at back None method args) st =
-          ap (after_cost (length args)) (goes_on (fault_if too_deep_fault (is_too_deep here st)) _ _ (λ v.
+          ap (after_cost (length args)) (goes_on (fault_if TOO_DEEP (is_too_deep here st)) _ _ (λ v.
           ap (λ m. invoked there run' back m st.self [] (cells_named there st args) st)
           (method_kept program (own_class st) method.text)
           ∙ ap (λ l. invoked there run' back (inverse_procedure (method_named program (own_class st) method.text))
@@ -240,12 +240,12 @@ module _ (program : Source) where
       statement_same n (Call at back (Some (Whole name)) method args) st =
           ap (after_cost (length args)) (
           ap (λ cell. let self = number_of (read st cell) in
-          fault_if nil_fault (is_nil (read st cell)) >>= (λ x. fault_if too_deep_fault (is_too_deep here st) >>= (λ y.
+          fault_if NIL (is_nil (read st cell)) >>= (λ x. fault_if TOO_DEEP (is_too_deep here st) >>= (λ y.
           invoked there run' back (method_named other (class_of here st self) method.text) self (cell ∷ [])
           (cells_named there st args) st))) (cell_same st name.text)
           ∙ (let cell = cell_named program st name.text in let self = number_of (read st cell) in
-          goes_on (fault_if nil_fault (is_nil (read st cell))) _ _
-          (λ x. goes_on (fault_if too_deep_fault (is_too_deep here st)) _ _ (λ y.
+          goes_on (fault_if NIL (is_nil (read st cell))) _ _
+          (λ x. goes_on (fault_if TOO_DEEP (is_too_deep here st)) _ _ (λ y.
           ap (λ m. invoked there run' back m self (cell ∷ []) (cells_named there st args) st)
           (method_kept program (class_of here st self) method.text)
           ∙ ap (λ l. invoked there run' back (inverse_procedure

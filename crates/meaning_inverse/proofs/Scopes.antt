@@ -14,10 +14,10 @@ use Rattle.meaning_reached.proofs.inverse_rules_laws.Inverses.{inverse-joined}
 use Rattle.meaning_reached.specs.roopl_semantics.Run.{Done, ◌>>=◌, give, fault_if}
 use Rattle.meaning_reached.specs.roopl_semantics.Store.{Value, Word, Nil, Name, Binding, State, object_at, number_of, same_value}
 use Rattle.meaning_reached.specs.roopl_semantics.Value.{Slot, Part, slot_of, slot_or_field, variable_value, element_of, read_cell}
-use Rattle.meaning_reached.specs.roopl_semantics.Value.{element_cell, index_fault, combined, value_at, read, value as value_in}
+use Rattle.meaning_reached.specs.roopl_semantics.Value.{element_cell, INDEX, combined, value_at, read, value as value_in}
 use Rattle.meaning_reached.specs.roopl_semantics.Value.{evaluated}
 use Rattle.meaning_reached.specs.roopl_semantics.Execution.{Setting, statement, exec, opened, closed, rest_of, constructed}
-use Rattle.meaning_reached.specs.roopl_semantics.Execution.{element_call, with_local, delocal_fault}
+use Rattle.meaning_reached.specs.roopl_semantics.Execution.{element_call, with_local, DELOCAL}
 use Rattle.meaning_reached.specs.roopl_semantics.Agreement.{renamed}
 use Rattle.meaning_inverse.proofs.Runs.{in_parts, done_then, done_result, done_cost, given_done, passed_check, passes}
 use Rattle.meaning_inverse.proofs.Later.{IsSound, Later, exec_later, frame_names}
@@ -90,8 +90,8 @@ module _ (program : Source) (name : List ℕ) (v : Value) (st : State) where
       by Nil k = refl
       by (Name n) k = at (nat_lt k (length (object_at st.store n).cells))
         where
-          at : (t : Bool) → read_cell (opened name v st) (if t then Ok (Part n k) else Err index_fault)
-              ≡ read_cell st (if t then Ok (Part n k) else Err index_fault)
+          at : (t : Bool) → read_cell (opened name v st) (if t then Ok (Part n k) else Err INDEX)
+              ≡ read_cell st (if t then Ok (Part n k) else Err INDEX)
           at true = refl
           at false = refl
 
@@ -196,8 +196,8 @@ module _ (setting : Setting) (G : Ground setting) where
             (nodes value) (c2 + nodes value) (inner.runs.by m (omega arith))
             (done_then (evaluated setting.program value inner.back) _ v' (closed inner.back) (nodes value) 0
             (nodes value) values
-            (done_then (fault_if delocal_fault (not (same_value (read inner.back (Slot 0)) v'))) _ tt
-            (closed inner.back) 0 0 0 (passes delocal_fault (not (same_value (read inner.back (Slot 0)) v'))
+            (done_then (fault_if DELOCAL (not (same_value (read inner.back (Slot 0)) v'))) _ tt
+            (closed inner.back) 0 0 0 (passes DELOCAL (not (same_value (read inner.back (Slot 0)) v'))
             (ap not holds_v)) refl refl) (omega arith)) refl) refl;
         sees = closed_seen setting.limits.heap g (opened name v a) inner.back inner.sees;
         same = inner.same;
@@ -214,22 +214,22 @@ module _ (setting : Setting) (G : Ground setting) where
   undo_scope n ih name value end_value body a b c sound none none_end clean clean_end enter e f b' sees =
       let one = in_parts (evaluated setting.program value a)
       (λ v. exec setting n body (opened name v a) >>= (λ end. evaluated setting.program end_value end >>=
-      (λ w. fault_if delocal_fault (not (same_value (read end (Slot 0)) w)) >>= (λ u. give (closed end))))) b c
+      (λ w. fault_if DELOCAL (not (same_value (read end (Slot 0)) w)) >>= (λ u. give (closed end))))) b c
       e in
       let v = one.middle in
       let two = in_parts (exec setting n body (opened name v a))
       (λ end. evaluated setting.program end_value end >>=
-      (λ w. fault_if delocal_fault (not (same_value (read end (Slot 0)) w)) >>= (λ u. give (closed end)))) b
+      (λ w. fault_if DELOCAL (not (same_value (read end (Slot 0)) w)) >>= (λ u. give (closed end)))) b
       one.after one.second in
       let end = two.middle in
       let three = in_parts (evaluated setting.program end_value end)
-      (λ w. fault_if delocal_fault (not (same_value (read end (Slot 0)) w)) >>= (λ u. give (closed end))) b
+      (λ w. fault_if DELOCAL (not (same_value (read end (Slot 0)) w)) >>= (λ u. give (closed end))) b
       two.after two.second in
       let w = three.middle in
-      let four = in_parts (fault_if delocal_fault (not (same_value (read end (Slot 0)) w))) (λ u. give (closed end)) b
+      let four = in_parts (fault_if DELOCAL (not (same_value (read end (Slot 0)) w))) (λ u. give (closed end)) b
       three.after three.second in
       let is : closed end ≡ b = done_result (closed end) b 0 four.after four.second in
-      let check = passed_check delocal_fault (not (same_value (read end (Slot 0)) w)) four.middle four.before four.first
+      let check = passed_check DELOCAL (not (same_value (read end (Slot 0)) w)) four.middle four.before four.first
       in
       let first = given_done (nodes value) (value_in setting.program a value) v one.before one.first in
       let last = given_done (nodes end_value) (value_in setting.program end end_value) w three.before three.first in

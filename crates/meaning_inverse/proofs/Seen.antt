@@ -20,7 +20,7 @@ use Rattle.meaning_reached.specs.roopl_semantics.Store.{class_of_head}
 use Rattle.meaning_reached.specs.class_rules.Members.{field_of}
 use Rattle.meaning_reached.specs.roopl_semantics.Value.{Cell, Slot, Part, slot_of, own_class, slot_or_field, cell_named, value_at}
 use Rattle.meaning_reached.specs.roopl_semantics.Value.{with_value, read, written, variable_value, element_cell, element_of, read_cell}
-use Rattle.meaning_reached.specs.roopl_semantics.Value.{combined, value as value_in, cell_of, index_fault, evaluated, found}
+use Rattle.meaning_reached.specs.roopl_semantics.Value.{combined, value as value_in, cell_of, INDEX, evaluated, found}
 use Rattle.meaning_reached.specs.roopl_semantics.Elements.{same_array, is_among, share_array}
 use Rattle.meaning_reached.specs.roopl_semantics.Execution.{holds, opened, closed, rest_of, counted}
 use Rattle.meaning_reached.specs.roopl_semantics.Agreement.{renamed, renamed_object}
@@ -305,11 +305,11 @@ module _ (h : ℕ) (f : Names) (first second : State) (s : Sees h f first second
   element_cell_seen (Word w) index = refl
   element_cell_seen Nil index = refl
   element_cell_seen (Name n) index =
-      ap (λ k. if nat_lt index k then Ok (Part (f.there n) index) else Err index_fault) (length_seen n)
+      ap (λ k. if nat_lt index k then Ok (Part (f.there n) index) else Err INDEX) (length_seen n)
       ∙ by (nat_lt index (length (object_at first.store n).cells))
     where
-      by : (t : Bool) → (if t then Ok (Part (f.there n) index) else Err index_fault)
-          ≡ cell_result_for f (if t then Ok (Part n index) else Err index_fault)
+      by : (t : Bool) → (if t then Ok (Part (f.there n) index) else Err INDEX)
+          ≡ cell_result_for f (if t then Ok (Part n index) else Err INDEX)
       by true = refl
       by false = refl
 

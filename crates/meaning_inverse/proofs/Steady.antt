@@ -11,7 +11,7 @@ use Rattle.meaning_reached.specs.rpp_tree.declared.tree.Ident.{Ident}
 use Rattle.meaning_reached.specs.roopl_semantics.Store.{Value, Word, Nil, Name, State, number_of, same_value, object_at}
 use Rattle.meaning_reached.specs.roopl_semantics.Elements.{elements, index_elements, own_element, same_array, is_among, share_array}
 use Rattle.meaning_reached.specs.roopl_semantics.Value.{Part, cell_named, variable_value, element_cell, element_of, read_cell, combined}
-use Rattle.meaning_reached.specs.roopl_semantics.Value.{value as value_in, cell_of, index_fault}
+use Rattle.meaning_reached.specs.roopl_semantics.Value.{value as value_in, cell_of, INDEX}
 use Rattle.meaning_reached.proofs.class_rules_laws.PassedRules.{handed_on, some_of}
 use Rattle.meaning_inverse.proofs.Scopes.{either_false}
 
@@ -117,11 +117,11 @@ element_same : (st end : State) (v : Value) (i : ℕ) → SameArray st end v
 element_same st end (Word w) i h = refl
 element_same st end Nil i h = refl
 element_same st end (Name b) i h =
-    ap (λ cells. read_cell end (if nat_lt i (length cells) then Ok (Part b i) else Err index_fault)) h
+    ap (λ cells. read_cell end (if nat_lt i (length cells) then Ok (Part b i) else Err INDEX)) h
     ∙ by (nat_lt i (length (object_at st.store b).cells))
   where
-    by : (t : Bool) → read_cell end (if t then Ok (Part b i) else Err index_fault)
-        ≡ read_cell st (if t then Ok (Part b i) else Err index_fault)
+    by : (t : Bool) → read_cell end (if t then Ok (Part b i) else Err INDEX)
+        ≡ read_cell st (if t then Ok (Part b i) else Err INDEX)
     by true = ap (λ cells. Ok (unwrap_or (slice_get cells i) Nil)) h
     by false = refl
 
@@ -175,7 +175,7 @@ own_read program st end (Item name index) h = (h.1, tt)
 cell_same : (st end : State) (v : Value) (i : ℕ) → SameLength st end v → element_cell end v i ≡ element_cell st v i
 cell_same st end (Word w) i h = refl
 cell_same st end Nil i h = refl
-cell_same st end (Name b) i h = ap (λ n. if nat_lt i n then Ok (Part b i) else Err index_fault) h
+cell_same st end (Name b) i h = ap (λ n. if nat_lt i n then Ok (Part b i) else Err INDEX) h
 
 pub place_same : (program : Source) (st end : State) (t : Lvalue) → SamePlace program st end t
     → cell_of program end t ≡ cell_of program st t

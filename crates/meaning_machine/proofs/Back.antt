@@ -6,8 +6,8 @@ use Rattle.meaning_points.specs.inverse_rules.Inverse.{inverse_statement, invers
 use Rattle.meaning_points.specs.roopl_semantics.Run.{Done, More, after_cost, ◌>>=◌, give, fault_if}
 use Rattle.meaning_points.specs.roopl_semantics.Store.{Value, State}
 use Rattle.meaning_points.specs.roopl_semantics.Value.{Cell, read, evaluated}
-use Rattle.meaning_points.specs.roopl_semantics.Execution.{Setting, holds, bound, moved_out, moved_back, fi_fault}
-use Rattle.meaning_points.specs.roopl_semantics.Execution.{loop_fault, statement}
+use Rattle.meaning_points.specs.roopl_semantics.Execution.{Setting, holds, bound, moved_out, moved_back, FI}
+use Rattle.meaning_points.specs.roopl_semantics.Execution.{LOOP, statement}
 use Rattle.meaning_machine.specs.Machine.{Config, Open, Chosen, First, Again, past_it, inside, turned_to}
 use Rattle.meaning_machine.specs.Machine.{turned_first, left, simply, entered, begun}
 use Rattle.meaning_machine.specs.MachineLaws.{before}
@@ -46,9 +46,9 @@ module _ (setting : Setting) where
       record {
         cost = c + (0 + 0);
         steps =
-            ap (λ q. q >>= (λ w. fault_if fi_fault (if holds v then not (holds w) else holds w) >>=
+            ap (λ q. q >>= (λ w. fault_if FI (if holds v then not (holds w) else holds w) >>=
             (λ u. give (turn x)))) e
-            ∙ ap (λ b. after_cost c (fault_if fi_fault b >>= (λ u. give (turn x)))) (same_side (holds v));
+            ∙ ap (λ b. after_cost c (fault_if FI b >>= (λ u. give (turn x)))) (same_side (holds v));
       }
 
   -- a choice is left: the assertion after it finds the side
@@ -124,9 +124,9 @@ module _ (setting : Setting) where
         record {
           cost = 1 + (c + (0 + 0));
           steps =
-              ap (λ q. after_cost 1 (q >>= (λ v. fault_if loop_fault (not (holds v)) >>=
+              ap (λ q. after_cost 1 (q >>= (λ v. fault_if LOOP (not (holds v)) >>=
               (λ u. give (into (inverse first)))))) e
-              ∙ ap (λ b. after_cost 1 (after_cost c (fault_if loop_fault (not b) >>=
+              ∙ ap (λ b. after_cost 1 (after_cost c (fault_if LOOP (not b) >>=
               (λ u. give (into (inverse first)))))) h
               ∙ ap (λ block. Done (into block) (1 + (c + (0 + 0)))) (undone_block p first placed);
         }
@@ -147,8 +147,8 @@ module _ (setting : Setting) where
         record {
           cost = c + (0 + 0);
           steps =
-              ap (λ q. q >>= (λ v. fault_if loop_fault (holds v) >>= (λ u. give (into (inverse first))))) e
-              ∙ ap (λ b. after_cost c (fault_if loop_fault b >>= (λ u. give (into (inverse first))))) h
+              ap (λ q. q >>= (λ v. fault_if LOOP (holds v) >>= (λ u. give (into (inverse first))))) e
+              ∙ ap (λ b. after_cost c (fault_if LOOP b >>= (λ u. give (into (inverse first))))) h
               ∙ ap (λ block. Done (into block) (c + (0 + 0))) (undone_block p first placed);
         }
 

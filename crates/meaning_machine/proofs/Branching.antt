@@ -4,7 +4,7 @@ use Rattle.meaning_points.specs.rpp_tree.Tree.{Statement, Statements, If, From, 
 use Rattle.meaning_points.specs.roopl_semantics.Run.{Run, Done, Fault, More, ◌>>=◌, fault_if}
 use Rattle.meaning_points.specs.roopl_semantics.Store.{Value, State}
 use Rattle.meaning_points.specs.roopl_semantics.Value.{evaluated}
-use Rattle.meaning_points.specs.roopl_semantics.Execution.{Setting, fi_fault, loop_fault, holds}
+use Rattle.meaning_points.specs.roopl_semantics.Execution.{Setting, FI, LOOP, holds}
 use Rattle.meaning_machine.specs.Machine.{Part, Chosen, First, Again, Open, Config, turned_first}
 use Rattle.meaning_machine.specs.Machine.{begun, ended, next}
 use Rattle.meaning_machine.specs.MachineLaws.{before}
@@ -41,7 +41,7 @@ module _ (setting : Setting) (past : Statements) (params : ℕ) (around : List O
       ends_with (StepsBack setting (before past (Then (From at entry one two exit) rest) params around st))
       (evaluated setting.program entry st) _
       (λ v c e. ends_past (StepsBack setting (before past (Then (From at entry one two exit) rest) params around st))
-      loop_fault (not (holds v)) _
+      LOOP (not (holds v)) _
       (λ no. loop_entered setting past rest params around st at entry one two exit v c e (not-false (holds v) no)))
   branch_begins _ rest h = absurd h
 
@@ -71,7 +71,7 @@ module _ (setting : Setting) (past : Statements) (params : ℕ) (around : List O
         → IsBranchPart part → Ends (Back s part) (ended setting (end_in s part) (open_at s part) around part)
     branch_ends _ _ _ (side at test taken other after b) placed h =
         ends_with (Back (If at test taken other after) (Chosen b test after)) (evaluated setting.program after st) _
-        (λ w c e. ends_past (Back (If at test taken other after) (Chosen b test after)) fi_fault
+        (λ w c e. ends_past (Back (If at test taken other after) (Chosen b test after)) FI
         (if b then not (holds w) else holds w) _
         (λ no. if_left setting past opened rest params around st at test taken other after b w c placed e no))
     branch_ends _ _ _ (first at entry one two exit) placed h =
@@ -79,7 +79,7 @@ module _ (setting : Setting) (past : Statements) (params : ℕ) (around : List O
         (λ v c e. loop_by at entry one two exit placed v c e (holds v) refl)
     branch_ends _ _ _ (again at entry one two exit) placed h =
         ends_with (Back (From at entry one two exit) (Again entry one two exit)) (evaluated setting.program entry st) _
-        (λ v c e. ends_past (Back (From at entry one two exit) (Again entry one two exit)) loop_fault (holds v) _
+        (λ v c e. ends_past (Back (From at entry one two exit) (Again entry one two exit)) LOOP (holds v) _
         (λ no. loop_turned setting opened rest params around st at entry one two exit past v c placed e no))
     branch_ends _ _ _ (object at class name block end) placed h = absurd h
     branch_ends _ _ _ (local at var value block end_var end_value name) placed h = absurd h

@@ -14,16 +14,16 @@ use Rattle.meaning_points.specs.class_rules.Classes.{class_number, class_fields,
 use Rattle.meaning_points.specs.roopl_semantics.Run.{Run, Done, Fault, More, after_cost, ◌>>=◌, give, spend, fault_if}
 use Rattle.meaning_points.specs.roopl_semantics.Store.{Value, Word, Nil, Head, OfClass, OfInts, OfObjects, Object, object_at}
 use Rattle.meaning_points.specs.roopl_semantics.Store.{zero_values, State, is_nil, is_zero, number_of, same_value}
-use Rattle.meaning_points.specs.roopl_semantics.Value.{Cell, Slot, nil_fault, cell_named, own_class, read, written, evaluated, found}
+use Rattle.meaning_points.specs.roopl_semantics.Value.{Cell, Slot, NIL, cell_named, own_class, read, written, evaluated, found}
 use Rattle.meaning_points.specs.roopl_semantics.Value.{value as value_in, cell_of}
 use Rattle.meaning_points.specs.roopl_semantics.Elements.{elements, index_elements, own_element, kept_apart, read_cost, share_array}
-use Rattle.meaning_points.specs.roopl_semantics.Elements.{shared_array_fault}
-use Rattle.meaning_points.specs.roopl_semantics.Execution.{Setting, holds, freed, all_zero, is_of_class, same_cell, not_nil_fault}
-use Rattle.meaning_points.specs.roopl_semantics.Execution.{count_fault, not_empty_fault, not_same_fault, class_differs_fault}
-use Rattle.meaning_points.specs.roopl_semantics.Execution.{length_differs_fault, length_fault, opened, closed, moved_back, allocated}
+use Rattle.meaning_points.specs.roopl_semantics.Elements.{SHARED_ARRAY}
+use Rattle.meaning_points.specs.roopl_semantics.Execution.{Setting, holds, freed, all_zero, is_of_class, same_cell, NOT_NIL}
+use Rattle.meaning_points.specs.roopl_semantics.Execution.{COUNT, NOT_EMPTY, NOT_SAME, CLASS_DIFFERS}
+use Rattle.meaning_points.specs.roopl_semantics.Execution.{LENGTH_DIFFERS, LENGTH, opened, closed, moved_back, allocated}
 use Rattle.meaning_points.specs.roopl_semantics.Execution.{new_array, delete_array, cells_named, class_of, is_too_deep, constructed}
-use Rattle.meaning_points.specs.roopl_semantics.Execution.{element_name, element_call, fi_fault, loop_fault, delocal_fault}
-use Rattle.meaning_points.specs.roopl_semantics.Execution.{too_deep_fault, touched_fault, turns, turn_end, with_local, invoked}
+use Rattle.meaning_points.specs.roopl_semantics.Execution.{element_name, element_call, FI, LOOP, DELOCAL}
+use Rattle.meaning_points.specs.roopl_semantics.Execution.{TOO_DEEP, TOUCHED, turns, turn_end, with_local, invoked}
 use Rattle.meaning_points.specs.roopl_semantics.Execution.{statement, exec}
 use Rattle.meaning_points.specs.Points.{Point, behind, begins, called_points, local_points, again_points, turn_points}
 use Rattle.meaning_points.specs.Points.{call_points, inner_points, points}
@@ -49,7 +49,7 @@ sure_moved : (cells : List Cell) (values : List Value) (st : State) → IsSure (
 sure_moved [] values st = sure_done st 0
 sure_moved (cell ∷ cells) [] st = sure_done st 0
 sure_moved (cell ∷ cells) (v ∷ values) st =
-    sure_then (fault_if touched_fault (not (is_zero (read st cell)))) _ (sure_fault_if _ _)
+    sure_then (fault_if TOUCHED (not (is_zero (read st cell)))) _ (sure_fault_if _ _)
     (λ u. sure_moved cells values (written st cell v))
 
 module _ (setting : Setting) (n : ℕ)
@@ -72,7 +72,7 @@ module _ (setting : Setting) (n : ℕ)
       _ (block End body x.params (o ∷ x.around) (opened name v x.state)) (λ end.
       go setting n (after End body x.params (o ∷ x.around) end) _ _ []
       (over_silently setting n (evaluated setting.program end_value end) _ _ _ (sure_value end_value end) (λ w.
-      over_silently setting n (fault_if delocal_fault (not (same_value (read end (Slot 0)) w))) _ _ _
+      over_silently setting n (fault_if DELOCAL (not (same_value (read end (Slot 0)) w))) _ _ _
       (sure_fault_if _ _) (λ u.
       stay setting n (past_it x s rest) (closed end))))))
 
@@ -97,7 +97,7 @@ module _ (setting : Setting) (n : ℕ)
   call x s rest at back None name args =
       over setting n (spend (length args)) _ _ _ (λ u. call_points setting (points setting n) x.params at back None name
       args x.state) (sure_done tt (length args)) (λ u.
-      over setting n (fault_if too_deep_fault (is_too_deep setting x.state)) _ _ _ _ (sure_fault_if _ _) (λ w.
+      over setting n (fault_if TOO_DEEP (is_too_deep setting x.state)) _ _ _ _ (sure_fault_if _ _) (λ w.
       method x s rest back (method_named setting.program (own_class x.state) name.text) x.state.self []
       (cells_named setting x.state args)))
   call x s rest at back (Some (Whole held)) name args =
@@ -105,8 +105,8 @@ module _ (setting : Setting) (n : ℕ)
       let self = number_of (read x.state cell) in
       over setting n (spend (length args)) _ _ _ (λ u. call_points setting (points setting n) x.params at back
       (Some (Whole held)) name args x.state) (sure_done tt (length args)) (λ u.
-      over setting n (fault_if nil_fault (is_nil (read x.state cell))) _ _ _ _ (sure_fault_if _ _) (λ u.
-      over setting n (fault_if too_deep_fault (is_too_deep setting x.state)) _ _ _ _ (sure_fault_if _ _) (λ w.
+      over setting n (fault_if NIL (is_nil (read x.state cell))) _ _ _ _ (sure_fault_if _ _) (λ u.
+      over setting n (fault_if TOO_DEEP (is_too_deep setting x.state)) _ _ _ _ (sure_fault_if _ _) (λ w.
       method x s rest back (method_named setting.program (class_of setting x.state self) name.text) self (cell ∷ [])
       (cells_named setting x.state args))))
   call x s rest at back (Some (Item held index)) name args =
@@ -135,7 +135,7 @@ module _ (setting : Setting) (n : ℕ)
         (fewer setting m n _ _ (exec setting n again st) _ le (block End again x.params (two ∷ x.around) st)) (λ end.
         go setting m (after End again x.params (two ∷ x.around) end) _ _ _
         (over setting m (evaluated setting.program entry end) _ _ _ _ (sure_value entry end) (λ v.
-        over setting m (fault_if loop_fault (holds v)) _ _ _ _ (sure_fault_if _ _) (λ u. goes end))))
+        over setting m (fault_if LOOP (holds v)) _ _ _ _ (sure_fault_if _ _) (λ u. goes end))))
 
     loop : (m : ℕ) → m ≤ n → (st : State)
         → Goes setting m (give (before End first x.params (one ∷ x.around) st)) (past_it x s rest)
@@ -160,7 +160,7 @@ module _ (setting : Setting) (n : ℕ)
 
   sure_apart : (changed reads : List Ident) (st : State) → IsSure (kept_apart setting.program changed reads st)
   sure_apart changed reads st = sure_after (read_cost changed reads)
-      (fault_if shared_array_fault (share_array setting.program st changed reads)) (sure_fault_if _ _)
+      (fault_if SHARED_ARRAY (share_array setting.program st changed reads)) (sure_fault_if _ _)
 
   sure_allocated : (size : ℕ) (cell : Cell) (head : Head) (cells : List Value) (st : State)
       → IsSure (allocated setting size cell head cells st)
@@ -171,8 +171,8 @@ module _ (setting : Setting) (n : ℕ)
   sure_new_array target size head element st =
       sure_then (found setting.program target st) _ (sure_found target st) (λ cell.
       sure_then (evaluated setting.program size st) _ (sure_value size st) (λ v.
-      sure_then (fault_if not_nil_fault (not (is_nil (read st cell)))) _ (sure_fault_if _ _) (λ u.
-      sure_then (fault_if length_fault (is_less (number_of v) 1)) _ (sure_fault_if _ _) (λ u.
+      sure_then (fault_if NOT_NIL (not (is_nil (read st cell)))) _ (sure_fault_if _ _) (λ u.
+      sure_then (fault_if LENGTH (is_less (number_of v) 1)) _ (sure_fault_if _ _) (λ u.
       sure_after (setting.limits.heap + 1) (allocated setting (number_of v) cell (head (number_of v))
       (replicate (number_of v) element) st >>= (λ st'. after_cost (number_of v) (give st')))
       (sure_then (allocated setting (number_of v) cell (head (number_of v)) (replicate (number_of v) element) st) _
@@ -185,13 +185,13 @@ module _ (setting : Setting) (n : ℕ)
       sure_then (evaluated setting.program size st) _ (sure_value size st) (λ v.
       let name : ℕ = number_of (read st cell) in
       let array : Object = object_at st.store name in
-      sure_then (fault_if nil_fault (is_nil (read st cell))) _ (sure_fault_if _ _) (λ u.
-      sure_then (fault_if length_differs_fault (not (nat_eq (length array.cells) (number_of v)))) _ (sure_fault_if _ _)
+      sure_then (fault_if NIL (is_nil (read st cell))) _ (sure_fault_if _ _) (λ u.
+      sure_then (fault_if LENGTH_DIFFERS (not (nat_eq (length array.cells) (number_of v)))) _ (sure_fault_if _ _)
       (λ u.
-      sure_then (fault_if count_fault (not (nat_eq array.count 1))) _ (sure_fault_if _ _) (λ u.
+      sure_then (fault_if COUNT (not (nat_eq array.count 1))) _ (sure_fault_if _ _) (λ u.
       sure_after (setting.limits.heap + 1 + length array.cells)
-      (fault_if not_empty_fault (not (all_zero array.cells)) >>= (λ u. give (freed setting cell name st)))
-      (sure_then (fault_if not_empty_fault (not (all_zero array.cells))) _ (sure_fault_if _ _)
+      (fault_if NOT_EMPTY (not (all_zero array.cells)) >>= (λ u. give (freed setting cell name st)))
+      (sure_then (fault_if NOT_EMPTY (not (all_zero array.cells))) _ (sure_fault_if _ _)
       (λ u. sure_done (freed setting cell name st) 0)))))))
 
   sure_update : (at : ℕ) (op : UpdateOp) (target : Lvalue) (value : Expression) (st : State)
@@ -218,7 +218,7 @@ module _ (setting : Setting) (n : ℕ)
       sure_then (found setting.program target st) _ (sure_found target st) (λ cell.
       sure_then (kept_apart setting.program (own_element target) (index_elements target) st) _
       (sure_apart (own_element target) (index_elements target) st) (λ u.
-      sure_then (fault_if not_nil_fault (not (is_nil (read st cell)))) _ (sure_fault_if _ _) (λ u.
+      sure_then (fault_if NOT_NIL (not (is_nil (read st cell)))) _ (sure_fault_if _ _) (λ u.
       sure_after (setting.limits.heap + 1) (allocated setting (length cells) cell (OfClass number) cells st)
       (sure_allocated (length cells) cell (OfClass number) cells st))))
 
@@ -230,13 +230,13 @@ module _ (setting : Setting) (n : ℕ)
       let object : Object = object_at st.store name in
       sure_then (kept_apart setting.program (own_element target) (index_elements target) st) _
       (sure_apart (own_element target) (index_elements target) st) (λ u.
-      sure_then (fault_if nil_fault (is_nil (read st cell))) _ (sure_fault_if _ _) (λ u.
-      sure_then (fault_if class_differs_fault (not (is_of_class object.head (class_number setting.program class.text))))
+      sure_then (fault_if NIL (is_nil (read st cell))) _ (sure_fault_if _ _) (λ u.
+      sure_then (fault_if CLASS_DIFFERS (not (is_of_class object.head (class_number setting.program class.text))))
       _ (sure_fault_if _ _) (λ u.
-      sure_then (fault_if count_fault (not (nat_eq object.count 1))) _ (sure_fault_if _ _) (λ u.
-      sure_after (setting.limits.heap + 1) (fault_if not_empty_fault (not (all_zero object.cells)) >>=
+      sure_then (fault_if COUNT (not (nat_eq object.count 1))) _ (sure_fault_if _ _) (λ u.
+      sure_after (setting.limits.heap + 1) (fault_if NOT_EMPTY (not (all_zero object.cells)) >>=
       (λ u. give (freed setting cell name st)))
-      (sure_then (fault_if not_empty_fault (not (all_zero object.cells))) _ (sure_fault_if _ _)
+      (sure_then (fault_if NOT_EMPTY (not (all_zero object.cells))) _ (sure_fault_if _ _)
       (λ u. sure_done (freed setting cell name st) 0)))))))
 
   sure_copy : (at : ℕ) (kind : VarType) (source target : Lvalue) (st : State)
@@ -246,8 +246,8 @@ module _ (setting : Setting) (n : ℕ)
       sure_then (found setting.program target st) _ (sure_found target st) (λ b.
       sure_then (kept_apart setting.program (own_element target) (index_elements source ++ index_elements target) st) _
       (sure_apart (own_element target) (index_elements source ++ index_elements target) st) (λ u.
-      sure_then (fault_if nil_fault (is_nil (read st a))) _ (sure_fault_if _ _) (λ u.
-      sure_then (fault_if not_nil_fault (not (is_nil (read st b)))) _ (sure_fault_if _ _) (λ u. sure_done _ 0)))))
+      sure_then (fault_if NIL (is_nil (read st a))) _ (sure_fault_if _ _) (λ u.
+      sure_then (fault_if NOT_NIL (not (is_nil (read st b)))) _ (sure_fault_if _ _) (λ u. sure_done _ 0)))))
 
   sure_uncopy : (at : ℕ) (kind : VarType) (source target : Lvalue) (st : State)
       → IsSure (statement setting n (exec setting n) (Uncopy at kind source target) st)
@@ -256,8 +256,8 @@ module _ (setting : Setting) (n : ℕ)
       sure_then (found setting.program target st) _ (sure_found target st) (λ b.
       sure_then (kept_apart setting.program (own_element target) (index_elements source ++ index_elements target) st) _
       (sure_apart (own_element target) (index_elements source ++ index_elements target) st) (λ u.
-      sure_then (fault_if nil_fault (is_nil (read st a))) _ (sure_fault_if _ _) (λ u.
-      sure_then (fault_if not_same_fault (not (same_value (read st a) (read st b)) || same_cell a b)) _
+      sure_then (fault_if NIL (is_nil (read st a))) _ (sure_fault_if _ _) (λ u.
+      sure_then (fault_if NOT_SAME (not (same_value (read st a) (read st b)) || same_cell a b)) _
       (sure_fault_if _ _) (λ u. sure_done _ 0)))))
 
   -- ---- statements
@@ -277,12 +277,12 @@ module _ (setting : Setting) (n : ℕ)
       (block End body x.params (o ∷ x.around) x.state) (λ end.
       go setting n (after End body x.params (o ∷ x.around) end) _ _ []
       (over_silently setting n (evaluated setting.program end_test end) _ _ _ (sure_value end_test end) (λ w.
-      over_silently setting n (fault_if fi_fault (if holds v then not (holds w) else holds w)) _ _ _ (sure_fault_if _ _)
+      over_silently setting n (fault_if FI (if holds v then not (holds w) else holds w)) _ _ _ (sure_fault_if _ _)
       (λ u.
       stay setting n (past_it x s rest) end)))))
   done x (From at entry first again exit) rest =
       over setting n (evaluated setting.program entry x.state) _ _ _ _ (sure_value entry x.state) (λ v.
-      over setting n (fault_if loop_fault (not (holds v))) _ _ _ _ (sure_fault_if _ _) (λ u.
+      over setting n (fault_if LOOP (not (holds v))) _ _ _ _ (sure_fault_if _ _) (λ u.
       loop x (From at entry first again exit) rest entry first again exit n (omega arith) x.state))
   done x (Construct at class name body end) rest =
       local x (Construct at class name body end) rest name.text (Null at) (constructed at class name body) (Null at)

@@ -9,8 +9,8 @@ use Rattle.meaning_points.specs.inverse_rules.Inverse.{inverse_statement, invers
 use Rattle.meaning_points.proofs.inverse_rules_laws.Inverses.{inverse-joined, joined_assoc}
 use Rattle.meaning_points.specs.roopl_semantics.Run.{Run, Done, Fault, More, after_cost, ◌>>=◌, give, spend, fault_if}
 use Rattle.meaning_points.specs.roopl_semantics.Store.{State, is_nil, number_of, same_value}
-use Rattle.meaning_points.specs.roopl_semantics.Value.{Cell, Slot, nil_fault, cell_named, own_class, read, evaluated}
-use Rattle.meaning_points.specs.roopl_semantics.Execution.{Setting, fi_fault, loop_fault, delocal_fault, too_deep_fault, holds, opened}
+use Rattle.meaning_points.specs.roopl_semantics.Value.{Cell, Slot, NIL, cell_named, own_class, read, evaluated}
+use Rattle.meaning_points.specs.roopl_semantics.Execution.{Setting, FI, LOOP, DELOCAL, TOO_DEEP, holds, opened}
 use Rattle.meaning_points.specs.roopl_semantics.Execution.{moved_back, cells_named, class_of, is_too_deep, constructed}
 use Rattle.meaning_points.specs.roopl_semantics.Execution.{element_name, element_call, statement}
 use Rattle.meaning_machine.specs.Machine.{Part, Chosen, First, Again, Holding, Calling, Open, Config, inside}
@@ -87,7 +87,7 @@ module _ (setting : Setting) where
       let procedure = method_named setting.program (own_class x.state) method.text in
       let cells = cells_named setting x.state args in
       ends_then IsPlaced (spend (length args)) _ (λ u.
-      ends_then IsPlaced (fault_if too_deep_fault (is_too_deep setting x.state))
+      ends_then IsPlaced (fault_if TOO_DEEP (is_too_deep setting x.state))
       (λ w. give (entered setting x s rest back procedure x.state.self [] cells))
       (λ u. entered_placed x rest at back None method args procedure x.state.self [] cells h))
   called_placed x rest at back (Some (Whole name)) method args h =
@@ -97,8 +97,8 @@ module _ (setting : Setting) where
       let procedure = method_named setting.program (class_of setting x.state self) method.text in
       let cells = cells_named setting x.state args in
       ends_then IsPlaced (spend (length args)) _ (λ u.
-      ends_then IsPlaced (fault_if nil_fault (is_nil (read x.state cell))) _ (λ u.
-      ends_then IsPlaced (fault_if too_deep_fault (is_too_deep setting x.state))
+      ends_then IsPlaced (fault_if NIL (is_nil (read x.state cell))) _ (λ u.
+      ends_then IsPlaced (fault_if TOO_DEEP (is_too_deep setting x.state))
       (λ w. give (entered setting x s rest back procedure self (cell ∷ []) cells))
       (λ u. entered_placed x rest at back (Some (Whole name)) method args procedure self (cell ∷ []) cells h)))
   called_placed x rest at back (Some (Item name index)) method args h =
@@ -113,7 +113,7 @@ module _ (setting : Setting) where
       (side at test taken other after (holds v)) h)
   begun_placed x (From at entry one two exit) rest h =
       ends_then IsPlaced (evaluated setting.program entry x.state) _
-      (λ v. ends_then IsPlaced (fault_if loop_fault (not (holds v))) _
+      (λ v. ends_then IsPlaced (fault_if LOOP (not (holds v))) _
       (λ u. inside_placed x (From at entry one two exit) rest _ one x.state (first at entry one two exit) h))
   begun_placed x (Construct at class name block end) rest h =
       local_placed x (Construct at class name block end) rest name.text (Null at) (constructed at class name block)
@@ -139,18 +139,18 @@ module _ (setting : Setting) where
       → RunsIn o.here part block → Around o around → Ends IsPlaced (ended setting x o around part)
   ended_placed x o around (Chosen b test after) block r h =
       ends_then IsPlaced (evaluated setting.program after x.state) _
-      (λ w. ends_then IsPlaced (fault_if fi_fault (if b then not (holds w) else holds w)) _
+      (λ w. ends_then IsPlaced (fault_if FI (if b then not (holds w) else holds w)) _
       (λ u. record { stands = h }))
   ended_placed x o around (First entry one two exit) block r h =
       ends_then IsPlaced (evaluated setting.program exit x.state) _
       (λ v. loop_placed x o around entry one two block exit (holds v) r h)
   ended_placed x o around (Again entry one two exit) block r h =
       ends_then IsPlaced (evaluated setting.program entry x.state) _
-      (λ v. ends_then IsPlaced (fault_if loop_fault (holds v)) _
+      (λ v. ends_then IsPlaced (fault_if LOOP (holds v)) _
       (λ u. record { stands = (first_of_loop o.here entry one two block exit r, h) }))
   ended_placed x o around (Holding name value end_value) block r h =
       ends_then IsPlaced (evaluated setting.program end_value x.state) _
-      (λ w. ends_then IsPlaced (fault_if delocal_fault (not (same_value (read x.state (Slot 0)) w))) _
+      (λ w. ends_then IsPlaced (fault_if DELOCAL (not (same_value (read x.state (Slot 0)) w))) _
       (λ u. record { stands = h }))
   ended_placed x o around (Calling caller receiver args held) block r h =
       ends_then IsPlaced (moved_back (receiver ++ args) (held ++ map (λ binding. binding.value) x.state.frame)

@@ -8,10 +8,10 @@ use Rattle.meaning_points.specs.rpp_tree.Tree.{Call, Skip, End, Then, Procedure}
 use Rattle.meaning_points.specs.class_rules.Classes.{method_named}
 use Rattle.meaning_points.specs.roopl_semantics.Run.{Run, More, ◌>>=◌, give, spend, fault_if}
 use Rattle.meaning_points.specs.roopl_semantics.Store.{Value, Binding, State, is_nil, number_of, same_value}
-use Rattle.meaning_points.specs.roopl_semantics.Value.{Cell, Slot, nil_fault, cell_named, own_class, read}
+use Rattle.meaning_points.specs.roopl_semantics.Value.{Cell, Slot, NIL, cell_named, own_class, read}
 use Rattle.meaning_points.specs.roopl_semantics.Value.{evaluated}
-use Rattle.meaning_points.specs.roopl_semantics.Execution.{Setting, fi_fault, loop_fault, delocal_fault}
-use Rattle.meaning_points.specs.roopl_semantics.Execution.{too_deep_fault, holds, bound, opened, closed, moved_out}
+use Rattle.meaning_points.specs.roopl_semantics.Execution.{Setting, FI, LOOP, DELOCAL}
+use Rattle.meaning_points.specs.roopl_semantics.Execution.{TOO_DEEP, holds, bound, opened, closed, moved_out}
 use Rattle.meaning_points.specs.roopl_semantics.Execution.{moved_back, in_direction, cells_named, class_of}
 use Rattle.meaning_points.specs.roopl_semantics.Execution.{is_too_deep, constructed, element_name, element_call}
 use Rattle.meaning_points.specs.roopl_semantics.Execution.{statement}
@@ -132,15 +132,15 @@ module _ (setting : Setting) where
       → List Ident → Run Config
   called x s rest at back None method args = do
     _ ← spend (length args)
-    _ ← fault_if too_deep_fault (is_too_deep setting x.state)
+    _ ← fault_if TOO_DEEP (is_too_deep setting x.state)
     give (entered x s rest back (method_named setting.program (own_class x.state) method.text)
         x.state.self [] (cells_named setting x.state args))
   called x s rest at back (Some (Whole name)) method args = do
     _ ← spend (length args)
     let cell = cell_named setting.program x.state name.text
     let self = number_of (read x.state cell)
-    _ ← fault_if nil_fault (is_nil (read x.state cell))
-    _ ← fault_if too_deep_fault (is_too_deep setting x.state)
+    _ ← fault_if NIL (is_nil (read x.state cell))
+    _ ← fault_if TOO_DEEP (is_too_deep setting x.state)
     give (entered x s rest back
         (method_named setting.program (class_of setting x.state self) method.text) self (cell ∷ [])
         (cells_named setting x.state args))
@@ -158,7 +158,7 @@ module _ (setting : Setting) where
         (if holds v then taken else other) x.state)
   begun x (From at entry first again exit) rest = do
     v ← evaluated setting.program entry x.state
-    _ ← fault_if loop_fault (not (holds v))
+    _ ← fault_if LOOP (not (holds v))
     give (inside x (From at entry first again exit) rest (First entry first again exit) first
         x.state)
   begun x (Construct at class name body end) rest =
@@ -184,18 +184,18 @@ module _ (setting : Setting) where
   abbrev pub ended : Config → Open → List Open → Part → Run Config
   ended x o around (Chosen side test after) = do
     w ← evaluated setting.program after x.state
-    _ ← fault_if fi_fault (if side then not (holds w) else holds w)
+    _ ← fault_if FI (if side then not (holds w) else holds w)
     give (left o around x.params x.state)
   ended x o around (First entry first again exit) = do
     v ← evaluated setting.program exit x.state
     give (turned_first x o around (Again entry first again exit) again (holds v))
   ended x o around (Again entry first again exit) = do
     v ← evaluated setting.program entry x.state
-    _ ← fault_if loop_fault (holds v)
+    _ ← fault_if LOOP (holds v)
     give (turned_to x o around (First entry first again exit) first)
   ended x o around (Holding name value end_value) = do
     w ← evaluated setting.program end_value x.state
-    _ ← fault_if delocal_fault (not (same_value (read x.state (Slot 0)) w))
+    _ ← fault_if DELOCAL (not (same_value (read x.state (Slot 0)) w))
     give (left o around x.params (closed x.state))
   ended x o around (Calling caller receiver args held) = do
     st ← moved_back (receiver ++ args)

@@ -7,9 +7,9 @@ use Rattle.roopl_semantics.specs.rpp_tree.Tree.{Construct, Local, New, Delete, C
 use Rattle.roopl_semantics.specs.class_rules.Classes.{method_named}
 use Rattle.roopl_semantics.specs.Run.{Run, Done, Fault, More, after_cost, ◌>>=◌, fault_if}
 use Rattle.roopl_semantics.specs.Store.{State, is_nil, number_of}
-use Rattle.roopl_semantics.specs.Value.{Cell, nil_fault, cell_named, own_class, read, evaluated}
+use Rattle.roopl_semantics.specs.Value.{Cell, NIL, cell_named, own_class, read, evaluated}
 use Rattle.roopl_semantics.specs.Execution.{Setting, Runner, holds, cells_named, class_of, is_too_deep, constructed}
-use Rattle.roopl_semantics.specs.Execution.{element_name, element_call, loop_fault, too_deep_fault, turns, turn_end}
+use Rattle.roopl_semantics.specs.Execution.{element_name, element_call, LOOP, TOO_DEEP, turns, turn_end}
 use Rattle.roopl_semantics.specs.Execution.{with_local, invoked, statement, exec}
 use Rattle.meaning_points.specs.Points.{Point, Lister, behind, begins, called_points, local_points, again_points}
 use Rattle.meaning_points.specs.Points.{turn_points, call_points, inner_points, points}
@@ -82,7 +82,7 @@ module _ (setting : Setting) (run run' : Runner) (list list' : Lister)
   again_on params entry again more more' go go' both true st = same refl refl
   again_on params entry again more more' go go' both false st =
       next _ _ _ _ _ _ _ _ (block params again st) (λ end. on (evaluated setting.program entry end) _ _ _ _
-      (λ v. on (fault_if loop_fault (holds v)) _ _ _ _ (λ u. both end)))
+      (λ v. on (fault_if LOOP (holds v)) _ _ _ _ (λ u. both end)))
 
   turns_on : (n m params : ℕ) (entry : Expression) (first again : Statements) (exit : Expression) (st : State) → n ≤ m
       → Grows (turn_points setting n run list params entry first again exit st)
@@ -105,14 +105,14 @@ module _ (setting : Setting) (run run' : Runner) (list list' : Lister)
       (call_points setting list' params at back receiver method args st)
       (statement setting m run' (Call at back receiver method args) st)
   call_on n m params at back None method args st =
-      spent _ _ _ _ (length args) (on (fault_if too_deep_fault (is_too_deep setting st)) _ _ _ _
+      spent _ _ _ _ (length args) (on (fault_if TOO_DEEP (is_too_deep setting st)) _ _ _ _
       (λ u. called back (method_named setting.program (own_class st) method.text) st.self []
       (cells_named setting st args) st))
   call_on n m params at back (Some (Whole name)) method args st =
       let cell = cell_named setting.program st name.text in
       let self = number_of (read st cell) in
-      spent _ _ _ _ (length args) (on (fault_if nil_fault (is_nil (read st cell))) _ _ _ _ (λ u.
-      on (fault_if too_deep_fault (is_too_deep setting st)) _ _ _ _
+      spent _ _ _ _ (length args) (on (fault_if NIL (is_nil (read st cell))) _ _ _ _ (λ u.
+      on (fault_if TOO_DEEP (is_too_deep setting st)) _ _ _ _
       (λ u. called back (method_named setting.program (class_of setting st self) method.text) self (cell ∷ [])
       (cells_named setting st args) st)))
   call_on n m params at back (Some (Item name index)) method args st =
@@ -124,7 +124,7 @@ module _ (setting : Setting) (run run' : Runner) (list list' : Lister)
   statement_on n m params (If at test taken other after) st h =
       on (evaluated setting.program test st) _ _ _ _ (λ v. silent _ _ _ _ _ (block _ _ _))
   statement_on n m params (From at entry first again exit) st h =
-      on (evaluated setting.program entry st) _ _ _ _ (λ v. on (fault_if loop_fault (not (holds v))) _ _ _ _
+      on (evaluated setting.program entry st) _ _ _ _ (λ v. on (fault_if LOOP (not (holds v))) _ _ _ _
       (λ u. turns_on n m params entry first again exit st h))
   statement_on n m params (Construct at class name body end) st h =
       in_local params name.text (Null at) (constructed at class name body) (Null at) st

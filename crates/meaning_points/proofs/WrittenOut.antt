@@ -14,7 +14,7 @@ use Rattle.roopl_semantics.proofs.inverse_rules_laws.Inverses.{inverse-joined}
 use Rattle.roopl_semantics.specs.Run.{Run, Done, Fault, More, ◌>>=◌, after_cost, give, fault_if}
 use Rattle.roopl_semantics.specs.Store.{State, same_value}
 use Rattle.roopl_semantics.specs.Value.{Slot, read, evaluated}
-use Rattle.roopl_semantics.specs.Execution.{Setting, opened, closed, delocal_fault, constructed, element_name}
+use Rattle.roopl_semantics.specs.Execution.{Setting, opened, closed, DELOCAL, constructed, element_name}
 use Rattle.roopl_semantics.specs.Execution.{element_call, statement, exec}
 use Rattle.meaning_points.specs.Points.{Point, behind, begins, inner_points, points}
 use Rattle.meaning_points.specs.WrittenOut.{Spots, all_at, name_at, construct_written, call_written, DoesAs}
@@ -87,7 +87,7 @@ module _ {Q : Type 0} (shown : Point → Q) (setting : Setting) where
 abbrev local_end : Setting → ℕ → State → Run State
 local_end setting at end = do
   w ← evaluated setting.program (Null at) end
-  _ ← fault_if delocal_fault (not (same_value (read end (Slot 0)) w))
+  _ ← fault_if DELOCAL (not (same_value (read end (Slot 0)) w))
   give (closed end)
 
 -- a trace point at a place

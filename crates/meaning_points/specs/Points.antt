@@ -9,11 +9,11 @@ use Rattle.roopl_semantics.specs.rpp_tree.Places.{statement_place}
 use Rattle.roopl_semantics.specs.class_rules.Classes.{method_named}
 use Rattle.roopl_semantics.specs.Run.{Run, Done, Fault, More, fault_if}
 use Rattle.roopl_semantics.specs.Store.{State, is_nil, number_of}
-use Rattle.roopl_semantics.specs.Value.{Cell, nil_fault, cell_named, own_class, read, evaluated}
+use Rattle.roopl_semantics.specs.Value.{Cell, NIL, cell_named, own_class, read, evaluated}
 use Rattle.roopl_semantics.specs.Execution.{Setting, Runner, holds, bound, opened, moved_out}
 use Rattle.roopl_semantics.specs.Execution.{in_direction, cells_named, class_of, is_too_deep}
-use Rattle.roopl_semantics.specs.Execution.{constructed, element_name, element_call, loop_fault}
-use Rattle.roopl_semantics.specs.Execution.{too_deep_fault, statement, exec}
+use Rattle.roopl_semantics.specs.Execution.{constructed, element_name, element_call, LOOP}
+use Rattle.roopl_semantics.specs.Execution.{TOO_DEEP, statement, exec}
 
 -- a statement that begins: its place in the text, how many parameters its method has, and the state
 pub record Point : Type 0 where
@@ -62,7 +62,7 @@ module _ (setting : Setting) where
   again_points run list params entry again next false st =
       list params again st
       ++ behind (run again st) (λ end. behind (evaluated setting.program entry end)
-      (λ v. behind (fault_if loop_fault (holds v)) (λ u. next end)))
+      (λ v. behind (fault_if LOOP (holds v)) (λ u. next end)))
 
   -- the trace points of a loop whose entry has passed, of at most so many iterations
   abbrev pub turn_points : ℕ → Runner → Lister → ℕ → Expression → Statements → Statements
@@ -78,14 +78,14 @@ module _ (setting : Setting) where
   abbrev pub call_points : Lister → ℕ → ℕ → Bool → Option Lvalue → Ident → List Ident → State
       → List Point
   call_points list params at back None method args st =
-      behind (fault_if too_deep_fault (is_too_deep setting st)) (λ u.
+      behind (fault_if TOO_DEEP (is_too_deep setting st)) (λ u.
       called_points list back (method_named setting.program (own_class st) method.text) st.self []
       (cells_named setting st args) st)
   call_points list params at back (Some (Whole name)) method args st =
       let cell = cell_named setting.program st name.text in
       let self = number_of (read st cell) in
-      behind (fault_if nil_fault (is_nil (read st cell)))
-      (λ u. behind (fault_if too_deep_fault (is_too_deep setting st)) (λ u.
+      behind (fault_if NIL (is_nil (read st cell)))
+      (λ u. behind (fault_if TOO_DEEP (is_too_deep setting st)) (λ u.
       called_points list back (method_named setting.program (class_of setting st self) method.text)
       self (cell ∷ []) (cells_named setting st args) st))
   call_points list params at back (Some (Item name index)) method args st =
@@ -101,7 +101,7 @@ module _ (setting : Setting) where
       (if holds v then taken else other) st)
   inner_points n run list params (From at entry first again exit) st =
       behind (evaluated setting.program entry st)
-      (λ v. behind (fault_if loop_fault (not (holds v))) (λ u.
+      (λ v. behind (fault_if LOOP (not (holds v))) (λ u.
       turn_points n run list params entry first again exit st))
   inner_points n run list params (Construct at class name body end) st =
       local_points list params name.text (Null at) (constructed at class name body) st

@@ -13,7 +13,7 @@ use Rattle.meaning_sound.specs.class_rules.Statements.{passed, check_statements}
 use Rattle.meaning_sound.specs.class_rules.Program.{setting_in, with_parameters}
 use Rattle.meaning_sound.specs.roopl_semantics.Store.{Value, Word, Nil, Name, Binding, State, is_zero, cleared}
 use Rattle.meaning_sound.specs.roopl_semantics.Value.{Cell, Slot, Part, value_at, read, written}
-use Rattle.meaning_sound.specs.roopl_semantics.Execution.{Setting, Runner, moved_out, moved_back, touched_fault}
+use Rattle.meaning_sound.specs.roopl_semantics.Execution.{Setting, Runner, moved_out, moved_back, TOUCHED}
 use Rattle.meaning_sound.specs.roopl_semantics.Execution.{in_direction}
 use Rattle.meaning_sound.specs.roopl_semantics.Execution.{invoked}
 use Rattle.meaning_sound.specs.roopl_semantics.Laws.{one_if_name, holders_among}
@@ -166,7 +166,7 @@ module _ (setting : Setting) (extra : ℕ → ℕ) (shape : Locals) (class : ℕ
       (kind_stays setting extra shape class st c v) h.1)
       (all_kept setting.program st.store st1.store ks values
       (λ m x l. heads_written setting extra shape class st c v m) f.1) p o.1 in
-      ends_check (Back st (v ∷ values)) touched_fault (not (is_zero (read st c))) (λ x. moved_back cells values st1)
+      ends_check (Back st (v ∷ values)) TOUCHED (not (is_zero (read st c))) (λ x. moved_back cells values st1)
       (λ q.
       ends_more (Back st1 values) (Back st (v ∷ values)) (moved_back cells values st1) (λ last b. record {
         before = λ names z. closed_before names extra st c v (λ r. zero_within names (read st c) q) (b.before names z);

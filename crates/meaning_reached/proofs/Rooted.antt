@@ -12,7 +12,7 @@ use Rattle.meaning_sound.specs.class_rules.Expressions.{type_of, place_type, fir
 use Rattle.meaning_sound.specs.class_rules.Program.{setting_in}
 use Rattle.meaning_sound.specs.roopl_semantics.Store.{Value, Word, Nil, Name, Store, State, number_of, object_at}
 use Rattle.meaning_sound.specs.roopl_semantics.Value.{Cell, Slot, Part, read, written, cell_named, variable_value, element_cell}
-use Rattle.meaning_sound.specs.roopl_semantics.Value.{element_of, value, cell_of, index_fault}
+use Rattle.meaning_sound.specs.roopl_semantics.Value.{element_of, value, cell_of, INDEX}
 use Rattle.meaning_sound.specs.roopl_semantics.Execution.{Setting, same_cell}
 use Rattle.meaning_sound.specs.Sound.{cell_kind, Typed}
 use Rattle.meaning_sound.specs.Kept.{MeansSame}
@@ -90,7 +90,7 @@ module _ (setting : Setting) (classes : KnowsClasses setting.program) (extra : �
       found array q o c Nil r i e = absurd (cc)
       found array q o c (Name n) r i e = here (nat_lt i (length (object_at st.store n).cells)) e
         where
-          here : (b : Bool) → (if b then Ok (Part n i) else Err index_fault) ≡ Ok cell
+          here : (b : Bool) → (if b then Ok (Part n i) else Err INDEX) ≡ Ok cell
               → IsVisible program shape st k cell
           here true z = let s : Part n i ≡ cell = cc in subst (IsVisible program shape st k) s
               (element (cell_named program st name.text) array n i o c q r)

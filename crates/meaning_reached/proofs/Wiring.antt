@@ -29,14 +29,14 @@ use Rattle.meaning_sound.specs.roopl_semantics.Run.{Run, ◌>>=◌, give, spend,
 use Rattle.meaning_sound.specs.roopl_semantics.Store.{Value, Word, Nil, Name, Head, OfClass, OfInts, OfObjects, Store, State}
 use Rattle.meaning_sound.specs.roopl_semantics.Store.{number_of, is_nil, same_value, zero_value, zero_values, object_at}
 use Rattle.meaning_sound.specs.roopl_semantics.Value.{Cell, Slot, read, written, own_class, cell_named, value_at, value as value_in}
-use Rattle.meaning_sound.specs.roopl_semantics.Value.{cell_of, nil_fault}
-use Rattle.meaning_sound.specs.roopl_semantics.Execution.{Setting, Runner, holds, loop_fault, fi_fault, delocal_fault, not_nil_fault}
-use Rattle.meaning_sound.specs.roopl_semantics.Execution.{count_fault, not_empty_fault, heap_full_fault, class_differs_fault}
-use Rattle.meaning_sound.specs.roopl_semantics.Execution.{length_differs_fault, length_fault, not_same_fault, too_deep_fault}
+use Rattle.meaning_sound.specs.roopl_semantics.Value.{cell_of, NIL}
+use Rattle.meaning_sound.specs.roopl_semantics.Execution.{Setting, Runner, holds, LOOP, FI, DELOCAL, NOT_NIL}
+use Rattle.meaning_sound.specs.roopl_semantics.Execution.{COUNT, NOT_EMPTY, HEAP_FULL, CLASS_DIFFERS}
+use Rattle.meaning_sound.specs.roopl_semantics.Execution.{LENGTH_DIFFERS, LENGTH, NOT_SAME, TOO_DEEP}
 use Rattle.meaning_sound.specs.roopl_semantics.Execution.{same_cell, is_of_class, all_zero, allocated, freed, counted, one_less}
 use Rattle.meaning_sound.specs.roopl_semantics.Execution.{new_array, delete_array, order_of_cells, opened, closed, with_local}
 use Rattle.meaning_sound.specs.roopl_semantics.Execution.{turn_end, turns, cells_named, class_of, is_too_deep, invoked, statement}
-use Rattle.meaning_sound.specs.roopl_semantics.Elements.{shared_array_fault, elements, index_elements, own_element, share_array}
+use Rattle.meaning_sound.specs.roopl_semantics.Elements.{SHARED_ARRAY, elements, index_elements, own_element, share_array}
 use Rattle.meaning_sound.specs.roopl_semantics.Elements.{read_cost}
 use Rattle.meaning_sound.specs.roopl_semantics.Laws.{one_if_name}
 use Rattle.meaning_sound.specs.class_rules.Inheritance.{kind_of_var}
@@ -122,7 +122,7 @@ module _ (setting : Setting) (classes : KnowsClasses setting.program) (run : Run
       let changed = own_element target in
       let reads = index_elements target ++ elements value in
       let word = Word (updated op (number_of (read st cell)) (number_of x)) in
-      ends_checked Good (read_cost changed reads) shared_array_fault (share_array program st changed reads)
+      ends_checked Good (read_cost changed reads) SHARED_ARRAY (share_array program st changed reads)
       (λ u. give (written st cell word)) (λ q.
       write_reaches setting extra shape class st cell word (λ names c q. ap (is_within names) was.is) r)))
 
@@ -143,7 +143,7 @@ module _ (setting : Setting) (classes : KnowsClasses setting.program) (run : Run
       let changed = own_element left ++ own_element right in
       let reads = index_elements left ++ index_elements right in
       let ends : Unit {0} → Run State = λ u. give (written (written st a y) b (read st a)) in
-      ends_checked Good (read_cost changed reads) shared_array_fault (share_array program st changed reads) ends (λ q.
+      ends_checked Good (read_cost changed reads) SHARED_ARRAY (share_array program st changed reads) ends (λ q.
       let t1 = typed_written setting extra shape class st a l.value y t ha
       (read_fits setting extra shape class st b l.value t hb) in
       swap_reaches setting extra shape class st a b l.value t ha hb (seen st left l.value a s l.is e)
@@ -166,7 +166,7 @@ module _ (setting : Setting) (classes : KnowsClasses setting.program) (run : Run
       (chosen (λ b. check_statements typing locals b ≡ passed) (holds v) taken other ht ho)
       (chosen IsPlain (holds v) taken other pt po) s r)
       (λ end k. ends_given Good (nodes after) (value_in program end after) _
-      (λ w f. ends_check Good fi_fault (if holds v then not (holds w) else holds w) (λ x. give end) (λ q. k))))
+      (λ w f. ends_check Good FI (if holds v then not (holds w) else holds w) (λ x. give end) (λ q. k))))
 
   turn_end_reached : (entry : Expression) (again : Statements) (next : State → Run State)
       → check_statements typing locals again ≡ passed → IsPlain again
@@ -176,7 +176,7 @@ module _ (setting : Setting) (classes : KnowsClasses setting.program) (run : Run
   turn_end_reached entry again next h p rest false st s r =
       ends_then (λ end. Keeps setting extra shape class st end × Good end) Good (run again st) _ (ran again st h p s r)
       (λ end e. ends_given Good (nodes entry) (value_in program end entry) _
-      (λ v f. ends_check Good loop_fault (holds v) (λ x. next end) (λ q. rest end e.0.sound e.1)))
+      (λ v f. ends_check Good LOOP (holds v) (λ x. next end) (λ q. rest end e.0.sound e.1)))
 
   turns_reached : (n : ℕ) (entry : Expression) (first again : Statements) (exit : Expression)
       → check_statements typing locals first ≡ passed → check_statements typing locals again ≡ passed → IsPlain first
@@ -195,7 +195,7 @@ module _ (setting : Setting) (classes : KnowsClasses setting.program) (run : Run
       → IsSound st → Good st → Ends Good (statement setting n run (From at entry first again exit) st)
   from_reached n at entry first again exit st hf ha pf pa s r =
       ends_given Good (nodes entry) (value_in program st entry) _
-      (λ v e. ends_check Good loop_fault (not (holds v)) (λ x. turns setting n run entry first again exit st) (λ q.
+      (λ v e. ends_check Good LOOP (not (holds v)) (λ x. turns setting n run entry first again exit st) (λ q.
       turns_reached n entry first again exit hf ha pf pa st s r))
 
   pub with_local_reached : (name : List ℕ) (k : Kind) (value : Expression) (body : Statements) (end_value : Expression)
@@ -217,7 +217,7 @@ module _ (setting : Setting) (classes : KnowsClasses setting.program) (run : Run
       (reaches.by extra (l ∷ locals) (l ∷ shape) class body (opened name v st) inside under checked plain so
       (opened_reaches extra name v st r)))
       (λ end kept. ends_given Good (nodes end_value) (value_in program end end_value) _ (λ w f.
-      ends_check Good delocal_fault (not (same_value (read end (Slot 0)) w)) (λ x. give (closed end)) (λ q.
+      ends_check Good DELOCAL (not (same_value (read end (Slot 0)) w)) (λ x. give (closed end)) (λ q.
       let te = typed_of setting extra (l ∷ shape) class end kept.0.sound in
       let no_name = ends_with setting classes run keeps extra locals shape class inside means end name k end_value w te
       last f in
@@ -233,7 +233,7 @@ module _ (setting : Setting) (classes : KnowsClasses setting.program) (run : Run
       → Ends Good (allocated setting size cell head cells st)
   allocated_reached st head cells size cell k sized s h v empty fit r =
       subst (λ n. Ends Good (allocated setting n cell head cells st)) (sym sized)
-      (ends_check Good heap_full_fault (nat_lt setting.limits.heap (order_of_cells (length (cell_kinds program head)))
+      (ends_check Good HEAP_FULL (nat_lt setting.limits.heap (order_of_cells (length (cell_kinds program head)))
       || is_none (place setting.limits.heap (big.log)))
       (λ x. give (written big cell (Name (2 + count_taken st.log)))) (λ q.
       let tb = bigger_typed setting extra shape class st head cells t fit
@@ -269,10 +269,10 @@ module _ (setting : Setting) (classes : KnowsClasses setting.program) (run : Run
       let makes : Unit {0} → Run State = λ x. spend (setting.limits.heap + 1) >>=
       (λ y. allocated setting (length (zero_values (class_fields program number))) cell (OfClass number)
       (zero_values (class_fields program number)) st) in
-      ends_checked Good (read_cost (own_element target) (index_elements target)) shared_array_fault
+      ends_checked Good (read_cost (own_element target) (index_elements target)) SHARED_ARRAY
       (share_array program st (own_element target) (index_elements target))
-      (λ x. fault_if not_nil_fault (not (is_nil (read st cell))) >>= makes) (λ z.
-      ends_check Good not_nil_fault (not (is_nil (read st cell))) makes (λ q.
+      (λ x. fault_if NOT_NIL (not (is_nil (read st cell))) >>= makes) (λ z.
+      ends_check Good NOT_NIL (not (is_nil (read st cell))) makes (λ q.
       ends_after Good (setting.limits.heap + 1) _
       (allocated_reached st (OfClass number) (zero_values (class_fields program number))
       (length (zero_values (class_fields program number))) cell p.type
@@ -291,10 +291,10 @@ module _ (setting : Setting) (classes : KnowsClasses setting.program) (run : Run
       ends_given Good (index_nodes target) (cell_of program st target) _ (λ cell e.
       ends_given Good (nodes size) (value_in program st size) _ (λ v f.
       let n = number_of v in
-      ends_check Good not_nil_fault (not (is_nil (read st cell))) (λ x. made cell n) (λ q.
+      ends_check Good NOT_NIL (not (is_nil (read st cell))) (λ x. made cell n) (λ q.
       let after : Unit {0} → Run State = λ x. spend (setting.limits.heap + 1) >>=
       (λ y. allocated setting n cell (head n) (replicate n element) st >>= (λ st'. spend n >>= (λ z. give st'))) in
-      ends_check Good length_fault (is_less n 1) after (λ u.
+      ends_check Good LENGTH (is_less n 1) after (λ u.
       ends_after Good (setting.limits.heap + 1) _
       (ends_then Good Good (allocated setting n cell (head n) (replicate n element) st)
       (λ st'. spend n >>= (λ z. give st'))
@@ -306,7 +306,7 @@ module _ (setting : Setting) (classes : KnowsClasses setting.program) (run : Run
       (λ st' kept. kept))))))
     where
       made : Cell → ℕ → Run State
-      made cell n = fault_if length_fault (is_less n 1) >>=
+      made cell n = fault_if LENGTH (is_less n 1) >>=
           (λ x. spend (setting.limits.heap + 1) >>= (λ y. allocated setting n cell (head n) (replicate n element) st >>=
           (λ st'. spend n >>= (λ z. give st'))))
 
@@ -348,17 +348,17 @@ module _ (setting : Setting) (classes : KnowsClasses setting.program) (run : Run
       let object = object_at st.store (number_of (read st cell)) in
       let end : Unit {0} → Run State = λ x. give (freed setting cell (number_of (read st cell)) st) in
       let empty : Unit {0} → Run State = λ x. spend (setting.limits.heap + 1) >>=
-      (λ y. fault_if not_empty_fault (not (all_zero object.cells)) >>= end) in
-      let one : Unit {0} → Run State = λ x. fault_if count_fault (not (nat_eq object.count 1)) >>= empty in
-      let same : Unit {0} → Run State = λ x. fault_if class_differs_fault
+      (λ y. fault_if NOT_EMPTY (not (all_zero object.cells)) >>= end) in
+      let one : Unit {0} → Run State = λ x. fault_if COUNT (not (nat_eq object.count 1)) >>= empty in
+      let same : Unit {0} → Run State = λ x. fault_if CLASS_DIFFERS
       (not (is_of_class object.head (class_number program name.text))) >>= one in
-      ends_checked Good (read_cost (own_element target) (index_elements target)) shared_array_fault
+      ends_checked Good (read_cost (own_element target) (index_elements target)) SHARED_ARRAY
       (share_array program st (own_element target) (index_elements target))
-      (λ x. fault_if nil_fault (is_nil (read st cell)) >>= same) (λ z.
-      ends_check Good nil_fault (is_nil (read st cell)) same (λ q.
-      ends_check Good class_differs_fault (not (is_of_class object.head (class_number program name.text))) one (λ w.
-      ends_check Good count_fault (not (nat_eq object.count 1)) empty (λ u.
-      ends_after Good (setting.limits.heap + 1) _ (ends_check Good not_empty_fault (not (all_zero object.cells)) end
+      (λ x. fault_if NIL (is_nil (read st cell)) >>= same) (λ z.
+      ends_check Good NIL (is_nil (read st cell)) same (λ q.
+      ends_check Good CLASS_DIFFERS (not (is_of_class object.head (class_number program name.text))) one (λ w.
+      ends_check Good COUNT (not (nat_eq object.count 1)) empty (λ u.
+      ends_after Good (setting.limits.heap + 1) _ (ends_check Good NOT_EMPTY (not (all_zero object.cells)) end
       (λ v.
       gone st cell p.type s (there st target p.type cell s p.is e)
       (no_int_takes (table_of program) (AnObject name) p.type p.takes_it) q v r)))))))
@@ -372,15 +372,15 @@ module _ (setting : Setting) (classes : KnowsClasses setting.program) (run : Run
       let array = object_at st.store (number_of (read st cell)) in
       let end : Unit {0} → Run State = λ x. give (freed setting cell (number_of (read st cell)) st) in
       let empty : Unit {0} → Run State = λ x. spend (setting.limits.heap + 1 + length array.cells) >>=
-      (λ y. fault_if not_empty_fault (not (all_zero array.cells)) >>= end) in
-      let one : Unit {0} → Run State = λ x. fault_if count_fault (not (nat_eq array.count 1)) >>= empty in
-      let same : Unit {0} → Run State = λ x. fault_if length_differs_fault
+      (λ y. fault_if NOT_EMPTY (not (all_zero array.cells)) >>= end) in
+      let one : Unit {0} → Run State = λ x. fault_if COUNT (not (nat_eq array.count 1)) >>= empty in
+      let same : Unit {0} → Run State = λ x. fault_if LENGTH_DIFFERS
       (not (nat_eq (length array.cells) (number_of v))) >>= one in
-      ends_check Good nil_fault (is_nil (read st cell)) same (λ q.
-      ends_check Good length_differs_fault (not (nat_eq (length array.cells) (number_of v))) one (λ z.
-      ends_check Good count_fault (not (nat_eq array.count 1)) empty (λ u.
+      ends_check Good NIL (is_nil (read st cell)) same (λ q.
+      ends_check Good LENGTH_DIFFERS (not (nat_eq (length array.cells) (number_of v))) one (λ z.
+      ends_check Good COUNT (not (nat_eq array.count 1)) empty (λ u.
       ends_after Good (setting.limits.heap + 1 + length array.cells) _
-      (ends_check Good not_empty_fault (not (all_zero array.cells)) end (λ w.
+      (ends_check Good NOT_EMPTY (not (all_zero array.cells)) end (λ w.
       gone st cell k s (there st target k cell s h e) no_int q w r)))))))
 
   pub delete_ints_reached : (n at : ℕ) (size : Expression) (target : Lvalue) (st : State)
@@ -409,11 +409,11 @@ module _ (setting : Setting) (classes : KnowsClasses setting.program) (run : Run
       let end : Unit {0} → Run State = λ x. give (counted suc (written st b (read st a)) (number_of (read st a))) in
       let changed = own_element target in
       let reads = index_elements source ++ index_elements target in
-      let rest : Unit {0} → Run State = λ x. fault_if not_nil_fault (not (is_nil (read st b))) >>= end in
-      ends_checked Good (read_cost changed reads) shared_array_fault (share_array program st changed reads)
-      (λ x. fault_if nil_fault (is_nil (read st a)) >>= rest) (λ u.
-      ends_check Good nil_fault (is_nil (read st a)) rest (λ q.
-      ends_check Good not_nil_fault (not (is_nil (read st b))) end (λ z.
+      let rest : Unit {0} → Run State = λ x. fault_if NOT_NIL (not (is_nil (read st b))) >>= end in
+      ends_checked Good (read_cost changed reads) SHARED_ARRAY (share_array program st changed reads)
+      (λ x. fault_if NIL (is_nil (read st a)) >>= rest) (λ u.
+      ends_check Good NIL (is_nil (read st a)) rest (λ q.
+      ends_check Good NOT_NIL (not (is_nil (read st b))) end (λ z.
       copy_reaches setting extra shape class st b (read st a) (number_of (read st a)) (nil_is (read st b) z) r)))))
 
   pub uncopy_reached : (n at : ℕ) (of_type : VarType) (source target : Lvalue) (st : State)
@@ -426,12 +426,12 @@ module _ (setting : Setting) (classes : KnowsClasses setting.program) (run : Run
       let end : Unit {0} → Run State = λ x. give (counted one_less (written st b Nil) (number_of (read st a))) in
       let changed = own_element target in
       let reads = index_elements source ++ index_elements target in
-      let rest : Unit {0} → Run State = λ x. fault_if not_same_fault
+      let rest : Unit {0} → Run State = λ x. fault_if NOT_SAME
       (not (same_value (read st a) (read st b)) || same_cell a b) >>= end in
-      ends_checked Good (read_cost changed reads) shared_array_fault (share_array program st changed reads)
-      (λ x. fault_if nil_fault (is_nil (read st a)) >>= rest) (λ u.
-      ends_check Good nil_fault (is_nil (read st a)) rest (λ q.
-      ends_check Good not_same_fault (not (same_value (read st a) (read st b)) || same_cell a b) end (λ z.
+      ends_checked Good (read_cost changed reads) SHARED_ARRAY (share_array program st changed reads)
+      (λ x. fault_if NIL (is_nil (read st a)) >>= rest) (λ u.
+      ends_check Good NIL (is_nil (read st a)) rest (λ q.
+      ends_check Good NOT_SAME (not (same_value (read st a) (read st b)) || same_cell a b) end (λ z.
       let both = neither (same_value (read st a) (read st b)) (same_cell a b) z in
       uncopy_reaches setting extra shape class st a b p.first p.second (number_of (read st a))
       (seen st source p.first a s p.source_is e) s.self_held (there st target p.second b s p.target_is f)
@@ -456,7 +456,7 @@ module _ (setting : Setting) (classes : KnowsClasses setting.program) (run : Run
       let mean = all_mean setting classes run keeps extra locals shape class inside means true at args st t p.known in
       let run_it : Unit {0} → Run State = λ x. invoked setting run back
       (method_named program (own_class st) method.text) st.self [] cells st in
-      ends_after Good (length args) _ (ends_check Good too_deep_fault (is_too_deep setting st) run_it (λ q.
+      ends_after Good (length args) _ (ends_check Good TOO_DEEP (is_too_deep setting st) run_it (λ q.
       subst (λ c. Ends Good (invoked setting run back (method_named program c method.text) st.self [] cells st))
       (sym object.class_is)
       (invoked_reaches setting classes run keeps reaches extra shape class back
@@ -497,9 +497,9 @@ module _ (setting : Setting) (classes : KnowsClasses setting.program) (run : Run
       let run_it : Unit {0} → Run State = λ x. invoked setting run back
       (method_named program (class_of setting st self) method.text) self (cell ∷ []) cells st in
       ends_after Good (length args) _ (
-      ends_check Good nil_fault (is_nil (read st cell)) (λ x. fault_if too_deep_fault (is_too_deep setting st) >>=
+      ends_check Good NIL (is_nil (read st cell)) (λ x. fault_if TOO_DEEP (is_too_deep setting st) >>=
       run_it) (λ u.
-      ends_check Good too_deep_fault (is_too_deep setting st) run_it (λ q.
+      ends_check Good TOO_DEEP (is_too_deep setting st) run_it (λ q.
       let nm = reference program st.store (read st cell) (kind.Class r.static) fit refl u in
       let is_name = name_is (read st cell) nm in
       let object = is_object program r.static st.store self

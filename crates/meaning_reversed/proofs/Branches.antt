@@ -5,7 +5,7 @@ use Rattle.meaning_machine.specs.rpp_tree.Tree.{Expression, Statement, Statement
 use Rattle.meaning_machine.specs.roopl_semantics.Run.{Done, ◌>>=◌, give, fault_if}
 use Rattle.meaning_machine.specs.roopl_semantics.Store.{Value, State}
 use Rattle.meaning_machine.specs.roopl_semantics.Value.{evaluated}
-use Rattle.meaning_machine.specs.roopl_semantics.Execution.{Setting, exec, holds, fi_fault, loop_fault, turn_end, turns}
+use Rattle.meaning_machine.specs.roopl_semantics.Execution.{Setting, exec, holds, FI, LOOP, turn_end, turns}
 use Rattle.meaning_machine.specs.Machine.{Open, Chosen, First, Again, inside, turned_first, left}
 use Rattle.meaning_machine.specs.Machine.{begun}
 use Rattle.meaning_machine.specs.MachineLaws.{gone, before}
@@ -34,8 +34,8 @@ module _ (setting : Setting) where
         (done_then (exec setting m (if holds v then taken else other) st) _ end end cost (nodes last)
         (cost + nodes last) (runs.by m (omega arith))
         (done_then (evaluated setting.program last end) _ w end (nodes last) 0 (nodes last) f
-        (done_then (fault_if fi_fault (if holds v then not (holds w) else holds w)) _ tt end 0 0 0
-        (passes fi_fault (if holds v then not (holds w) else holds w) agree) refl refl) (omega arith)) refl) refl;
+        (done_then (fault_if FI (if holds v then not (holds w) else holds w)) _ tt end 0 0 0
+        (passes FI (if holds v then not (holds w) else holds w) agree) refl refl) (omega arith)) refl) refl;
   }
 
   -- iterations of a loop with any fuel from their cost on
@@ -82,7 +82,7 @@ module _ (setting : Setting) where
             ∙ done_then (exec setting m two mid) _ next end d (nodes entry + cost) (d + (nodes entry + cost))
             (again.by m (omega arith))
             (done_then (evaluated setting.program entry next) _ w end (nodes entry) cost (nodes entry + cost) f
-            (done_then (fault_if loop_fault (holds w)) _ tt end 0 cost cost (passes loop_fault (holds w) on)
+            (done_then (fault_if LOOP (holds w)) _ tt end 0 cost cost (passes LOOP (holds w) on)
             (more.by m i (omega arith) (let p = some_nodes exit in omega arith)) (omega arith)) refl) refl) refl) refl
 
   -- what a loop does, put together
@@ -92,8 +92,8 @@ module _ (setting : Setting) where
   from_does at entry one two exit st end v cost e enters more = record {
     by = λ m le.
         done_then (evaluated setting.program entry st) _ v end (nodes entry) cost (nodes entry + cost) e
-        (done_then (fault_if loop_fault (not (holds v))) _ tt end 0 cost cost
-        (passes loop_fault (not (holds v)) enters) (more.by m m (omega arith) (omega arith)) (omega arith)) refl;
+        (done_then (fault_if LOOP (not (holds v))) _ tt end 0 cost cost
+        (passes LOOP (not (holds v)) enters) (more.by m m (omega arith) (omega arith)) (omega arith)) refl;
   }
 
   module _ (G : Ground setting) (n : ℕ) (ih : BlocksBack setting G n) (C : G.Context) (past rest : Statements)
@@ -125,11 +125,11 @@ module _ (setting : Setting) where
               let z = before (gone b End) End params (o ∷ around) end in
               let y = left o around params end in
               step_by_step setting j z (λ i li.
-              ends_on (evaluated setting.program last end) (λ w. fault_if fi_fault
+              ends_on (evaluated setting.program last end) (λ w. fault_if FI
               (if holds v then not (holds w) else holds w) >>= (λ u. give y)) _ (Leads setting i z)
               (ends_valued setting last end) (λ w f.
-              ends_on (fault_if fi_fault (if holds v then not (holds w) else holds w)) (λ u. give y) _
-              (Leads setting i z) (checked_ends fi_fault (if holds v then not (holds w) else holds w)) (λ u agree.
+              ends_on (fault_if FI (if holds v then not (holds w) else holds w)) (λ u. give y) _
+              (Leads setting i z) (checked_ends FI (if holds v then not (holds w) else holds w)) (λ u agree.
               ends_done y 0 (Leads setting i z) (
                 leads setting z y refl (if_left setting (gone b End) past rest params around end at test taken other
                     last (holds v) w (nodes last) (unwound_gone b End) f agree),
@@ -194,10 +194,10 @@ module _ (setting : Setting) where
                     let q = before (gone two End) End params (in_two ∷ around) next in
                     let y = before End one params (in_one ∷ around) next in
                     step_by_step setting p q (λ r lr.
-                    ends_on (evaluated setting.program entry next) (λ w. fault_if loop_fault (holds w) >>=
+                    ends_on (evaluated setting.program entry next) (λ w. fault_if LOOP (holds w) >>=
                     (λ u. give y)) _ (Leads setting r q) (ends_valued setting entry next) (λ w f.
-                    ends_on (fault_if loop_fault (holds w)) (λ u. give y) _ (Leads setting r q)
-                    (checked_ends loop_fault (holds w)) (λ u enters.
+                    ends_on (fault_if LOOP (holds w)) (λ u. give y) _ (Leads setting r q)
+                    (checked_ends LOOP (holds w)) (λ u enters.
                     ends_done y 0 (Leads setting r q) (
                       leads setting q y refl (loop_turned setting past rest params around next at entry one two exit
                           (gone two End) w (nodes entry) (unwound_gone two End) f enters),
@@ -218,10 +218,10 @@ module _ (setting : Setting) where
       from_back k le st good on =
           let x = before past (Then loop rest) params around st in
           let y = before End one params (in_one ∷ around) st in
-          ends_on (evaluated setting.program entry st) (λ v. fault_if loop_fault (not (holds v)) >>= (λ u. give y)) _
+          ends_on (evaluated setting.program entry st) (λ v. fault_if LOOP (not (holds v)) >>= (λ u. give y)) _
           (Leads setting k x) (ends_valued setting entry st) (λ v e.
-          ends_on (fault_if loop_fault (not (holds v))) (λ u. give y) _ (Leads setting k x)
-          (checked_ends loop_fault (not (holds v))) (λ u enters.
+          ends_on (fault_if LOOP (not (holds v))) (λ u. give y) _ (Leads setting k x)
+          (checked_ends LOOP (not (holds v))) (λ u enters.
           ends_done y 0 (Leads setting k x) (
             leads setting x y refl (loop_entered setting past rest params around st at entry one two exit v
                 (nodes entry) e (not-false (holds v) enters)),

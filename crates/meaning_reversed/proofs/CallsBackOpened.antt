@@ -10,10 +10,10 @@ use Rattle.meaning_inverse.specs.inverse_rules.Inverse.{inverse_statement}
 use Rattle.meaning_machine.specs.roopl_semantics.Run.{Run, Done, ◌>>=◌, give, spend, fault_if}
 use Rattle.meaning_machine.specs.roopl_semantics.Store.{Value, Nil, Name, State, is_nil, number_of, object_at}
 use Rattle.meaning_machine.specs.roopl_semantics.Store.{class_of_head}
-use Rattle.meaning_machine.specs.roopl_semantics.Value.{Cell, cell_named, own_class, read, nil_fault}
+use Rattle.meaning_machine.specs.roopl_semantics.Value.{Cell, cell_named, own_class, read, NIL}
 use Rattle.meaning_machine.specs.roopl_semantics.Execution.{Setting, exec, invoked, cells_named, class_of}
 use Rattle.meaning_machine.specs.roopl_semantics.Execution.{is_too_deep}
-use Rattle.meaning_machine.specs.roopl_semantics.Execution.{too_deep_fault}
+use Rattle.meaning_machine.specs.roopl_semantics.Execution.{TOO_DEEP}
 use Rattle.meaning_machine.specs.Machine.{Config, Open, entered, next}
 use Rattle.meaning_machine.specs.MachineLaws.{before}
 use Rattle.meaning_inverse.proofs.Runs.{in_parts, done_then, done_result, passed_check, passes}
@@ -61,11 +61,11 @@ module _ (setting : Setting) (G : Ground setting) (C : G.Context) (at : ℕ) (di
     runs = λ m end cost e.
         (let run : Run State = invoked setting (exec setting m) direction own_method st.self []
         (cells_named setting st args) st in
-        done_then (spend (length args)) (λ u. fault_if too_deep_fault (is_too_deep setting st) >>=
+        done_then (spend (length args)) (λ u. fault_if TOO_DEEP (is_too_deep setting st) >>=
         (λ w. run)) tt end
         (length args) cost (length args + cost) refl
-        (done_then (fault_if too_deep_fault (is_too_deep setting st)) (λ w. run) tt end 0 cost cost
-        (passes too_deep_fault (is_too_deep setting st) check) e (omega arith)) refl);
+        (done_then (fault_if TOO_DEEP (is_too_deep setting st)) (λ w. run) tt end 0 cost cost
+        (passes TOO_DEEP (is_too_deep setting st) check) e (omega arith)) refl);
     again = λ z good_z later holds rest.
         (let b : State = z.state in
         let into : ℕ → ℕ → List Cell → Config = λ k object cells. entered setting z
@@ -78,12 +78,12 @@ module _ (setting : Setting) (G : Ground setting) (C : G.Context) (at : ℕ) (di
         ap (λ k. into k b.self (cells_named setting b args)) class
         ∙ ap (λ k. into (own_class st) k (cells_named setting b args)) later.self
         ∙ ap (λ l. into (own_class st) st.self l) (same_cells setting st b later class args) in
-        done_then (spend (length args)) (λ u. fault_if too_deep_fault (is_too_deep setting b) >>=
+        done_then (spend (length args)) (λ u. fault_if TOO_DEEP (is_too_deep setting b) >>=
         (λ w. give found)) tt
         wanted (length args) 0 (length args) refl
-        (done_then (fault_if too_deep_fault (is_too_deep setting b)) (λ w. give found) tt wanted 0 0
+        (done_then (fault_if TOO_DEEP (is_too_deep setting b)) (λ w. give found) tt wanted 0 0
         0
-        (passes too_deep_fault (is_too_deep setting b) (not_deeper setting st b later ∙ check))
+        (passes TOO_DEEP (is_too_deep setting b) (not_deeper setting st b later ∙ check))
         (ap (λ (x : Config). Done x 0) same) refl) (omega arith));
   }
 
@@ -95,14 +95,14 @@ module _ (setting : Setting) (G : Ground setting) (C : G.Context) (at : ℕ) (di
       let x : Config = before past (Then own_call rest) params around st in
       let begins : Config = entered setting x own_call rest direction own_method st.self []
       (cells_named setting st args) in
-      let deep : Run Config = fault_if too_deep_fault (is_too_deep setting st) >>=
+      let deep : Run Config = fault_if TOO_DEEP (is_too_deep setting st) >>=
       (λ u. give begins) in
       let one = in_parts (spend 1) (λ u. spend (length args) >>= (λ w. deep)) y c e in
       let two = in_parts (spend (length args)) (λ w. deep) y one.after one.second in
-      let three = in_parts (fault_if too_deep_fault (is_too_deep setting st)) (λ u. give begins) y
+      let three = in_parts (fault_if TOO_DEEP (is_too_deep setting st)) (λ u. give begins) y
       two.after two.second
       in
-      let check = passed_check too_deep_fault (is_too_deep setting st) three.middle three.before
+      let check = passed_check TOO_DEEP (is_too_deep setting st) three.middle three.before
       three.first in
       subst (λ (w : Config). CallOpened setting G past rest params around st own_call w)
       (done_result begins y 0 three.after three.second)
@@ -131,16 +131,16 @@ module _ (setting : Setting) (G : Ground setting) (C : G.Context) (at : ℕ) (di
           (method_named setting.program (class_of setting st n) method.text) n (cell ∷ [])
           (cells_named setting st args)
           st in
-          let deep : Run State = fault_if too_deep_fault (is_too_deep setting st)
+          let deep : Run State = fault_if TOO_DEEP (is_too_deep setting st)
           >>= (λ u. run (number_of (read st cell))) in
-          done_then (spend (length args)) (λ u. fault_if nil_fault (is_nil (read st cell)) >>=
+          done_then (spend (length args)) (λ u. fault_if NIL (is_nil (read st cell)) >>=
           (λ w. deep)) tt end
           (length args) cost (length args + cost) refl
-          (done_then (fault_if nil_fault (is_nil (read st cell))) (λ w. deep) tt end 0 cost cost
-          (passes nil_fault (is_nil (read st cell)) (ap is_nil is_self))
-          (done_then (fault_if too_deep_fault (is_too_deep setting st))
+          (done_then (fault_if NIL (is_nil (read st cell))) (λ w. deep) tt end 0 cost cost
+          (passes NIL (is_nil (read st cell)) (ap is_nil is_self))
+          (done_then (fault_if TOO_DEEP (is_too_deep setting st))
           (λ u. run (number_of (read st cell))) tt end 0
-          cost cost (passes too_deep_fault (is_too_deep setting st) check)
+          cost cost (passes TOO_DEEP (is_too_deep setting st) check)
           (ap (λ v. run (number_of v)) is_self ∙ e) (omega arith)) (omega arith)) refl);
       again = λ z good_z later holds rest.
           (let b : State = z.state in
@@ -169,16 +169,16 @@ module _ (setting : Setting) (G : Ground setting) (C : G.Context) (at : ℕ) (di
           ∙ ap (λ p. into (class_of setting st self) self p cells) there
           ∙ ap (λ l. into (class_of setting st self) self cell l)
           (same_cells setting st b later class args) in
-          let deep : Run Config = fault_if too_deep_fault (is_too_deep setting b)
+          let deep : Run Config = fault_if TOO_DEEP (is_too_deep setting b)
           >>= (λ u. give (found (read b place))) in
-          done_then (spend (length args)) (λ u. fault_if nil_fault (is_nil (read b place)) >>=
+          done_then (spend (length args)) (λ u. fault_if NIL (is_nil (read b place)) >>=
           (λ w. deep)) tt wanted
           (length args) 0 (length args) refl
-          (done_then (fault_if nil_fault (is_nil (read b place))) (λ w. deep) tt wanted 0 0 0
-          (passes nil_fault (is_nil (read b place)) (ap is_nil reads_there))
-          (done_then (fault_if too_deep_fault (is_too_deep setting b))
+          (done_then (fault_if NIL (is_nil (read b place))) (λ w. deep) tt wanted 0 0 0
+          (passes NIL (is_nil (read b place)) (ap is_nil reads_there))
+          (done_then (fault_if TOO_DEEP (is_too_deep setting b))
           (λ u. give (found (read b place))) tt wanted 0 0 0
-          (passes too_deep_fault (is_too_deep setting b) (not_deeper setting st b later ∙ check))
+          (passes TOO_DEEP (is_too_deep setting b) (not_deeper setting st b later ∙ check))
           (ap (λ (x : Config). Done x 0) same) refl) refl) (omega arith));
     }
 
@@ -193,19 +193,19 @@ module _ (setting : Setting) (G : Ground setting) (C : G.Context) (at : ℕ) (di
         (cells_named setting st args)
         in
         let number : ℕ = number_of (read st cell) in
-        let deep : Run Config = fault_if too_deep_fault (is_too_deep setting st) >>=
+        let deep : Run Config = fault_if TOO_DEEP (is_too_deep setting st) >>=
         (λ u. give (begins number)) in
-        let nil : Run Config = fault_if nil_fault (is_nil (read st cell)) >>= (λ u. deep) in
+        let nil : Run Config = fault_if NIL (is_nil (read st cell)) >>= (λ u. deep) in
         let one = in_parts (spend 1) (λ u. spend (length args) >>= (λ w. nil)) y c e in
         let two = in_parts (spend (length args)) (λ w. nil) y one.after one.second in
-        let three = in_parts (fault_if nil_fault (is_nil (read st cell))) (λ u. deep) y two.after
+        let three = in_parts (fault_if NIL (is_nil (read st cell))) (λ u. deep) y two.after
         two.second in
-        let four = in_parts (fault_if too_deep_fault (is_too_deep setting st))
+        let four = in_parts (fault_if TOO_DEEP (is_too_deep setting st))
         (λ u. give (begins number)) y three.after
         three.second in
-        let not_nil = passed_check nil_fault (is_nil (read st cell)) three.middle three.before
+        let not_nil = passed_check NIL (is_nil (read st cell)) three.middle three.before
         three.first in
-        let check = passed_check too_deep_fault (is_too_deep setting st) four.middle four.before
+        let check = passed_check TOO_DEEP (is_too_deep setting st) four.middle four.before
         four.first in
         let facts = G.call C at direction name method args st typed good not_nil.0 check.0 in
         let its_number : facts.0 ≡ number = sym (ap number_of facts.1) in

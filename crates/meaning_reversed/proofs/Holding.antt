@@ -10,7 +10,7 @@ use Rattle.meaning_machine.specs.roopl_semantics.Run.{Done, after_cost, ◌>>=�
 use Rattle.meaning_machine.specs.roopl_semantics.Store.{Value, Nil, State, same_value}
 use Rattle.meaning_machine.specs.roopl_semantics.Value.{Slot, read, value as value_in, evaluated}
 use Rattle.meaning_machine.specs.roopl_semantics.Execution.{Setting, statement, exec, opened, closed, with_local, constructed}
-use Rattle.meaning_machine.specs.roopl_semantics.Execution.{element_call, element_name, delocal_fault}
+use Rattle.meaning_machine.specs.roopl_semantics.Execution.{element_call, element_name, DELOCAL}
 use Rattle.meaning_machine.specs.Machine.{Config, Open, Holding, inside, held_local, left, begun}
 use Rattle.meaning_machine.specs.MachineLaws.{gone, before}
 use Rattle.meaning_machine.specs.Turned.{each_undone, turn, unwound}
@@ -57,10 +57,10 @@ module _ (setting : Setting) (s : Statement) (name : List ℕ) (value : Expressi
         record {
           cost = nodes value + (0 + 0);
           steps =
-              ap (λ q. q >>= (λ w. fault_if delocal_fault (not (same_value v w)) >>= (λ u. give (turn x))))
+              ap (λ q. q >>= (λ w. fault_if DELOCAL (not (same_value v w)) >>= (λ u. give (turn x))))
               (done_given (nodes value) (value_in setting.program (opened name v st) value) v
               (value_under setting.program name v st value scope.none ∙ is))
-              ∙ ap (λ b. after_cost (nodes value) (fault_if delocal_fault (not b) >>= (λ u. give (turn x))))
+              ∙ ap (λ b. after_cost (nodes value) (fault_if DELOCAL (not b) >>= (λ u. give (turn x))))
               (same_value_itself v);
         }
 
@@ -95,8 +95,8 @@ module _ (setting : Setting) (s : Statement) (name : List ℕ) (value : Expressi
           (done_then (exec setting m body (opened name v st)) _ end (closed end) cost (nodes end_value)
           (cost + nodes end_value) (runs.by m (omega arith))
           (done_then (evaluated setting.program end_value end) _ w (closed end) (nodes end_value) 0 (nodes end_value) f
-          (done_then (fault_if delocal_fault (not (same_value (read end (Slot 0)) w))) _ tt (closed end) 0 0 0
-          (passes delocal_fault (not (same_value (read end (Slot 0)) w)) check) refl refl) (omega arith)) refl) refl;
+          (done_then (fault_if DELOCAL (not (same_value (read end (Slot 0)) w))) _ tt (closed end) 0 0 0
+          (passes DELOCAL (not (same_value (read end (Slot 0)) w)) check) refl refl) (omega arith)) refl) refl;
     }
 
     module _ (G : Ground setting) (n : ℕ) (ih : BlocksBack setting G n) where
@@ -133,11 +133,11 @@ module _ (setting : Setting) (s : Statement) (name : List ℕ) (value : Expressi
                 let z = before (gone body End) End params (held ∷ around) end in
                 let q = left held around params (closed end) in
                 step_by_step setting j z (λ i li.
-                ends_on (evaluated setting.program end_value end) (λ w. fault_if delocal_fault
+                ends_on (evaluated setting.program end_value end) (λ w. fault_if DELOCAL
                 (not (same_value (read end (Slot 0)) w)) >>= (λ u. give q)) _ (Leads setting i z)
                 (ends_valued setting end_value end) (λ w f.
-                ends_on (fault_if delocal_fault (not (same_value (read end (Slot 0)) w))) (λ u. give q) _
-                (Leads setting i z) (checked_ends delocal_fault (not (same_value (read end (Slot 0)) w)))
+                ends_on (fault_if DELOCAL (not (same_value (read end (Slot 0)) w))) (λ u. give q) _
+                (Leads setting i z) (checked_ends DELOCAL (not (same_value (read end (Slot 0)) w)))
                 (λ u check.
                 let formed = shape st end v w cost sound runs check in
                 let is_w = (given_done (nodes end_value) (value_in setting.program end end_value) w (nodes end_value)

@@ -14,12 +14,12 @@ use Rattle.meaning_machine.specs.roopl_semantics.Run.{Run, Done, ◌>>=◌, spen
 use Rattle.meaning_machine.specs.roopl_semantics.Store.{Value, Word, Nil, Name, Head, OfClass, OfInts, OfObjects, Object, Store, State}
 use Rattle.meaning_machine.specs.roopl_semantics.Store.{is_nil, number_of, object_named, object_at, no_object, changed_at, without}
 use Rattle.meaning_machine.specs.roopl_semantics.Value.{Cell, Part, with_value, read, written, value as value_in, cell_of}
-use Rattle.meaning_machine.specs.roopl_semantics.Value.{evaluated, found, nil_fault}
+use Rattle.meaning_machine.specs.roopl_semantics.Value.{evaluated, found, NIL}
 use Rattle.meaning_machine.specs.roopl_semantics.Elements.{index_elements, own_element, share_array, kept_apart}
 use Rattle.meaning_machine.specs.roopl_semantics.Execution.{Setting, Runner, statement, allocated, freed, new_array, delete_array}
-use Rattle.meaning_machine.specs.roopl_semantics.Execution.{new_object, order_of_cells, is_of_class, all_zero, not_nil_fault}
-use Rattle.meaning_machine.specs.roopl_semantics.Execution.{length_fault, length_differs_fault, count_fault, not_empty_fault}
-use Rattle.meaning_machine.specs.roopl_semantics.Execution.{class_differs_fault}
+use Rattle.meaning_machine.specs.roopl_semantics.Execution.{new_object, order_of_cells, is_of_class, all_zero, NOT_NIL}
+use Rattle.meaning_machine.specs.roopl_semantics.Execution.{LENGTH, LENGTH_DIFFERS, COUNT, NOT_EMPTY}
+use Rattle.meaning_machine.specs.roopl_semantics.Execution.{CLASS_DIFFERS}
 use Rattle.meaning_inverse.specs.meaning_sound.Sound.{Descending}
 use Rattle.meaning_inverse.proofs.meaning_sound_laws.Stores.{below_bound, live_named, descends_changed}
 use Rattle.meaning_inverse.proofs.Runs.{given_done, done_given, done_then, apart_done, passed_check}
@@ -216,9 +216,9 @@ module _ (setting : Setting) where
   new_array_back target size head element a sound known =
       ends_on (found setting.program target a) _ _ _ (finds setting.program target a) (λ cell place.
       ends_on (evaluated setting.program size a) _ _ _ (evaluates setting.program size a) (λ v value.
-      ends_on (fault_if not_nil_fault (not (is_nil (read a cell)))) _ _ _
-      (passes not_nil_fault (not (is_nil (read a cell)))) (λ u some.
-      ends_then (fault_if length_fault (is_less (number_of v) 1)) _ _ (λ w.
+      ends_on (fault_if NOT_NIL (not (is_nil (read a cell)))) _ _ _
+      (passes NOT_NIL (not (is_nil (read a cell)))) (λ u some.
+      ends_then (fault_if LENGTH (is_less (number_of v) 1)) _ _ (λ w.
       ends_then (spend (setting.limits.heap + 1)) _ _ (λ x.
       ends_on (allocated setting (number_of v) cell (head (number_of v)) (replicate (number_of v) element) a) _
       (TakesBack target a) _ (by cell v place value some) (λ end back.
@@ -245,8 +245,8 @@ module _ (setting : Setting) (G : Ground setting) (C : G.Context) (a : State) (g
       ends_on (found setting.program target a) _ _ _ (finds setting.program target a) (λ cell place.
       ends_on (kept_apart setting.program (own_element target) (index_elements target) a) _ _ _
       (passes_apart setting.program target a) (λ t unshared.
-      ends_on (fault_if not_nil_fault (not (is_nil (read a cell)))) _ _ _
-      (passes not_nil_fault (not (is_nil (read a cell)))) (λ u some.
+      ends_on (fault_if NOT_NIL (not (is_nil (read a cell)))) _ _ _
+      (passes NOT_NIL (not (is_nil (read a cell)))) (λ u some.
       ends_then (spend (setting.limits.heap + 1)) _ _ (λ w.
       (let nil = is_nil_value (read a cell) (not_false (is_nil (read a cell)) some) in
       let facts = G.new_object C at class target a cell typed good place unshared nil in
@@ -330,16 +330,16 @@ module _ (setting : Setting) (G : Ground setting) (C : G.Context) (a : State) (g
         ends_on (found setting.program target a) _ _ _ (finds setting.program target a) (λ cell place.
         ends_on (kept_apart setting.program (own_element target) (index_elements target) a) _ _ _
         (passes_apart setting.program target a) (λ t unshared.
-        ends_on (fault_if nil_fault (is_nil (read a cell))) _ _ _ (passes nil_fault (is_nil (read a cell))) (λ u some.
-        ends_on (fault_if class_differs_fault (not (is_of_class (thing cell).head
+        ends_on (fault_if NIL (is_nil (read a cell))) _ _ _ (passes NIL (is_nil (read a cell))) (λ u some.
+        ends_on (fault_if CLASS_DIFFERS (not (is_of_class (thing cell).head
         (class_number setting.program class.text)))) _ _ _
-        (passes class_differs_fault (not (is_of_class (thing cell).head
+        (passes CLASS_DIFFERS (not (is_of_class (thing cell).head
         (class_number setting.program class.text)))) (λ w fits.
-        ends_on (fault_if count_fault (not (nat_eq (thing cell).count 1))) _ _ _
-        (passes count_fault (not (nat_eq (thing cell).count 1))) (λ x single.
+        ends_on (fault_if COUNT (not (nat_eq (thing cell).count 1))) _ _ _
+        (passes COUNT (not (nat_eq (thing cell).count 1))) (λ x single.
         ends_then (spend (setting.limits.heap + 1)) _ _ (λ y.
-        ends_on (fault_if not_empty_fault (not (all_zero (thing cell).cells))) _ _ _
-        (passes not_empty_fault (not (all_zero (thing cell).cells))) (λ z empty.
+        ends_on (fault_if NOT_EMPTY (not (all_zero (thing cell).cells))) _ _ _
+        (passes NOT_EMPTY (not (all_zero (thing cell).cells))) (λ z empty.
         ends_done (freed setting cell (number_of (read a cell)) a) 0 _
         (object_back at class target cell typed place unshared some fits single empty))))))))
 
@@ -401,14 +401,14 @@ module _ (setting : Setting) (G : Ground setting) (C : G.Context) (a : State) (g
         let thing : Cell → Object = λ x. object_at a.store (number_of (read a x)) in
         ends_on (found setting.program target a) _ _ _ (finds setting.program target a) (λ cell place.
         ends_on (evaluated setting.program size a) _ _ _ (evaluates setting.program size a) (λ v value.
-        ends_on (fault_if nil_fault (is_nil (read a cell))) _ _ _ (passes nil_fault (is_nil (read a cell))) (λ u some.
-        ends_on (fault_if length_differs_fault (not (nat_eq (length (thing cell).cells) (number_of v)))) _ _ _
-        (passes length_differs_fault (not (nat_eq (length (thing cell).cells) (number_of v)))) (λ w long.
-        ends_on (fault_if count_fault (not (nat_eq (thing cell).count 1))) _ _ _
-        (passes count_fault (not (nat_eq (thing cell).count 1))) (λ x single.
+        ends_on (fault_if NIL (is_nil (read a cell))) _ _ _ (passes NIL (is_nil (read a cell))) (λ u some.
+        ends_on (fault_if LENGTH_DIFFERS (not (nat_eq (length (thing cell).cells) (number_of v)))) _ _ _
+        (passes LENGTH_DIFFERS (not (nat_eq (length (thing cell).cells) (number_of v)))) (λ w long.
+        ends_on (fault_if COUNT (not (nat_eq (thing cell).count 1))) _ _ _
+        (passes COUNT (not (nat_eq (thing cell).count 1))) (λ x single.
         ends_then (spend (setting.limits.heap + 1 + length (thing cell).cells)) _ _ (λ y.
-        ends_on (fault_if not_empty_fault (not (all_zero (thing cell).cells))) _ _ _
-        (passes not_empty_fault (not (all_zero (thing cell).cells))) (λ z empty.
+        ends_on (fault_if NOT_EMPTY (not (all_zero (thing cell).cells))) _ _ _
+        (passes NOT_EMPTY (not (all_zero (thing cell).cells))) (λ z empty.
         ends_done (freed setting cell (number_of (read a cell)) a) 0 _
         (array_back target size head element cell v known place value some long single empty))))))))
 

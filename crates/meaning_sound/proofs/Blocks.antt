@@ -14,9 +14,9 @@ use Rattle.roopl_semantics.specs.Operators.{updated}
 use Rattle.roopl_semantics.specs.Run.{Run, give}
 use Rattle.roopl_semantics.specs.Store.{Word, State, number_of}
 use Rattle.roopl_semantics.specs.Value.{read, value as value_in, cell_of}
-use Rattle.roopl_semantics.specs.Elements.{shared_array_fault, elements, index_elements, own_element, share_array}
+use Rattle.roopl_semantics.specs.Elements.{SHARED_ARRAY, elements, index_elements, own_element, share_array}
 use Rattle.roopl_semantics.specs.Elements.{read_cost}
-use Rattle.roopl_semantics.specs.Execution.{Setting, Runner, holds, loop_fault, fi_fault, turn_end, turns, statement}
+use Rattle.roopl_semantics.specs.Execution.{Setting, Runner, holds, LOOP, FI, turn_end, turns, statement}
 use Rattle.roopl_semantics.specs.Laws.{one_if_name}
 use Rattle.meaning_sound.specs.Sound.{fits, cell_kind, Sound, Keeps}
 use Rattle.meaning_sound.specs.Plain.{HasWords, IsPlain}
@@ -81,7 +81,7 @@ module _ (setting : Setting) (classes : KnowsClasses setting.program) (run : Run
       let w = updated op (number_of (read st cell)) (number_of x) in
       let changed = own_element target in
       let reads = index_elements target ++ elements value in
-      ends_checked (Kept st) (read_cost changed reads) shared_array_fault (share_array program st changed reads)
+      ends_checked (Kept st) (read_cost changed reads) SHARED_ARRAY (share_array program st changed reads)
       (λ u. give (Rattle.roopl_semantics.specs.Value.written st cell (Word w))) (λ q.
       write_keeps setting extra shape class st cell kind.Int (Word w) s place
       (word_fits program st.store w (updated_word op (number_of (read st cell)) (number_of x)
@@ -102,7 +102,7 @@ module _ (setting : Setting) (classes : KnowsClasses setting.program) (run : Run
       let reads = index_elements left ++ index_elements right in
       let ends : Unit {0} → Run State = λ u. give (Rattle.roopl_semantics.specs.Value.written
       (Rattle.roopl_semantics.specs.Value.written st a (read st b)) b (read st a)) in
-      ends_checked (Kept st) (read_cost changed reads) shared_array_fault (share_array program st changed reads) ends
+      ends_checked (Kept st) (read_cost changed reads) SHARED_ARRAY (share_array program st changed reads) ends
       (λ q.
       swap_keeps setting extra shape class st a b l.value s
       (cell_found program shape st.store l.value (cell_of program st left) a
@@ -132,7 +132,7 @@ module _ (setting : Setting) (classes : KnowsClasses setting.program) (run : Run
       (keeps.by extra locals shape class (if holds v then taken else other) st inside means
       (chosen_checks (holds v) taken other ht ho) (chosen_plain (holds v) taken other pt po) s)
       (λ end k. ends_given (Kept st) (nodes after) (value_in program end after) _
-      (λ w f. ends_check (Kept st) fi_fault (if holds v then not (holds w) else holds w) (λ x. give end)
+      (λ w f. ends_check (Kept st) FI (if holds v then not (holds w) else holds w) (λ x. give end)
       (λ q. k))))
 
   turn_end_keeps : (entry : Expression) (again : Statements) (next : State → Run State) (start : State)
@@ -144,7 +144,7 @@ module _ (setting : Setting) (classes : KnowsClasses setting.program) (run : Run
       ends_then (Kept st) (Kept start) (run again st) _ (keeps.by extra locals shape class again st inside means h p
       k.sound)
       (λ end e. ends_given (Kept start) (nodes entry) (value_in program end entry) _
-      (λ v f. ends_check (Kept start) loop_fault (holds v) (λ x. next end)
+      (λ v f. ends_check (Kept start) LOOP (holds v) (λ x. next end)
       (λ q. rest end (keeps_through setting extra shape class start st end k e))))
 
   turns_keep : (n : ℕ) (entry : Expression) (first again : Statements) (exit : Expression) (start : State)
@@ -166,6 +166,6 @@ module _ (setting : Setting) (classes : KnowsClasses setting.program) (run : Run
       (statement setting n run (From at entry first again exit) st)
   from_keeps n at entry first again exit st hf ha pf pa s =
       ends_given (Kept st) (nodes entry) (value_in program st entry) _
-      (λ v e. ends_check (Kept st) loop_fault (not (holds v)) (λ x. turns setting n run entry first again exit st)
+      (λ v e. ends_check (Kept st) LOOP (not (holds v)) (λ x. turns setting n run entry first again exit st)
       (λ q.
       turns_keep n entry first again exit st hf ha pf pa st (keeps_itself setting extra shape class st s)))

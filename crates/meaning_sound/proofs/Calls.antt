@@ -28,9 +28,9 @@ use Rattle.roopl_semantics.specs.rpp_tree.Places.{place_name}
 use Rattle.roopl_semantics.specs.class_rules.Program.{setting_in}
 use Rattle.roopl_semantics.specs.Run.{Run, ◌>>=◌, give}
 use Rattle.roopl_semantics.specs.Store.{State, number_of, is_nil}
-use Rattle.roopl_semantics.specs.Value.{Cell, cell_named, own_class, read, nil_fault}
+use Rattle.roopl_semantics.specs.Value.{Cell, cell_named, own_class, read, NIL}
 use Rattle.roopl_semantics.specs.Execution.{Setting, Runner, same_cell, cells_named, class_of, is_too_deep}
-use Rattle.roopl_semantics.specs.Execution.{too_deep_fault, invoked, statement}
+use Rattle.roopl_semantics.specs.Execution.{TOO_DEEP, invoked, statement}
 use Rattle.roopl_semantics.specs.Laws.{one_if_name}
 use Rattle.roopl_semantics.specs.class_rules.Inheritance.{kind_of_var}
 use Rattle.meaning_sound.specs.Sound.{fits, name_of, Sound, Keeps, Typed}
@@ -249,7 +249,7 @@ module _ (setting : Setting) (classes : KnowsClasses setting.program) (run : Run
       let mean = all_mean true at args st t p.known in
       let run_it : Unit {0} → Run State = λ x. invoked setting run back
       (method_named program (own_class st) method.text) st.self [] cells st in
-      ends_after (Kept st) (length args) _ (ends_check (Kept st) too_deep_fault (is_too_deep setting st) run_it (λ q.
+      ends_after (Kept st) (length args) _ (ends_check (Kept st) TOO_DEEP (is_too_deep setting st) run_it (λ q.
       subst (λ c. Ends (Kept st) (invoked setting run back (method_named program c method.text) st.self [] cells st))
       (sym object.class_is)
       (invoked_keeps setting classes run keeps extra shape class back (method_named program object.own method.text)
@@ -323,9 +323,9 @@ module _ (setting : Setting) (classes : KnowsClasses setting.program) (run : Run
       let run_it : Unit {0} → Run State = λ x. invoked setting run back
       (method_named program (class_of setting st self) method.text) self (cell ∷ []) cells st in
       ends_after (Kept st) (length args) _ (
-      ends_check (Kept st) nil_fault (is_nil (read st cell))
-      (λ x. Rattle.roopl_semantics.specs.Run.fault_if too_deep_fault (is_too_deep setting st) >>= run_it) (λ u.
-      ends_check (Kept st) too_deep_fault (is_too_deep setting st) run_it (λ q.
+      ends_check (Kept st) NIL (is_nil (read st cell))
+      (λ x. Rattle.roopl_semantics.specs.Run.fault_if TOO_DEEP (is_too_deep setting st) >>= run_it) (λ u.
+      ends_check (Kept st) TOO_DEEP (is_too_deep setting st) run_it (λ q.
       let nm = reference program st.store (read st cell) (kind.Class r.static) fit refl u in
       let is_name = name_is (read st cell) nm in
       let object = is_object program r.static st.store self

@@ -23,7 +23,7 @@ use Rattle.roopl_semantics.specs.class_rules.Program.{setting_in}
 use Rattle.roopl_semantics.specs.Run.{give}
 use Rattle.roopl_semantics.specs.Store.{Value, Word, Nil, Name, Store, Binding, State, main_name, same_value}
 use Rattle.roopl_semantics.specs.Value.{Slot, value_at, read, value as value_in}
-use Rattle.roopl_semantics.specs.Execution.{Setting, Runner, opened, closed, rest_of, delocal_fault, with_local}
+use Rattle.roopl_semantics.specs.Execution.{Setting, Runner, opened, closed, rest_of, DELOCAL, with_local}
 use Rattle.roopl_semantics.specs.Laws.{one_if_name, holders_among}
 use Rattle.meaning_sound.specs.Sound.{fits, AllFit, value_of, name_of, local_name, local_type, Sound, Keeps, Typed}
 use Rattle.meaning_sound.specs.Plain.{HasWords, IsPlain}
@@ -205,7 +205,7 @@ module _ (setting : Setting) (classes : KnowsClasses setting.program) (run : Run
       (keeps.by extra (l ∷ locals) (l ∷ shape) class body (opened name v st) inside (means_under l locals shape means)
       checked plain (opened_sound setting extra shape class st name k v s b.0 b.1))
       (λ end kept. ends_given (Kept st) (nodes end_value) (value_in program end end_value) _ (λ w f.
-      ends_check (Kept st) delocal_fault (not (same_value (read end (Slot 0)) w)) (λ x. give (closed end)) (λ q.
+      ends_check (Kept st) DELOCAL (not (same_value (read end (Slot 0)) w)) (λ x. give (closed end)) (λ q.
       let te = typed_of setting extra (l ∷ shape) class end kept.sound in
       let no_name = ends_with end name k end_value w te last f in
       let same : value_at end.frame 0 ≡ w = same_value_is (value_at end.frame 0) w (passes_not _ q) in

@@ -30,10 +30,10 @@ use Rattle.roopl_semantics.proofs.class_rules_laws.Tables.{table_reads}
 use Rattle.roopl_semantics.specs.Run.{Run, ◌>>=◌, give, spend}
 use Rattle.roopl_semantics.specs.Store.{Value, Word, Nil, Name, Head, OfClass, OfInts, OfObjects, Store, State}
 use Rattle.roopl_semantics.specs.Store.{number_of, is_nil, zero_value, zero_values, same_value, object_at}
-use Rattle.roopl_semantics.specs.Value.{Cell, read, written, value as value_in, cell_of, nil_fault}
-use Rattle.roopl_semantics.specs.Elements.{shared_array_fault, index_elements, own_element, share_array, read_cost}
-use Rattle.roopl_semantics.specs.Execution.{Setting, Runner, not_nil_fault, count_fault, not_empty_fault}
-use Rattle.roopl_semantics.specs.Execution.{class_differs_fault, length_differs_fault, length_fault, not_same_fault}
+use Rattle.roopl_semantics.specs.Value.{Cell, read, written, value as value_in, cell_of, NIL}
+use Rattle.roopl_semantics.specs.Elements.{SHARED_ARRAY, index_elements, own_element, share_array, read_cost}
+use Rattle.roopl_semantics.specs.Execution.{Setting, Runner, NOT_NIL, COUNT, NOT_EMPTY}
+use Rattle.roopl_semantics.specs.Execution.{CLASS_DIFFERS, LENGTH_DIFFERS, LENGTH, NOT_SAME}
 use Rattle.roopl_semantics.specs.Execution.{same_cell, is_of_class, all_zero, allocated, freed, counted, one_less}
 use Rattle.roopl_semantics.specs.Execution.{new_array, delete_array, statement}
 use Rattle.roopl_semantics.specs.Laws.{one_if_name, holders_among}
@@ -252,10 +252,10 @@ module _ (setting : Setting) (classes : KnowsClasses setting.program) (run : Run
       (unwrap_or (class_number program name.text) 0)))) cell
       (OfClass (unwrap_or (class_number program name.text) 0))
       (zero_values (class_fields program (unwrap_or (class_number program name.text) 0))) st) in
-      ends_checked (Kept st) (read_cost (own_element target) (index_elements target)) shared_array_fault
+      ends_checked (Kept st) (read_cost (own_element target) (index_elements target)) SHARED_ARRAY
       (share_array program st (own_element target) (index_elements target))
-      (λ x. Rattle.roopl_semantics.specs.Run.fault_if not_nil_fault (not (is_nil (read st cell))) >>= makes) (λ z.
-      ends_check (Kept st) not_nil_fault (not (is_nil (read st cell))) makes (λ q.
+      (λ x. Rattle.roopl_semantics.specs.Run.fault_if NOT_NIL (not (is_nil (read st cell))) >>= makes) (λ z.
+      ends_check (Kept st) NOT_NIL (not (is_nil (read st cell))) makes (λ q.
       ends_after (Kept st) (setting.limits.heap + 1) _
       (subst (λ k. Ends (Kept st) (allocated setting (length (zero_values (class_fields program k))) cell (OfClass k)
       (zero_values (class_fields program k)) st)) (sym number_is)
@@ -277,10 +277,10 @@ module _ (setting : Setting) (classes : KnowsClasses setting.program) (run : Run
       ends_given (Kept st) (index_nodes target) (cell_of program st target) _ (λ cell e.
       ends_given (Kept st) (nodes size) (value_in program st size) _ (λ v f.
       let n = number_of v in
-      ends_check (Kept st) not_nil_fault (not (is_nil (read st cell))) (λ x. made cell n) (λ q.
+      ends_check (Kept st) NOT_NIL (not (is_nil (read st cell))) (λ x. made cell n) (λ q.
       let after : Unit {0} → Run State = λ x. spend (setting.limits.heap + 1) >>=
       (λ y. allocated setting n cell (head n) (replicate n element) st >>= (λ st'. spend n >>= (λ z. give st'))) in
-      ends_check (Kept st) length_fault (is_less n 1) after (λ r.
+      ends_check (Kept st) LENGTH (is_less n 1) after (λ r.
       ends_after (Kept st) (setting.limits.heap + 1) _
       (ends_then (Kept st) (Kept st) (allocated setting n cell (head n) (replicate n element) st)
       (λ st'. spend n >>= (λ z. give st'))
@@ -292,7 +292,7 @@ module _ (setting : Setting) (classes : KnowsClasses setting.program) (run : Run
       (λ st' kept. kept))))))
     where
       made : Cell → ℕ → Run State
-      made cell n = Rattle.roopl_semantics.specs.Run.fault_if length_fault (is_less n 1) >>=
+      made cell n = Rattle.roopl_semantics.specs.Run.fault_if LENGTH (is_less n 1) >>=
           (λ x. spend (setting.limits.heap + 1) >>= (λ y. allocated setting n cell (head n) (replicate n element) st >>=
           (λ st'. spend n >>= (λ z. give st'))))
 
@@ -337,19 +337,19 @@ module _ (setting : Setting) (classes : KnowsClasses setting.program) (run : Run
       let object = object_at st.store (number_of (read st cell)) in
       let end : Unit {0} → Run State = λ x. give (freed setting cell (number_of (read st cell)) st) in
       let empty : Unit {0} → Run State = λ x. spend (setting.limits.heap + 1) >>=
-      (λ y. Rattle.roopl_semantics.specs.Run.fault_if not_empty_fault (not (all_zero object.cells)) >>= end) in
-      let one : Unit {0} → Run State = λ x. Rattle.roopl_semantics.specs.Run.fault_if count_fault
+      (λ y. Rattle.roopl_semantics.specs.Run.fault_if NOT_EMPTY (not (all_zero object.cells)) >>= end) in
+      let one : Unit {0} → Run State = λ x. Rattle.roopl_semantics.specs.Run.fault_if COUNT
       (not (nat_eq object.count 1)) >>= empty in
-      let same : Unit {0} → Run State = λ x. Rattle.roopl_semantics.specs.Run.fault_if class_differs_fault
+      let same : Unit {0} → Run State = λ x. Rattle.roopl_semantics.specs.Run.fault_if CLASS_DIFFERS
       (not (is_of_class object.head (class_number program name.text))) >>= one in
-      ends_checked (Kept st) (read_cost (own_element target) (index_elements target)) shared_array_fault
+      ends_checked (Kept st) (read_cost (own_element target) (index_elements target)) SHARED_ARRAY
       (share_array program st (own_element target) (index_elements target))
-      (λ x. Rattle.roopl_semantics.specs.Run.fault_if nil_fault (is_nil (read st cell)) >>= same) (λ z.
-      ends_check (Kept st) nil_fault (is_nil (read st cell)) same (λ q.
-      ends_check (Kept st) class_differs_fault (not (is_of_class object.head (class_number program name.text))) one
+      (λ x. Rattle.roopl_semantics.specs.Run.fault_if NIL (is_nil (read st cell)) >>= same) (λ z.
+      ends_check (Kept st) NIL (is_nil (read st cell)) same (λ q.
+      ends_check (Kept st) CLASS_DIFFERS (not (is_of_class object.head (class_number program name.text))) one
       (λ r.
-      ends_check (Kept st) count_fault (not (nat_eq object.count 1)) empty (λ u.
-      ends_after (Kept st) (setting.limits.heap + 1) _ (ends_check (Kept st) not_empty_fault
+      ends_check (Kept st) COUNT (not (nat_eq object.count 1)) empty (λ u.
+      ends_after (Kept st) (setting.limits.heap + 1) _ (ends_check (Kept st) NOT_EMPTY
       (not (all_zero object.cells)) end (λ v.
       gone st cell p.type s (cell_is st target p.type cell s p.is e)
       (no_int_takes (table_of program) (AnObject name) p.type p.takes_it) q u v)))))))
@@ -363,16 +363,16 @@ module _ (setting : Setting) (classes : KnowsClasses setting.program) (run : Run
       let array = object_at st.store (number_of (read st cell)) in
       let end : Unit {0} → Run State = λ x. give (freed setting cell (number_of (read st cell)) st) in
       let empty : Unit {0} → Run State = λ x. spend (setting.limits.heap + 1 + length array.cells) >>=
-      (λ y. Rattle.roopl_semantics.specs.Run.fault_if not_empty_fault (not (all_zero array.cells)) >>= end) in
-      let one : Unit {0} → Run State = λ x. Rattle.roopl_semantics.specs.Run.fault_if count_fault
+      (λ y. Rattle.roopl_semantics.specs.Run.fault_if NOT_EMPTY (not (all_zero array.cells)) >>= end) in
+      let one : Unit {0} → Run State = λ x. Rattle.roopl_semantics.specs.Run.fault_if COUNT
       (not (nat_eq array.count 1)) >>= empty in
-      let same : Unit {0} → Run State = λ x. Rattle.roopl_semantics.specs.Run.fault_if length_differs_fault
+      let same : Unit {0} → Run State = λ x. Rattle.roopl_semantics.specs.Run.fault_if LENGTH_DIFFERS
       (not (nat_eq (length array.cells) (number_of v))) >>= one in
-      ends_check (Kept st) nil_fault (is_nil (read st cell)) same (λ q.
-      ends_check (Kept st) length_differs_fault (not (nat_eq (length array.cells) (number_of v))) one (λ r.
-      ends_check (Kept st) count_fault (not (nat_eq array.count 1)) empty (λ u.
+      ends_check (Kept st) NIL (is_nil (read st cell)) same (λ q.
+      ends_check (Kept st) LENGTH_DIFFERS (not (nat_eq (length array.cells) (number_of v))) one (λ r.
+      ends_check (Kept st) COUNT (not (nat_eq array.count 1)) empty (λ u.
       ends_after (Kept st) (setting.limits.heap + 1 + length array.cells) _
-      (ends_check (Kept st) not_empty_fault (not (all_zero array.cells)) end (λ w.
+      (ends_check (Kept st) NOT_EMPTY (not (all_zero array.cells)) end (λ w.
       gone st cell k s (cell_is st target k cell s h e) no_int q u w)))))))
 
   pub delete_ints_keeps : (n at : ℕ) (size : Expression) (target : Lvalue) (st : State)
@@ -543,12 +543,12 @@ module _ (setting : Setting) (classes : KnowsClasses setting.program) (run : Run
       (Rattle.roopl_semantics.specs.Value.written st b (read st a)) (number_of (read st a))) in
       let changed = own_element target in
       let reads = index_elements source ++ index_elements target in
-      let rest : Unit {0} → Run State = λ x. Rattle.roopl_semantics.specs.Run.fault_if not_nil_fault
+      let rest : Unit {0} → Run State = λ x. Rattle.roopl_semantics.specs.Run.fault_if NOT_NIL
       (not (is_nil (read st b))) >>= end in
-      ends_checked (Kept st) (read_cost changed reads) shared_array_fault (share_array program st changed reads)
-      (λ x. Rattle.roopl_semantics.specs.Run.fault_if nil_fault (is_nil (read st a)) >>= rest) (λ z.
-      ends_check (Kept st) nil_fault (is_nil (read st a)) rest (λ q.
-      ends_check (Kept st) not_nil_fault (not (is_nil (read st b))) end (λ r.
+      ends_checked (Kept st) (read_cost changed reads) SHARED_ARRAY (share_array program st changed reads)
+      (λ x. Rattle.roopl_semantics.specs.Run.fault_if NIL (is_nil (read st a)) >>= rest) (λ z.
+      ends_check (Kept st) NIL (is_nil (read st a)) rest (λ q.
+      ends_check (Kept st) NOT_NIL (not (is_nil (read st b))) end (λ r.
       let fit = read_fits setting extra shape class st a p.first t ha in
       let nm = reference program st.store (read st a) p.first fit p.first_refers q in
       subst (λ v. Kept st (counted suc (Rattle.roopl_semantics.specs.Value.written st b v) (number_of v))) (sym nm.is)
@@ -569,12 +569,12 @@ module _ (setting : Setting) (classes : KnowsClasses setting.program) (run : Run
       (number_of (read st a))) in
       let changed = own_element target in
       let reads = index_elements source ++ index_elements target in
-      let rest : Unit {0} → Run State = λ x. Rattle.roopl_semantics.specs.Run.fault_if not_same_fault
+      let rest : Unit {0} → Run State = λ x. Rattle.roopl_semantics.specs.Run.fault_if NOT_SAME
       (not (same_value (read st a) (read st b)) || same_cell a b) >>= end in
-      ends_checked (Kept st) (read_cost changed reads) shared_array_fault (share_array program st changed reads)
-      (λ x. Rattle.roopl_semantics.specs.Run.fault_if nil_fault (is_nil (read st a)) >>= rest) (λ z.
-      ends_check (Kept st) nil_fault (is_nil (read st a)) rest (λ q.
-      ends_check (Kept st) not_same_fault (not (same_value (read st a) (read st b)) || same_cell a b) end (λ r.
+      ends_checked (Kept st) (read_cost changed reads) SHARED_ARRAY (share_array program st changed reads)
+      (λ x. Rattle.roopl_semantics.specs.Run.fault_if NIL (is_nil (read st a)) >>= rest) (λ z.
+      ends_check (Kept st) NIL (is_nil (read st a)) rest (λ q.
+      ends_check (Kept st) NOT_SAME (not (same_value (read st a) (read st b)) || same_cell a b) end (λ r.
       let fit = read_fits setting extra shape class st a p.first t ha in
       let nm = reference program st.store (read st a) p.first fit p.first_refers q in
       let same = same_value_is (read st a) (read st b) (first_false (same_value (read st a) (read st b)) (same_cell a b)

@@ -9,7 +9,7 @@ use Rattle.roopl_semantics.specs.class_rules.Expressions.{is_int}
 use Rattle.roopl_semantics.specs.class_rules.Scope.{Locals}
 use Rattle.roopl_semantics.specs.Store.{Value, Word, Nil, Name, Head, Store, State, is_zero, cleared}
 use Rattle.roopl_semantics.specs.Value.{Cell, Slot, Part, read, written}
-use Rattle.roopl_semantics.specs.Execution.{Setting, same_cell, moved_out, moved_back, touched_fault}
+use Rattle.roopl_semantics.specs.Execution.{Setting, same_cell, moved_out, moved_back, TOUCHED}
 use Rattle.roopl_semantics.specs.Laws.{one_if_name, holders_among}
 use Rattle.meaning_sound.specs.Sound.{head_named, count_named, named_fits, fits, AllFit, held, Stays, cell_kind}
 use Rattle.meaning_sound.specs.Sound.{Typed}
@@ -184,7 +184,7 @@ module _ (setting : Setting) (extra : ℕ → ℕ) (shape : Locals) (class : ℕ
       let ih = moves_back ks cells values st1 one.typed (cells_kept program shape st.store st1.store ks cells
       (kind_stays setting extra shape class st c v) h.1)
       (all_kept program st.store st1.store ks values (λ m p l. one.heads m) f.1) in
-      ends_check (MovedBack st (v ∷ values)) touched_fault (not (is_zero (read st c)))
+      ends_check (MovedBack st (v ∷ values)) TOUCHED (not (is_zero (read st c)))
       (λ x. moved_back cells values st1) (λ q.
       Rattle.meaning_sound.proofs.Runs.ends_more (MovedBack st1 values) (MovedBack st (v ∷ values))
       (moved_back cells values st1) (λ end b. record {

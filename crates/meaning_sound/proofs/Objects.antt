@@ -13,7 +13,7 @@ use Rattle.roopl_semantics.specs.Run.{give}
 use Rattle.roopl_semantics.specs.Store.{Value, Word, Nil, Name, Head, Object, Store, State, main_name, is_nil}
 use Rattle.roopl_semantics.specs.Store.{object_named, no_object}
 use Rattle.roopl_semantics.specs.Value.{Cell, Slot, Part, read, written}
-use Rattle.roopl_semantics.specs.Execution.{Setting, order_of_cells, new_object, allocated, heap_full_fault}
+use Rattle.roopl_semantics.specs.Execution.{Setting, order_of_cells, new_object, allocated, HEAP_FULL}
 use Rattle.roopl_semantics.specs.Laws.{one_if_name, holders_among, holders}
 use Rattle.meaning_sound.specs.Sound.{head_of, head_named, count_of, count_named, is_live, head_fits, named_fits}
 use Rattle.meaning_sound.specs.Sound.{fits, cell_kinds, AllFit, value_of, local_type, held, Descending, Sound, Keeps}
@@ -189,7 +189,7 @@ module _ (setting : Setting) (extra : ℕ → ℕ) (shape : Locals) (class : ℕ
         → Ends (Keeps setting extra shape class st) (allocated setting size cell head cells st)
     allocated_keeps size cell k sized s h empty fit_head fit none =
         subst (λ n. Ends (Keeps setting extra shape class st) (allocated setting n cell head cells st)) (sym sized)
-        (ends_check (Keeps setting extra shape class st) heap_full_fault
+        (ends_check (Keeps setting extra shape class st) HEAP_FULL
         (nat_lt setting.limits.heap (order_of_cells (length (cell_kinds program head))) || is_none
         (place setting.limits.heap request)) (λ x. give (written bigger cell (Name new_name)))
         (λ q. kept (second (nat_lt setting.limits.heap (order_of_cells (length (cell_kinds program head)))) q)))

@@ -30,7 +30,7 @@ use Rattle.roopl_semantics.specs.Operators.{operated, updated, truth_word}
 use Rattle.roopl_semantics.specs.Store.{Value, Word, Nil, Name, Head, OfClass, OfInts, OfObjects, Object, Store, State}
 use Rattle.roopl_semantics.specs.Store.{number_of, object_named, object_at}
 use Rattle.roopl_semantics.specs.Value.{Cell, Part, cell_named, variable_value, element_cell, element_of, read_cell}
-use Rattle.roopl_semantics.specs.Value.{combined, value, cell_of, index_fault}
+use Rattle.roopl_semantics.specs.Value.{combined, value, cell_of, INDEX}
 use Rattle.roopl_semantics.specs.Execution.{Setting}
 use Rattle.meaning_sound.specs.Sound.{head_of, head_named, head_fits, named_fits, fits, cell_kinds, part_kind}
 use Rattle.meaning_sound.specs.Sound.{cell_kind, Typed}
@@ -181,7 +181,7 @@ module _ (setting : Setting) (classes : KnowsClasses setting.program) (extra : �
               ∙ ap length is_array.kinds ∙ length-replicate is_array.count k
 
           inside_or_not : (b : Bool) → nat_lt index (length object.cells) ≡ b
-              → CellIs program shape st.store k (if b then Ok (Part n index) else Err index_fault)
+              → CellIs program shape st.store k (if b then Ok (Part n index) else Err INDEX)
           inside_or_not false z = tt
           inside_or_not true z =
               let small = ltb-true index (length object.cells) z in

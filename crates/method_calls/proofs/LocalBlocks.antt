@@ -23,7 +23,7 @@ use Rattle.refine_form.proofs.paired_code_laws.Does.{will_last}
 use Rattle.refine_form.specs.roopl_semantics.Run.{Run, ◌>>=◌, give, fault_if, after_cost}
 use Rattle.refine_form.specs.roopl_semantics.Store.{Value, State, same_value}
 use Rattle.refine_form.specs.roopl_semantics.Value.{Slot, read, evaluated}
-use Rattle.refine_form.specs.roopl_semantics.Execution.{exec, statement, opened, closed, with_local, delocal_fault, constructed}
+use Rattle.refine_form.specs.roopl_semantics.Execution.{exec, statement, opened, closed, with_local, constructed}
 use Rattle.refine_form.specs.roopl_semantics.Execution.{element_call, element_name}
 use Rattle.refine_form.specs.Form.{World, Scope, Moved, Open, holding, Owes, StmtLaw, BlockLaw, ValueLaw, with_var}
 use Rattle.refine_form.specs.Form.{told, one, turned}
@@ -119,7 +119,7 @@ module _ (w : World) (IsInit : Scope → Var → Expression → Type 0) (f : Loc
 
   -- the variable goes, if it has the closing value
   abbrev pub checked : State → Value → Told State
-  checked st v = told (fault_if delocal_fault (not (same_value (read st (Slot 0)) v)) >>= λ z. give (closed st))
+  checked st v = told (fault_if DELOCAL (not (same_value (read st (Slot 0)) v)) >>= λ z. give (closed st))
 
   abbrev pub goes_away : State → Told State
   goes_away st = told_then (told (evaluated w.setting.program e st)) (λ c v. checked st v)
@@ -138,7 +138,7 @@ module _ (w : World) (IsInit : Scope → Var → Expression → Type 0) (f : Loc
       let end : Open w s u (closed st) (mk 0 ob fr 0 0 0 0 0 (gone cs)) =
       record { regs_are = refl; open_frame = f.closes s u st cs var e v c h is said same } in
       let told_is : checked st v ≡ Fine (closed st) 0 = ap
-      (λ b. told (fault_if delocal_fault (not b) >>= λ z. give (closed st))) same in
+      (λ b. told (fault_if DELOCAL (not b) >>= λ z. give (closed st))) same in
       subst (λ z. Will w.im (check_equal_cells VALUE NOUGHT DELOCAL) true z
       (Meets (Open w s u) w.rates n 2 (checked st v)))
       (sym known)
@@ -147,7 +147,7 @@ module _ (w : World) (IsInit : Scope → Var → Expression → Type 0) (f : Loc
   last_check n st cs v c h said m1 i false same =
       let nz = f.other_words s u st cs var e v c h is said same in
       let x = bit_xor (w.word_of u st (read st (Slot 0))) (w.word_of u (closed st) v) in
-      let told_is : checked st v ≡ Fault 3 0 = ap (λ b. told (fault_if delocal_fault (not b) >>= λ z. give (closed st)))
+      let told_is : checked st v ≡ Fault 3 0 = ap (λ b. told (fault_if DELOCAL (not b) >>= λ z. give (closed st)))
       same in
       let k = runs_fails w.im true (Equal 12 7) 3 (mk 0 ob fr 0 0 0 0 x (gone cs)) nz in
       subst (λ z. Will w.im (check_equal_cells VALUE NOUGHT DELOCAL) true z
@@ -192,13 +192,13 @@ module _ (w : World) (IsInit : Scope → Var → Expression → Type 0) (f : Loc
       told_then (told_then (told (evaluated w.setting.program e st)) (λ c v. Fine (opened name v st) 0))
       (λ c st1. told_then (told (exec w.setting n body st1))
       (λ c end. told_then (told (evaluated w.setting.program e' end))
-      (λ c v. told (fault_if delocal_fault (not (same_value (read end (Slot 0)) v)) >>= λ z. give
+      (λ c v. told (fault_if DELOCAL (not (same_value (read end (Slot 0)) v)) >>= λ z. give
       (closed end)))))
 
   pub told_local : (n : ℕ) (name : List ℕ) (e : Expression) (body : Statements) (e' : Expression) (st : State)
       → told (with_local w.setting (exec w.setting n) name e body e' st) ≡ says_local n name e body e' st
   told_local n name e body e' st =
-      let last : State → Value → Run State = λ end v. fault_if delocal_fault (not (same_value (read end (Slot 0)) v))
+      let last : State → Value → Run State = λ end v. fault_if DELOCAL (not (same_value (read end (Slot 0)) v))
       >>= λ z. give (closed end) in
       let mid : State → Run State = λ end. evaluated w.setting.program e' end >>= last end in
       let H : State → Told State = λ st1. told_then (told (exec w.setting n body st1))
@@ -228,14 +228,14 @@ module _ (w : World) (IsInit : Scope → Var → Expression → Type 0) (f : Loc
       → ((n' : ℕ) (st : State) (m : Memory) → Open w (with_var s var) u st m
       → Will w.im p3 d m (Meets (Open w s u) w.rates n' 55
       (told_then (told (evaluated w.setting.program e' st))
-      (λ c v. told (fault_if delocal_fault (not (same_value (read st (Slot 0)) v)) >>= λ z. give
+      (λ c v. told (fault_if DELOCAL (not (same_value (read st (Slot 0)) v)) >>= λ z. give
       (closed st))))))
       → Will w.im (in_order d (p1 ∷ pb ∷ p3 ∷ [])) d m (Meets (Open w s u) w.rates (n + 1) 0
       (plus 1 (says_local n var.name.text e body e' st)))
   in_parts n d e body e' p1 pb p3 st m first block last =
       let S = Open w (with_var s var) u in
       let rest : State → Told State = λ end. told_then (told (evaluated w.setting.program e' end))
-      (λ c v. told (fault_if delocal_fault (not (same_value (read end (Slot 0)) v)) >>= λ z. give (closed end))) in
+      (λ c v. told (fault_if DELOCAL (not (same_value (read end (Slot 0)) v)) >>= λ z. give (closed end))) in
       will_more w.im _ d _ _ _ (λ o q. late_counts 1 0 counts (omega arith) (omega (arith, thousand)) q)
       (late_then w.im d S (Open w s u) w.rates n 53 (0 + 55) 2 p1 (pb ∷ p3 ∷ []) m _
       (λ c st1. told_then (told (exec w.setting n body st1)) (λ c end. rest end)) first (λ c st1 m1 said i.

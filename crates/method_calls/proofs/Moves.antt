@@ -15,7 +15,7 @@ use Rattle.refine_form.proofs.paired_code_laws.Small.{runs_empty}
 use Rattle.refine_form.specs.roopl_semantics.Run.{◌>>=◌, fault_if}
 use Rattle.refine_form.specs.roopl_semantics.Store.{Value, State, is_zero}
 use Rattle.refine_form.specs.roopl_semantics.Value.{Cell, read, written}
-use Rattle.refine_form.specs.roopl_semantics.Execution.{moved_back, touched_fault}
+use Rattle.refine_form.specs.roopl_semantics.Execution.{moved_back, TOUCHED}
 use Rattle.refine_form.specs.Form.{World, Scope, pairs, told}
 use Rattle.method_calls.specs.CallCode.{first_word, take_code, put_code, move_code, moves_code}
 use Rattle.refine_form.specs.declared.spot.Spot.{Spot}
@@ -207,7 +207,7 @@ module _ (w : World) (knows : Known w) (f : FrameFacts w knows) (s : Scope) (u :
     back_step rest true z =
         let said : told (moved_back (c ∷ cells_of names) (v ∷ vals) st)
         ≡ told (moved_back (cells_of names) vals (written st c v)) =
-        ap (λ b. told (fault_if touched_fault (not b) >>= λ t. moved_back (cells_of names) vals (written st c v))) z
+        ap (λ b. told (fault_if TOUCHED (not b) >>= λ t. moved_back (cells_of names) vals (written st c v))) z
         ∙ told_after 0 (moved_back (cells_of names) vals (written st c v))
         ∙ plus_none (told (moved_back (cells_of names) vals (written st c v))) in
         let first : Will w.im (move_code (knows.spot s name) (length names)) true (plain w u cs)
@@ -222,7 +222,7 @@ module _ (w : World) (knows : Known w) (f : FrameFacts w knows) (s : Scope) (u :
         (meets_slack (8 * suc (length names)) (omega arith) (meets_later 8 q))) (rest cs2 (m.back z)))
     back_step rest false z =
         let said : told (moved_back (c ∷ cells_of names) (v ∷ vals) st) ≡ Fault 15 0 =
-        ap (λ b. told (fault_if touched_fault (not b) >>= λ t. moved_back (cells_of names) vals (written st c v))) z
+        ap (λ b. told (fault_if TOUCHED (not b) >>= λ t. moved_back (cells_of names) vals (written st c v))) z
         in
         let first = subst (λ k. Will w.im (move_code (knows.spot s name) k) true (plain w u cs)
         (λ o. (k : ℕ) × (k ≤ 8) × (o ≡ Trapped 15 k))) same

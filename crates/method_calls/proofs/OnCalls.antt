@@ -19,9 +19,9 @@ use Rattle.refine_form.proofs.paired_code_laws.Laws.{Next, will_more, will_seq, 
 use Rattle.refine_form.proofs.paired_code_laws.Does.{Quiet, quiet, then_quiet}
 use Rattle.refine_form.specs.roopl_semantics.Run.{Run, ◌>>=◌, after_cost, fault_if}
 use Rattle.refine_form.specs.roopl_semantics.Store.{Value, Name, State, is_zero, is_nil, number_of, cleared}
-use Rattle.refine_form.specs.roopl_semantics.Value.{Cell, read, written, cell_named, nil_fault}
+use Rattle.refine_form.specs.roopl_semantics.Value.{Cell, read, written, cell_named, NIL}
 use Rattle.refine_form.specs.roopl_semantics.Execution.{Setting, exec, in_direction, invoked, moved_out, moved_back, bound}
-use Rattle.refine_form.specs.roopl_semantics.Execution.{cells_named, class_of, is_too_deep, too_deep_fault, touched_fault}
+use Rattle.refine_form.specs.roopl_semantics.Execution.{cells_named, class_of, is_too_deep, TOO_DEEP, TOUCHED}
 use Rattle.refine_form.specs.Form.{World, Scope, pairs, Open, Owes, StmtLaw, registers, told, one, turned}
 use Rattle.refine_form.specs.code_conventions.Cells.{addi}
 use Rattle.method_calls.specs.CallCode.{depth_code, moves_code, fetch_row, nil_code, take_code, onto_code}
@@ -55,13 +55,13 @@ stays (b ∷ cells) (v ∷ values) st end k c n e = by (is_zero (read st b)) ref
         → read end c ≡ read (written st b v) c) → read end c ≡ read st c
     by true z ih =
         let said : told (moved_back (b ∷ cells) (v ∷ values) st) ≡ told (moved_back cells values (written st b v)) =
-        ap (λ x. told (fault_if touched_fault (not x) >>= λ t. moved_back cells values (written st b v))) z
+        ap (λ x. told (fault_if TOUCHED (not x) >>= λ t. moved_back cells values (written st b v))) z
         ∙ told_after 0 (moved_back cells values (written st b v))
         ∙ plus_none (told (moved_back cells values (written st b v))) in
         ih k (sym said ∙ e) ∙ read_other st b c v (λ q. n.0 (sym q))
     by false z ih =
         let said : told (moved_back (b ∷ cells) (v ∷ values) st) ≡ Fault 15 0 =
-        ap (λ x. told (fault_if touched_fault (not x) >>= λ t. moved_back cells values (written st b v))) z in
+        ap (λ x. told (fault_if TOUCHED (not x) >>= λ t. moved_back cells values (written st b v))) z in
         let q : Fault 15 0 ≡ Fine end k = sym said ∙ e in absurd (cc)
 
 -- ---- what the source says of it
@@ -90,31 +90,31 @@ module _ (setting : Setting) (n : ℕ) (back : Bool) (at : ℕ) (x name : Ident)
       (cells_named setting st args) st
 
   abbrev deep_run : Run State
-  deep_run = fault_if too_deep_fault (is_too_deep setting st) >>= λ z. call_run
+  deep_run = fault_if TOO_DEEP (is_too_deep setting st) >>= λ z. call_run
 
   counted : told (one setting n (Call at back (Some (Whole x)) name args) st)
-      ≡ plus (1 + length args) (told (fault_if nil_fault (is_nil (read st the_cell)) >>= λ z. deep_run))
+      ≡ plus (1 + length args) (told (fault_if NIL (is_nil (read st the_cell)) >>= λ z. deep_run))
   counted =
-      told_after 1 (after_cost (length args) (fault_if nil_fault (is_nil (read st the_cell)) >>= λ z. deep_run))
-      ∙ ap (plus 1) (told_after (length args) (fault_if nil_fault (is_nil (read st the_cell)) >>= λ z. deep_run))
-      ∙ plus_plus 1 (length args) (told (fault_if nil_fault (is_nil (read st the_cell)) >>= λ z. deep_run))
+      told_after 1 (after_cost (length args) (fault_if NIL (is_nil (read st the_cell)) >>= λ z. deep_run))
+      ∙ ap (plus 1) (told_after (length args) (fault_if NIL (is_nil (read st the_cell)) >>= λ z. deep_run))
+      ∙ plus_plus 1 (length args) (told (fault_if NIL (is_nil (read st the_cell)) >>= λ z. deep_run))
 
   zero_more : 1 + length args + 0 ≡ 1 + length args
   zero_more = omega arith
 
   pub says_nil : is_nil (read st the_cell) ≡ true → told (one setting n (Call at back (Some (Whole x)) name args) st)
       ≡ Fault 5 (1 + length args)
-  says_nil e = counted ∙ ap (λ b. plus (1 + length args) (told (fault_if nil_fault b >>= λ z. deep_run))) e
+  says_nil e = counted ∙ ap (λ b. plus (1 + length args) (told (fault_if NIL b >>= λ z. deep_run))) e
       ∙ ap (Fault 5) zero_more
 
   past_nil : is_nil (read st the_cell) ≡ false → told (one setting n (Call at back (Some (Whole x)) name args) st)
       ≡ plus (1 + length args) (told deep_run)
-  past_nil e = counted ∙ ap (λ b. plus (1 + length args) (told (fault_if nil_fault b >>= λ z. deep_run))) e
+  past_nil e = counted ∙ ap (λ b. plus (1 + length args) (told (fault_if NIL b >>= λ z. deep_run))) e
       ∙ ap (plus (1 + length args)) (told_after 0 deep_run ∙ plus_none (told deep_run))
 
   pub says_deep : is_nil (read st the_cell) ≡ false → is_too_deep setting st ≡ true
       → told (one setting n (Call at back (Some (Whole x)) name args) st) ≡ Fault 14 (1 + length args)
-  says_deep e d = past_nil e ∙ ap (λ b. plus (1 + length args) (told (fault_if too_deep_fault b >>= λ z. call_run))) d
+  says_deep e d = past_nil e ∙ ap (λ b. plus (1 + length args) (told (fault_if TOO_DEEP b >>= λ z. call_run))) d
       ∙ ap (Fault 14) zero_more
 
   pub says_on : (method : Procedure) (self : ℕ) (c : Cell) (cells : List Cell) (caller : State) (vals : List Value)
@@ -139,7 +139,7 @@ module _ (setting : Setting) (n : ℕ) (back : Bool) (at : ℕ) (x name : Ident)
       let M : Cell → Procedure = λ c. method_named setting.program (class_of setting st (number_of (read st c)))
       name.text in
       past_nil e ∙ ap (plus (1 + length args)) (
-      ap (λ b. told (fault_if too_deep_fault b >>= λ z. call_run)) open_yet
+      ap (λ b. told (fault_if TOO_DEEP b >>= λ z. call_run)) open_yet
       ∙ told_after 0 call_run
       ∙ plus_none (told call_run)
       ∙ ap (λ k. told (Inv (M k) (number_of (read st k)) k (cells_named setting st args)
@@ -402,7 +402,7 @@ module _ (w : World) (knows : Known w) (f : FrameFacts w knows) (on : Receivers 
           let home1 = written (home end) c (Name n_of) in
           let opens1 : w.opens s u (pairs args (values end)) home1 cs3 = comes.back z in
           let said : moves_home end ≡ told (moved_back cells (values end) home1) =
-          ap (λ b. told (fault_if touched_fault (not b) >>= λ t. moved_back cells (values end) home1)) z
+          ap (λ b. told (fault_if TOUCHED (not b) >>= λ t. moved_back cells (values end) home1)) z
           ∙ told_after 0 (moved_back cells (values end) home1)
           ∙ plus_none (told (moved_back cells (values end) home1)) in
           let taken : Will w.im (take_code sp ++ (onto_code ++ last_row)) true m0
@@ -425,7 +425,7 @@ module _ (w : World) (knows : Known w) (f : FrameFacts w knows) (on : Receivers 
           let word = w.object_of deep in
           let home1 = written (home end) c (Name n_of) in
           let said : moves_home end ≡ Fault 15 0 = ap (λ b. told
-          (fault_if touched_fault (not b) >>= λ t. moved_back cells (values end) home1)) z in
+          (fault_if TOUCHED (not b) >>= λ t. moved_back cells (values end) home1)) z in
           let found = finds_touched w.im ob fr sp (out_cells cs2) still_in low word
           (λ e. comes.cell.touched z (sym same_word ∙ e)) in
           let taken : Will w.im (take_code sp ++ (onto_code ++ last_row)) true m0

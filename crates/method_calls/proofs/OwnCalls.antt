@@ -20,7 +20,7 @@ use Rattle.refine_form.specs.roopl_semantics.Run.{Run, ◌>>=◌, after_cost, fa
 use Rattle.refine_form.specs.roopl_semantics.Store.{Value, State}
 use Rattle.refine_form.specs.roopl_semantics.Value.{Cell, read, own_class}
 use Rattle.refine_form.specs.roopl_semantics.Execution.{Setting, exec, in_direction, invoked, moved_out, moved_back, bound}
-use Rattle.refine_form.specs.roopl_semantics.Execution.{cells_named, is_too_deep, too_deep_fault}
+use Rattle.refine_form.specs.roopl_semantics.Execution.{cells_named, is_too_deep, TOO_DEEP}
 use Rattle.refine_form.specs.Form.{World, Scope, pairs, Open, Entered, Owes, StmtLaw, RunsBody, registers, told, one}
 use Rattle.refine_form.specs.Form.{turned}
 use Rattle.refine_form.specs.code_conventions.Cells.{addi}
@@ -102,15 +102,15 @@ module _ (setting : Setting) (n : ℕ) (back : Bool) (at : ℕ) (name : Ident) (
       (cells_named setting st args) st
 
   counted : told (one setting n (Call at back None name args) st)
-      ≡ plus (1 + length args) (told (fault_if too_deep_fault (is_too_deep setting st) >>= λ x. after_check))
+      ≡ plus (1 + length args) (told (fault_if TOO_DEEP (is_too_deep setting st) >>= λ x. after_check))
   counted =
-      told_after 1 (after_cost (length args) (fault_if too_deep_fault (is_too_deep setting st) >>= λ x. after_check))
-      ∙ ap (plus 1) (told_after (length args) (fault_if too_deep_fault (is_too_deep setting st) >>= λ x. after_check))
-      ∙ plus_plus 1 (length args) (told (fault_if too_deep_fault (is_too_deep setting st) >>= λ x. after_check))
+      told_after 1 (after_cost (length args) (fault_if TOO_DEEP (is_too_deep setting st) >>= λ x. after_check))
+      ∙ ap (plus 1) (told_after (length args) (fault_if TOO_DEEP (is_too_deep setting st) >>= λ x. after_check))
+      ∙ plus_plus 1 (length args) (told (fault_if TOO_DEEP (is_too_deep setting st) >>= λ x. after_check))
 
   pub says_too_deep : is_too_deep setting st ≡ true → told (one setting n (Call at back None name args) st)
       ≡ Fault 14 (1 + length args)
-  says_too_deep e = counted ∙ ap (λ b. plus (1 + length args) (told (fault_if too_deep_fault b >>= λ x. after_check))) e
+  says_too_deep e = counted ∙ ap (λ b. plus (1 + length args) (told (fault_if TOO_DEEP b >>= λ x. after_check))) e
       ∙ (let z : 1 + length args + 0 ≡ 1 + length args = omega arith in ap (Fault 14) z)
 
   pub says_called : (method : Procedure) (cells : List Cell) (caller : State) (vals : List Value)
@@ -130,7 +130,7 @@ module _ (setting : Setting) (n : ℕ) (back : Bool) (at : ℕ) (name : Ident) (
       >>= λ end. moved_back cells (map (λ binding. binding.value) end.frame)
       (record caller { store = end.store; log = end.log }) in
       counted ∙ ap (plus (1 + length args)) (
-      ap (λ b. told (fault_if too_deep_fault b >>= λ x. after_check)) open_yet
+      ap (λ b. told (fault_if TOO_DEEP b >>= λ x. after_check)) open_yet
       ∙ told_after 0 after_check
       ∙ plus_none (told after_check)
       ∙ ap (λ m. told (Inv m (cells_named setting st args) (moved_out (cells_named setting st args) st)

@@ -20,9 +20,9 @@ use Rattle.refine_heap.proofs.paired_code_laws.Laws.{will_more}
 use Rattle.refine_heap.proofs.paired_code_laws.Mirrored.{will_mirror}
 use Rattle.static_layout.specs.roopl_semantics.Run.{Run, after_cost, given, give, spend, fault_if, ◌>>=◌}
 use Rattle.static_layout.specs.roopl_semantics.Store.{Value, Word, Nil, Name, Head, OfInts, OfObjects, State, number_of, is_nil}
-use Rattle.static_layout.specs.roopl_semantics.Value.{Cell, cell_named, read, value, nil_fault}
-use Rattle.static_layout.specs.roopl_semantics.Execution.{Setting, Runner, statement, freed, not_nil_fault, count_fault}
-use Rattle.static_layout.specs.roopl_semantics.Execution.{not_empty_fault, heap_full_fault, length_differs_fault, length_fault}
+use Rattle.static_layout.specs.roopl_semantics.Value.{Cell, cell_named, read, value, NIL}
+use Rattle.static_layout.specs.roopl_semantics.Execution.{Setting, Runner, statement, freed, NOT_NIL, COUNT}
+use Rattle.static_layout.specs.roopl_semantics.Execution.{NOT_EMPTY, HEAP_FULL, LENGTH_DIFFERS, LENGTH}
 use Rattle.expr_uncompute.specs.refine_form.declared.spot.Spot.{Spot}
 use Rattle.expr_uncompute.specs.refine_form.Form.{told, turned as facing}
 use Rattle.expr_uncompute.specs.register_expressions.Code.{words}
@@ -60,16 +60,16 @@ sized_row size cell rv next = after_cost 1 (after_cost 0 (given (Ok cell)) >>= �
 
 abbrev new_last : ℕ → (below full : Bool) → ℕ → State → Run State
 new_last heap below full n st =
-    fault_if length_fault below >>= λ _. (spend (heap + 1) >>= λ _.
-    ((fault_if heap_full_fault full >>= λ _. give st) >>= λ st'. (spend n >>= λ _. give st')))
+    fault_if LENGTH below >>= λ _. (spend (heap + 1) >>= λ _.
+    ((fault_if HEAP_FULL full >>= λ _. give st) >>= λ st'. (spend n >>= λ _. give st')))
 
 abbrev new_end : ℕ → (below full : Bool) → Value → ℕ → State → Run State
-new_end heap below full w n st = fault_if not_nil_fault (not (is_nil w)) >>= λ _. new_last heap below full n st
+new_end heap below full w n st = fault_if NOT_NIL (not (is_nil w)) >>= λ _. new_last heap below full n st
 
 abbrev delete_last : ℕ → (same one empty : Bool) → ℕ → State → Run State
 delete_last heap same one empty l st =
-    fault_if length_differs_fault (not same) >>= λ _. (fault_if count_fault (not one) >>= λ _.
-    (spend (heap + 1 + l) >>= λ _. (fault_if not_empty_fault (not empty) >>= λ _. give st)))
+    fault_if LENGTH_DIFFERS (not same) >>= λ _. (fault_if COUNT (not one) >>= λ _.
+    (spend (heap + 1 + l) >>= λ _. (fault_if NOT_EMPTY (not empty) >>= λ _. give st)))
 
 module _ (setting : Setting) (head : ℕ → Head) (element : Value) where
   abbrev with_new : ℕ → Cell → State → State
@@ -77,7 +77,7 @@ module _ (setting : Setting) (head : ℕ → Head) (element : Value) where
 
   abbrev delete_end : State → Cell → Value → ℕ → Run State
   delete_end st cell w n =
-      fault_if nil_fault (is_nil w) >>= λ _. delete_last setting.limits.heap (nat_eq (length_at st (number_of w)) n)
+      fault_if NIL (is_nil w) >>= λ _. delete_last setting.limits.heap (nat_eq (length_at st (number_of w)) n)
       (nat_eq (count_at st (number_of w)) 1) (is_empty st (number_of w)) (length_at st (number_of w))
       (freed setting cell (number_of w) st)
 
@@ -200,7 +200,7 @@ module _ (setting : Setting) (address slot : State → ℕ → ℕ) (R : State �
         last : (same one empty : Bool) → nat_eq (length_at st array) (number_of v) ≡ same
             → nat_eq (count_at st array) 1 ≡ one → is_empty st array ≡ empty
             → Will im p true m (Meets R rates n0 0 (told (sized_row size (own st) (Ok v)
-            (λ v. fault_if nil_fault false >>= λ _. delete_last setting.limits.heap same one empty
+            (λ v. fault_if NIL false >>= λ _. delete_last setting.limits.heap same one empty
             (length_at st array) (freed setting (own st) array st)))))
         last false one empty es eo ez =
             let i = s.there.inside in

@@ -16,10 +16,10 @@ use Rattle.refine_heap.proofs.paired_code_laws.Laws.{will_more}
 use Rattle.refine_heap.proofs.paired_code_laws.Mirrored.{will_mirror}
 use Rattle.static_layout.specs.roopl_semantics.Run.{Run, after_cost, given, give, spend, fault_if, ◌>>=◌}
 use Rattle.static_layout.specs.roopl_semantics.Store.{Value, Word, Nil, Name, State, number_of, is_nil, same_value, object_at}
-use Rattle.static_layout.specs.roopl_semantics.Value.{Cell, read, written, cell_of, nil_fault}
-use Rattle.static_layout.specs.roopl_semantics.Elements.{index_elements, own_element, share_array, read_cost, shared_array_fault}
-use Rattle.static_layout.specs.roopl_semantics.Execution.{Setting, Runner, statement, counted, one_less, same_cell, not_nil_fault}
-use Rattle.static_layout.specs.roopl_semantics.Execution.{not_same_fault}
+use Rattle.static_layout.specs.roopl_semantics.Value.{Cell, read, written, cell_of, NIL}
+use Rattle.static_layout.specs.roopl_semantics.Elements.{index_elements, own_element, share_array, read_cost, SHARED_ARRAY}
+use Rattle.static_layout.specs.roopl_semantics.Execution.{Setting, Runner, statement, counted, one_less, same_cell, NOT_NIL}
+use Rattle.static_layout.specs.roopl_semantics.Execution.{NOT_SAME}
 use Rattle.expr_uncompute.specs.refine_form.declared.spot.Spot.{Spot}
 use Rattle.expr_uncompute.specs.refine_form.Form.{told, turned as facing}
 use Rattle.expr_uncompute.specs.Code.{place_words}
@@ -47,12 +47,12 @@ Refers address (Name n) = address n ≢ 0
 -- ---- the rows
 
 abbrev copy_end : State → Cell → Value → Value → Run State
-copy_end st b x y = fault_if nil_fault (is_nil x) >>= λ _.
-    (fault_if not_nil_fault (not (is_nil y)) >>= λ _. give (counted suc (written st b x) (number_of x)))
+copy_end st b x y = fault_if NIL (is_nil x) >>= λ _.
+    (fault_if NOT_NIL (not (is_nil y)) >>= λ _. give (counted suc (written st b x) (number_of x)))
 
 abbrev uncopy_end : State → (a b : Cell) → Value → Value → Run State
-uncopy_end st a b x y = fault_if nil_fault (is_nil x) >>= λ _.
-    (fault_if not_same_fault (not (same_value x y) || same_cell a b) >>= λ _. give
+uncopy_end st a b x y = fault_if NIL (is_nil x) >>= λ _.
+    (fault_if NOT_SAME (not (same_value x y) || same_cell a b) >>= λ _. give
     (counted one_less (written st b Nil) (number_of x)))
 
 abbrev end_of : Bool → State → (a b : Cell) → Value → Value → Run State
@@ -60,7 +60,7 @@ end_of false st a b x y = copy_end st b x y
 end_of true st a b x y = uncopy_end st a b x y
 
 abbrev kept_by : ℕ → Bool → Run State → Run State
-kept_by cost shared next = (spend cost >>= λ _. fault_if shared_array_fault shared) >>= λ _. next
+kept_by cost shared next = (spend cost >>= λ _. fault_if SHARED_ARRAY shared) >>= λ _. next
 
 abbrev pair_row : (source target : Lvalue) → (rx ry : Result Cell ℕ) → (Cell → Cell → Run State) → Run State
 pair_row source target rx ry next = after_cost 1 (after_cost (index_nodes source) (given rx) >>= λ a.
@@ -281,8 +281,8 @@ module _ (setting : Setting) (address slot : State → ℕ → ℕ) (R : State �
       names_by : (n n' : ℕ) (t u : Bool) → nat_eq n n' ≡ t → same_cell a b ≡ u → read st a ≡ Name n
           → read st b ≡ Name n' → sharing st ≡ false
           → Will im p true m (Meets R rates n0 0 (told (pair_row source target (Ok a) (Ok b)
-          (λ a b. kept_by reads false (fault_if nil_fault false >>= λ _.
-          (fault_if not_same_fault (not t || u) >>= λ _. give (after_uncopy st b n)))))))
+          (λ a b. kept_by reads false (fault_if NIL false >>= λ _.
+          (fault_if NOT_SAME (not t || u) >>= λ _. give (after_uncopy st b n)))))))
       names_by n n' false u et eu ea eb sh =
           let ne : n ≢ n' = grind (arith, nat_tests) in
           fault_meets true 10 11 _ (omega arith) (omega arith)

@@ -18,10 +18,10 @@ use Rattle.refine_heap.proofs.paired_code_laws.Laws.{will_more}
 use Rattle.refine_heap.proofs.paired_code_laws.Mirrored.{will_mirror}
 use Rattle.static_layout.specs.roopl_semantics.Run.{Run, after_cost, given, give, spend, fault_if, ◌>>=◌}
 use Rattle.static_layout.specs.roopl_semantics.Store.{Value, Word, Nil, Name, OfClass, State, number_of, is_nil}
-use Rattle.static_layout.specs.roopl_semantics.Value.{Cell, read, cell_of, nil_fault}
-use Rattle.static_layout.specs.roopl_semantics.Elements.{index_elements, own_element, share_array, read_cost, shared_array_fault}
-use Rattle.static_layout.specs.roopl_semantics.Execution.{Setting, Runner, statement, freed, not_nil_fault, count_fault}
-use Rattle.static_layout.specs.roopl_semantics.Execution.{not_empty_fault, heap_full_fault, class_differs_fault}
+use Rattle.static_layout.specs.roopl_semantics.Value.{Cell, read, cell_of, NIL}
+use Rattle.static_layout.specs.roopl_semantics.Elements.{index_elements, own_element, share_array, read_cost, SHARED_ARRAY}
+use Rattle.static_layout.specs.roopl_semantics.Execution.{Setting, Runner, statement, freed, NOT_NIL, COUNT}
+use Rattle.static_layout.specs.roopl_semantics.Execution.{NOT_EMPTY, HEAP_FULL, CLASS_DIFFERS}
 use Rattle.expr_uncompute.specs.refine_form.declared.spot.Spot.{Spot}
 use Rattle.expr_uncompute.specs.refine_form.Form.{told, turned as facing}
 use Rattle.expr_uncompute.specs.Code.{place_words}
@@ -47,24 +47,24 @@ use Rattle.object_codegen.proofs.MakeKept.{kept_places}
 -- ---- the rows
 
 abbrev kept_by : ℕ → Bool → Run State → Run State
-kept_by cost shared next = (spend cost >>= λ _. fault_if shared_array_fault shared) >>= λ _. next
+kept_by cost shared next = (spend cost >>= λ _. fault_if SHARED_ARRAY shared) >>= λ _. next
 
 abbrev one_row : Lvalue → Result Cell ℕ → (Cell → Run State) → Run State
 one_row target rc next = after_cost 1 (after_cost (index_nodes target) (given rc) >>= next)
 
 abbrev new_end : ℕ → Bool → Value → State → Run State
-new_end heap full v st = fault_if not_nil_fault (not (is_nil v)) >>= λ _.
-    (spend (heap + 1) >>= λ _. (fault_if heap_full_fault full >>= λ _. give st))
+new_end heap full v st = fault_if NOT_NIL (not (is_nil v)) >>= λ _.
+    (spend (heap + 1) >>= λ _. (fault_if HEAP_FULL full >>= λ _. give st))
 
 abbrev delete_last : ℕ → (same one empty : Bool) → State → Run State
 delete_last heap same one empty st =
-    fault_if class_differs_fault (not same) >>= λ _. (fault_if count_fault (not one) >>= λ _.
-    (spend (heap + 1) >>= λ _. (fault_if not_empty_fault (not empty) >>= λ _. give st)))
+    fault_if CLASS_DIFFERS (not same) >>= λ _. (fault_if COUNT (not one) >>= λ _.
+    (spend (heap + 1) >>= λ _. (fault_if NOT_EMPTY (not empty) >>= λ _. give st)))
 
 module _ (setting : Setting) (class : Ident) where
   abbrev delete_end : State → Cell → Value → Run State
   delete_end st cell v =
-      fault_if nil_fault (is_nil v) >>= λ _. delete_last setting.limits.heap (same_class setting class st (number_of v))
+      fault_if NIL (is_nil v) >>= λ _. delete_last setting.limits.heap (same_class setting class st (number_of v))
       (nat_eq (count_at st (number_of v)) 1) (is_empty st (number_of v)) (freed setting cell (number_of v) st)
 
   abbrev with_new : Cell → State → State
@@ -199,7 +199,7 @@ module _ (setting : Setting) (address slot : State → ℕ → ℕ) (R : State �
             last : (same one empty : Bool) → same_class setting class st name ≡ same → nat_eq (count_at st name) 1 ≡ one
                 → is_empty st name ≡ empty
                 → Will im p true m (Meets R rates n0 0 (told (one_row target (Ok cell)
-                (λ c. kept_by reads false (fault_if nil_fault false >>= λ _. delete_last setting.limits.heap same
+                (λ c. kept_by reads false (fault_if NIL false >>= λ _. delete_last setting.limits.heap same
                 one empty (freed setting c name st))))))
             last false one empty es eo ez =
                 let i = s.there.inside in

@@ -11,10 +11,10 @@ use Rattle.refine_heap.specs.paired_code.declared.part.Symbol.{Symbol}
 use Rattle.refine_heap.specs.paired_code.declared.part.Symbol.TheVariants.{Enter}
 use Rattle.refine_heap.specs.paired_code.Machine.{Image}
 use Rattle.refine_heap.specs.paired_code.Pieces.{Will}
-use Rattle.static_layout.specs.roopl_semantics.Elements.{shared_array_fault}
-use Rattle.static_layout.specs.roopl_semantics.Value.{nil_fault}
-use Rattle.static_layout.specs.roopl_semantics.Execution.{not_nil_fault, count_fault, not_empty_fault}
-use Rattle.static_layout.specs.roopl_semantics.Execution.{length_fault, heap_full_fault}
+use Rattle.static_layout.specs.roopl_semantics.Elements.{SHARED_ARRAY}
+use Rattle.static_layout.specs.roopl_semantics.Value.{NIL}
+use Rattle.static_layout.specs.roopl_semantics.Execution.{NOT_NIL, COUNT, NOT_EMPTY}
+use Rattle.static_layout.specs.roopl_semantics.Execution.{LENGTH, HEAP_FULL}
 use Rattle.expr_uncompute.specs.refine_form.Form.{registers}
 use Rattle.expr_uncompute.specs.refine_form.declared.spot.Spot.{Spot}
 use Rattle.expr_uncompute.specs.register_expressions.Code.{words}
@@ -76,7 +76,7 @@ pub record Lacks (im : Image) (object frame order p v : ℕ) (shape : Shape) (lo
     (cells : List ℕ) : Type 0 where
   pub lacks : (ys : List ℕ) → Filled low n cells ys
       → Will im (Enter 0 false ∷ []) false (calling object frame order 0 p v shape ys)
-      (TrapsWithin heap_full_fault most)
+      (TrapsWithin HEAP_FULL most)
 
 -- ---- the cells
 
@@ -162,19 +162,19 @@ pub record Makes (im : Image) (m : Memory) (object frame low n steps a v order :
       (whole_steps steps shape (size_of v shape) least)
       (whole_steps steps shape (size_of v shape) most))
   pub not_nil_faults : slice_index m.cells a ≢ 0
-      → Will im p false m (TrapsWithin not_nil_fault (steps + 2))
+      → Will im p false m (TrapsWithin NOT_NIL (steps + 2))
   pub full_faults : (most : ℕ) → IsLength v shape → slice_index m.cells a ≡ 0
       → Lacks im object frame order a v shape low n most m.cells
       → Will im p false m
-      (TrapsWithin heap_full_fault
+      (TrapsWithin HEAP_FULL
       (steps + (check_steps shape + ((move_steps shape + order_steps shape) + most))))
-  pub nil_faults : slice_index m.cells a ≡ 0 → Will im p true m (TrapsWithin nil_fault (steps + 4))
+  pub nil_faults : slice_index m.cells a ≡ 0 → Will im p true m (TrapsWithin NIL (steps + 4))
   pub other_faults : (x : ℕ) → slice_index m.cells a ≡ x → x < low → x < 2 ^ 31 → x ≢ 0
       → slice_index m.cells x ≢ mark_of v shape
       → Will im p true m (TrapsWithin (mark_fault shape) (steps + 8))
   pub count_faults : (x : ℕ) → slice_index m.cells a ≡ x → x + 1 < low → x < 2 ^ 31 → x ≢ 0
       → slice_index m.cells x ≡ mark_of v shape → slice_index m.cells (x + 1) ≢ 1
-      → Will im p true m (TrapsWithin count_fault (steps + 15))
+      → Will im p true m (TrapsWithin COUNT (steps + 15))
   pub not_empty_faults : (x i : ℕ) → slice_index m.cells a ≡ x
       → x + HEADER_WORDS + size_of v shape ≤ low
       → x + HEADER_WORDS + size_of v shape < 2 ^ 31 → x ≢ 0
@@ -182,7 +182,7 @@ pub record Makes (im : Image) (m : Memory) (object frame low n steps a v order :
       → slice_index m.cells (x + COUNT_WORD) ≡ 1 → x + HEADER_WORDS ≤ i
       → i < x + HEADER_WORDS + size_of v shape
       → slice_index m.cells i ≢ 0
-      → Will im p true m (TrapsWithin not_empty_fault (steps + (27 + 13 * size_of v shape)))
+      → Will im p true m (TrapsWithin NOT_EMPTY (steps + (27 + 13 * size_of v shape)))
 
 -- a new and a delete of an object with a class's table and so many fields, in a block of this order
 pub record ObjectLaw (spot : List ℕ → Spot) (free table fields order : ℕ) (target : Lvalue)
@@ -203,7 +203,7 @@ pub record ObjectLaw (spot : List ℕ → Spot) (free table fields order : ℕ) 
       → CanRun spot free (place_words target) (lvalue_read target) (Null 0) m → (a : ℕ)
       → place_address spot (bases_of m) m.cells target ≡ Ok a
       → update_shares spot (bases_of m) m.cells target (Null 0) ≡ true
-      → IsTrap im p d m shared_array_fault (found_place_steps target)
+      → IsTrap im p d m SHARED_ARRAY (found_place_steps target)
 
 -- the same of an array, with a length: its fault comes after the place's, and along 13 after 4
 -- if it is not above 0
@@ -225,7 +225,7 @@ pub record ArrayLaw (spot : List ℕ → Spot) (free : ℕ) (target : Lvalue) (s
       → number spot (bases_of m) m.cells size ≡ Ok v
       → update_shares spot (bases_of m) m.cells target size ≡ false → slice_index m.cells a ≡ 0
       → is_less 0 v ≡ false
-      → Will im p false m (TrapsWithin length_fault (found_value_steps target size + 5))
+      → Will im p false m (TrapsWithin LENGTH (found_value_steps target size + 5))
   pub place_faults : (im : Image) (d : Bool) (m : Memory)
       → CanRun spot free (place_words target + words size) (lvalue_read target) size m → (code : ℕ)
       → place_address spot (bases_of m) m.cells target ≡ Err code
@@ -240,4 +240,4 @@ pub record ArrayLaw (spot : List ℕ → Spot) (free : ℕ) (target : Lvalue) (s
       → place_address spot (bases_of m) m.cells target ≡ Ok a
       → number spot (bases_of m) m.cells size ≡ Ok v
       → update_shares spot (bases_of m) m.cells target size ≡ true
-      → IsTrap im p d m shared_array_fault (found_value_steps target size)
+      → IsTrap im p d m SHARED_ARRAY (found_value_steps target size)

@@ -6,9 +6,9 @@ use Rattle.refine_heap.specs.pisa_isa.Machine.{Memory}
 use Rattle.refine_heap.specs.paired_code.declared.part.Symbol.{Symbol}
 use Rattle.refine_heap.specs.paired_code.Machine.{Image}
 use Rattle.refine_heap.specs.paired_code.Pieces.{Will}
-use Rattle.static_layout.specs.roopl_semantics.Elements.{shared_array_fault}
-use Rattle.static_layout.specs.roopl_semantics.Value.{nil_fault}
-use Rattle.static_layout.specs.roopl_semantics.Execution.{not_nil_fault, not_same_fault}
+use Rattle.static_layout.specs.roopl_semantics.Elements.{SHARED_ARRAY}
+use Rattle.static_layout.specs.roopl_semantics.Value.{NIL}
+use Rattle.static_layout.specs.roopl_semantics.Execution.{NOT_NIL, NOT_SAME}
 use Rattle.expr_uncompute.specs.refine_form.declared.spot.Spot.{Spot}
 use Rattle.expr_uncompute.specs.Code.{place_words}
 use Rattle.expr_uncompute.specs.register_expressions.Number.{lvalue_read, index_of, place_address, shares}
@@ -109,19 +109,19 @@ pub record CopyLaw (spot : List ℕ → Spot) (free : ℕ) (source target : Lval
       → (a a' : ℕ) → place_address spot (bases_of m) m.cells source ≡ Ok a
       → place_address spot (bases_of m) m.cells target ≡ Ok a'
       → shares spot (bases_of m) m.cells target (index_of source) (index_of target) ≡ true
-      → IsTrap im p d m shared_array_fault (found_places_steps source target)
+      → IsTrap im p d m SHARED_ARRAY (found_places_steps source target)
   pub nil_faults : (im : Image) (d : Bool) (m : Memory) (a a' : ℕ)
       → Places spot free source target m a a'
       → slice_index m.cells a ≡ 0
-      → Will im p d m (TrapsWithin nil_fault (found_places_steps source target + 2))
+      → Will im p d m (TrapsWithin NIL (found_places_steps source target + 2))
   pub not_nil_faults : (im : Image) (m : Memory) (a a' x : ℕ)
       → Places spot free source target m a a'
       → slice_index m.cells a ≡ x → x < 2 ^ 31 → x ≢ 0 → slice_index m.cells a' ≢ 0
-      → Will im p false m (TrapsWithin not_nil_fault (found_places_steps source target + 6))
+      → Will im p false m (TrapsWithin NOT_NIL (found_places_steps source target + 6))
   pub not_same_faults : (im : Image) (m : Memory) (a a' x y : ℕ)
       → Places spot free source target m a a'
       → slice_index m.cells a ≡ x → slice_index m.cells a' ≡ y → x < 2 ^ 31 → x ≢ 0 → x ≢ y
-      → Will im p true m (TrapsWithin not_same_fault (found_places_steps source target + 11))
+      → Will im p true m (TrapsWithin NOT_SAME (found_places_steps source target + 11))
   pub one_place_faults : (im : Image) (m : Memory) (a x : ℕ) → Places spot free source target m a a
       → slice_index m.cells a ≡ x → x < 2 ^ 31 → x ≢ 0
-      → Will im p true m (TrapsWithin not_same_fault (found_places_steps source target + 19))
+      → Will im p true m (TrapsWithin NOT_SAME (found_places_steps source target + 19))

@@ -1,7 +1,8 @@
 // Printed words, and the lines on stops.
 ghost use Rattle.std.specs.Prelude.{◌≡◌, ◌++◌, OnOk, OnErr, string_bytes};
-ghost use Rattle.pisa_scripts.specs.Stops.{fault_name as name_of_fault, stop_line};
+ghost use Rattle.pisa_scripts.specs.Stops.{stop_line};
 
+use code_conventions::faults::fault_name;
 use pisa_isa::Stop;
 use std::alloc::AllocError;
 
@@ -36,29 +37,4 @@ fn add_fault(text: &mut String, code: u32) -> Result<(), AllocError>
     let number = code.cast_signed();
     let line = format!(in *text.allocator(); "fault {number}{name}\n")?;
     text.push_str(line.as_str())
-}
-
-// The name of a fault, with a space before it.
-fn fault_name(code: u32) -> &'static str
-    ensures { result.now ≡ name_of_fault code }
-{
-    match code {
-        1 => " Fi",
-        2 => " Loop",
-        3 => " Delocal",
-        4 => " NotNil",
-        5 => " Nil",
-        6 => " Count",
-        7 => " NotEmpty",
-        8 => " HeapFull",
-        9 => " Index",
-        10 => " NotSame",
-        11 => " ClassDiffers",
-        12 => " LengthDiffers",
-        13 => " Length",
-        14 => " TooDeep",
-        15 => " Touched",
-        16 => " SharedArray",
-        _ => "",
-    }
 }

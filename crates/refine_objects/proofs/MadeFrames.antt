@@ -13,7 +13,7 @@ use Rattle.object_codegen.specs.roopl_semantics.Store.{object_named, object_at, 
 use Rattle.object_codegen.specs.roopl_semantics.Value.{Cell, Slot, Part, read, written}
 use Rattle.object_codegen.specs.roopl_semantics.Run.{◌>>=◌, give, fault_if}
 use Rattle.object_codegen.specs.roopl_semantics.Execution.{Setting, new_object, order_of_cells, all_zero}
-use Rattle.object_codegen.specs.roopl_semantics.Execution.{heap_full_fault}
+use Rattle.object_codegen.specs.roopl_semantics.Execution.{HEAP_FULL}
 use Rattle.object_codegen.specs.roopl_semantics.Laws.{holders_among}
 use Rattle.object_codegen.specs.roopl_semantics.Layout.{head_word}
 use Rattle.object_codegen.proofs.roopl_semantics_laws.Orders.{order_from_one}
@@ -357,7 +357,7 @@ module _ (setting : Setting) (statics : List ℕ) (s : Scope) (u : Under) (st : 
   keeps_all : Keeps setting (extra u []) (shape_of setting.program s) s.class st made_state
   keeps_all =
       subst (λ b. Ends (Keeps setting (extra u []) (shape_of setting.program s) s.class st)
-      (fault_if heap_full_fault b >>= λ _. give made_state)) not_full
+      (fault_if HEAP_FULL b >>= λ _. give made_state)) not_full
       (allocated_keeps setting (extra u []) (shape_of setting.program s) s.class st head values
       (length (cell_kinds setting.program head)) cell k refl
       (sound_of setting (extra u []) (shape_of setting.program s) s.class st t

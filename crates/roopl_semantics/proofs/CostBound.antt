@@ -7,10 +7,10 @@ use Rattle.inverse_rules.specs.rpp_tree.Tree.{Procedure}
 use Rattle.std.specs.Prelude.{Result, Ok, Err}
 use Rattle.roopl_semantics.specs.Run.{Run, Done, Fault, More, after_cost, given, ◌>>=◌, spend, fault_if}
 use Rattle.roopl_semantics.specs.Store.{Value, State, number_of, is_nil}
-use Rattle.roopl_semantics.specs.Value.{value as value_in, Cell, evaluated, read, cell_named, own_class, nil_fault}
+use Rattle.roopl_semantics.specs.Value.{value as value_in, Cell, evaluated, read, cell_named, own_class, NIL}
 use Rattle.class_rules.specs.Classes.{method_named}
-use Rattle.roopl_semantics.specs.Execution.{Setting, Runner, holds, loop_fault, opened, invoked, is_too_deep}
-use Rattle.roopl_semantics.specs.Execution.{too_deep_fault, class_of, cells_named, constructed, element_call}
+use Rattle.roopl_semantics.specs.Execution.{Setting, Runner, holds, LOOP, opened, invoked, is_too_deep}
+use Rattle.roopl_semantics.specs.Execution.{TOO_DEEP, class_of, cells_named, constructed, element_call}
 use Rattle.roopl_semantics.specs.Execution.{element_name, with_local, turn_end, turns, statement, exec}
 
 -- the second run is the first, if that is over at a cost within the bound
@@ -113,7 +113,7 @@ module _ (setting : Setting) (run run' : Runner) (bound : ℕ)
   turn_end_alike m le entry again next next' alike false st =
       alike_then m _ _ _ _ (alike_fewer m (suc bound) _ _ le (same again st))
       (λ end. alike_on m (evaluated setting.program entry end) _ _
-      (λ v. alike_on m (fault_if loop_fault (holds v)) _ _ (λ u. alike end)))
+      (λ v. alike_on m (fault_if LOOP (holds v)) _ _ (λ u. alike end)))
 
   turns_alike : (n m : ℕ) → m ≤ bound → (entry : Expression) (first again : Statements) (exit : Expression) (st : State)
       → Alike m (turns setting n run entry first again exit st) (turns setting m run' entry first again exit st)
@@ -130,7 +130,7 @@ module _ (setting : Setting) (run run' : Runner) (bound : ℕ)
       alike_on (suc bound) (evaluated setting.program test st) _ _
       (λ v. alike_then (suc bound) _ _ _ _ (same (cond (holds v) taken other) st) (λ end. alike_itself _ _))
   statement_alike n (From at entry first again exit) st =
-      alike_evaluated setting bound entry st _ _ (λ v. alike_on bound (fault_if loop_fault (not (holds v))) _ _
+      alike_evaluated setting bound entry st _ _ (λ v. alike_on bound (fault_if LOOP (not (holds v))) _ _
       (λ u. turns_alike n bound (omega arith) entry first again exit st))
   statement_alike n (Construct at class name body end) st =
       local_alike name.text (Null at) (constructed at class name body) (Null at) st
@@ -139,15 +139,15 @@ module _ (setting : Setting) (run run' : Runner) (bound : ℕ)
   statement_alike n (Delete at (AnObject class) target) st = alike_itself _ _
   statement_alike n (Call at back None method args) st =
       alike_on (suc bound) (spend (length args)) _ _ (λ u. alike_on (suc bound)
-      (fault_if too_deep_fault (is_too_deep setting st)) _ _ (λ w.
+      (fault_if TOO_DEEP (is_too_deep setting st)) _ _ (λ w.
       invoked_alike back (method_named setting.program (own_class st) method.text) st.self []
       (cells_named setting st args) st))
   statement_alike n (Call at back (Some (Whole name)) method args) st =
       let cell = cell_named setting.program st name.text in
       let self = number_of (read st cell) in
       alike_on (suc bound) (spend (length args)) _ _ (λ u. alike_on (suc bound)
-      (fault_if nil_fault (is_nil (read st cell))) _ _ (λ w. alike_on (suc bound)
-      (fault_if too_deep_fault (is_too_deep setting st)) _ _ (λ x.
+      (fault_if NIL (is_nil (read st cell))) _ _ (λ w. alike_on (suc bound)
+      (fault_if TOO_DEEP (is_too_deep setting st)) _ _ (λ x.
       invoked_alike back (method_named setting.program (class_of setting st self) method.text) self (cell ∷ [])
       (cells_named setting st args) st)))
   statement_alike n (Call at back (Some (Item name index)) method args) st =

@@ -3,13 +3,10 @@ use Rattle.std.specs.Prelude.{ℕ, Bool, false, ◌||◌, List, [], ◌∷◌, �
 use Rattle.inverse_rules.specs.rpp_tree.declared.tree.Ident.{Ident}
 use Rattle.inverse_rules.specs.rpp_tree.Tree.{Expression, Number, Null, Variable, Element, Binary, Lvalue, Whole}
 use Rattle.inverse_rules.specs.rpp_tree.Tree.{Item, Source}
-use Rattle.code_conventions.specs.declared.faults.TheConstants.{SHARED_ARRAY}
+pub use Rattle.code_conventions.specs.declared.faults.TheConstants.{SHARED_ARRAY}
 use Rattle.roopl_semantics.specs.Run.{Run, spend, fault_if, ◌>>=◌}
 use Rattle.roopl_semantics.specs.Store.{State, same_value}
 use Rattle.roopl_semantics.specs.Value.{variable_value}
-
-abbrev pub shared_array_fault : ℕ
-shared_array_fault = SHARED_ARRAY
 
 -- the elements of an expression, those in indexes too, by the names of their arrays
 abbrev pub elements : Expression → List Ident
@@ -56,4 +53,4 @@ read_cost (name ∷ changed) reads = length reads
 abbrev pub kept_apart : Source → List Ident → List Ident → State → Run (Unit {0})
 kept_apart program changed reads st = do
   _ ← spend (read_cost changed reads)
-  fault_if shared_array_fault (share_array program st changed reads)
+  fault_if SHARED_ARRAY (share_array program st changed reads)

@@ -16,58 +16,18 @@ use Rattle.inverse_rules.specs.Inverse.{inverse}
 use Rattle.buddy_book.specs.Book.{order_for}
 use Rattle.buddy_book.specs.Place.{Taken, Given, count_taken, place}
 use Rattle.code_conventions.specs.declared.memory.TheConstants.{HEADER_WORDS}
-use Rattle.code_conventions.specs.declared.faults.TheConstants.{FI, LOOP, DELOCAL, NOT_NIL, COUNT}
-use Rattle.code_conventions.specs.declared.faults.TheConstants.{NOT_EMPTY, HEAP_FULL, NOT_SAME}
-use Rattle.code_conventions.specs.declared.faults.TheConstants.{CLASS_DIFFERS, LENGTH_DIFFERS}
-use Rattle.code_conventions.specs.declared.faults.TheConstants.{LENGTH, TOO_DEEP, TOUCHED}
+pub use Rattle.code_conventions.specs.declared.faults.TheConstants.{FI, LOOP, DELOCAL, NOT_NIL, COUNT}
+pub use Rattle.code_conventions.specs.declared.faults.TheConstants.{NOT_EMPTY, HEAP_FULL, NOT_SAME}
+pub use Rattle.code_conventions.specs.declared.faults.TheConstants.{CLASS_DIFFERS, LENGTH_DIFFERS}
+pub use Rattle.code_conventions.specs.declared.faults.TheConstants.{LENGTH, TOO_DEEP, TOUCHED}
 use Rattle.roopl_semantics.specs.Operators.{is_true, updated}
 use Rattle.roopl_semantics.specs.Run.{Run, More, ◌>>=◌, give, spend, fault_if}
 use Rattle.roopl_semantics.specs.Store.{Value, Word, Nil, Name, Head, OfClass, OfInts, OfObjects}
 use Rattle.roopl_semantics.specs.Store.{Object, Binding, State, number_of, is_zero, is_nil, cleared}
 use Rattle.roopl_semantics.specs.Store.{same_value, zero_values, object_at, changed_at, without}
-use Rattle.roopl_semantics.specs.Value.{Cell, Slot, Part, nil_fault, cell_named, own_class, read}
+use Rattle.roopl_semantics.specs.Value.{Cell, Slot, Part, NIL, cell_named, own_class, read}
 use Rattle.roopl_semantics.specs.Value.{written, evaluated, found}
 use Rattle.roopl_semantics.specs.Elements.{elements, index_elements, own_element, kept_apart}
-
--- the faults by their names; those of elements are next to their definitions
-abbrev pub fi_fault : ℕ
-fi_fault = FI
-
-abbrev pub loop_fault : ℕ
-loop_fault = LOOP
-
-abbrev pub delocal_fault : ℕ
-delocal_fault = DELOCAL
-
-abbrev pub not_nil_fault : ℕ
-not_nil_fault = NOT_NIL
-
-abbrev pub count_fault : ℕ
-count_fault = COUNT
-
-abbrev pub not_empty_fault : ℕ
-not_empty_fault = NOT_EMPTY
-
-abbrev pub heap_full_fault : ℕ
-heap_full_fault = HEAP_FULL
-
-abbrev pub not_same_fault : ℕ
-not_same_fault = NOT_SAME
-
-abbrev pub class_differs_fault : ℕ
-class_differs_fault = CLASS_DIFFERS
-
-abbrev pub length_differs_fault : ℕ
-length_differs_fault = LENGTH_DIFFERS
-
-abbrev pub length_fault : ℕ
-length_fault = LENGTH
-
-abbrev pub too_deep_fault : ℕ
-too_deep_fault = TOO_DEEP
-
-abbrev pub touched_fault : ℕ
-touched_fault = TOUCHED
 
 -- the setting of a run: the program, and the sizes of heap and stack
 pub record Setting : Type 0 where
@@ -125,7 +85,7 @@ abbrev pub moved_back : List Cell → List Value → State → Run State
 moved_back [] values st = give st
 moved_back (cell ∷ cells) [] st = give st
 moved_back (cell ∷ cells) (v ∷ values) st = do
-  _ ← fault_if touched_fault (not (is_zero (read st cell)))
+  _ ← fault_if TOUCHED (not (is_zero (read st cell)))
   moved_back cells values (written st cell v)
 
 -- the body of a method that is called, or its inverse if it is uncalled
@@ -204,7 +164,7 @@ module _ (setting : Setting) where
       let name = 2 + count_taken st.log in
       let log = Taken name (order_of_cells size) ∷ st.log in
       do
-        _ ← fault_if heap_full_fault (nat_lt setting.limits.heap (order_of_cells size)
+        _ ← fault_if HEAP_FULL (nat_lt setting.limits.heap (order_of_cells size)
             || is_none (place setting.limits.heap log))
         give (written (record st { store = (name, new_object head cells) ∷ st.store; log = log })
             cell (Name name))
@@ -221,8 +181,8 @@ module _ (setting : Setting) where
     cell ← found setting.program target st
     v ← evaluated setting.program size st
     let n = number_of v
-    _ ← fault_if not_nil_fault (not (is_nil (read st cell)))
-    _ ← fault_if length_fault (is_less n 1)
+    _ ← fault_if NOT_NIL (not (is_nil (read st cell)))
+    _ ← fault_if LENGTH (is_less n 1)
     _ ← spend (setting.limits.heap + 1)
     st' ← allocated n cell (head n) (replicate n element) st
     _ ← spend n
@@ -235,11 +195,11 @@ module _ (setting : Setting) where
     v ← evaluated setting.program size st
     let name = number_of (read st cell)
     let array = object_at st.store name
-    _ ← fault_if nil_fault (is_nil (read st cell))
-    _ ← fault_if length_differs_fault (not (nat_eq (length array.cells) (number_of v)))
-    _ ← fault_if count_fault (not (nat_eq array.count 1))
+    _ ← fault_if NIL (is_nil (read st cell))
+    _ ← fault_if LENGTH_DIFFERS (not (nat_eq (length array.cells) (number_of v)))
+    _ ← fault_if COUNT (not (nat_eq array.count 1))
     _ ← spend (setting.limits.heap + 1 + length array.cells)
-    _ ← fault_if not_empty_fault (not (all_zero array.cells))
+    _ ← fault_if NOT_EMPTY (not (all_zero array.cells))
     give (freed cell name st)
 
   -- a block with a local variable; `construct` and calls on elements mean one too
@@ -248,7 +208,7 @@ module _ (setting : Setting) where
     v ← evaluated setting.program value st
     end ← run body (opened name v st)
     w ← evaluated setting.program end_value end
-    _ ← fault_if delocal_fault (not (same_value (read end (Slot 0)) w))
+    _ ← fault_if DELOCAL (not (same_value (read end (Slot 0)) w))
     give (closed end)
 
   -- after the first part of a loop's iteration: the end if the exit holds, else the second part and
@@ -259,7 +219,7 @@ module _ (setting : Setting) where
   turn_end run entry again next false st = do
     end ← run again st
     v ← evaluated setting.program entry end
-    _ ← fault_if loop_fault (holds v)
+    _ ← fault_if LOOP (holds v)
     next end
 
   -- the iterations of a loop whose entry has passed, at most so many
@@ -289,11 +249,11 @@ module _ (setting : Setting) where
     v ← evaluated setting.program test st
     end ← run (if holds v then taken else other) st
     w ← evaluated setting.program after end
-    _ ← fault_if fi_fault (if holds v then not (holds w) else holds w)
+    _ ← fault_if FI (if holds v then not (holds w) else holds w)
     give end
   statement n run (From at entry first again exit) st = do
     v ← evaluated setting.program entry st
-    _ ← fault_if loop_fault (not (holds v))
+    _ ← fault_if LOOP (not (holds v))
     turns n run entry first again exit st
   statement n run (Construct at class name body end) st =
       with_local run name.text (Null at) (constructed at class name body) (Null at) st
@@ -302,7 +262,7 @@ module _ (setting : Setting) where
   statement n run (New at (AnObject class) target) st = do
     cell ← found setting.program target st
     _ ← kept_apart setting.program (own_element target) (index_elements target) st
-    _ ← fault_if not_nil_fault (not (is_nil (read st cell)))
+    _ ← fault_if NOT_NIL (not (is_nil (read st cell)))
     _ ← spend (setting.limits.heap + 1)
     let number = unwrap_or (class_number setting.program class.text) 0
     let cells = zero_values (class_fields setting.program number)
@@ -316,12 +276,12 @@ module _ (setting : Setting) where
     let name = number_of (read st cell)
     let object = object_at st.store name
     _ ← kept_apart setting.program (own_element target) (index_elements target) st
-    _ ← fault_if nil_fault (is_nil (read st cell))
-    _ ← fault_if class_differs_fault
+    _ ← fault_if NIL (is_nil (read st cell))
+    _ ← fault_if CLASS_DIFFERS
         (not (is_of_class object.head (class_number setting.program class.text)))
-    _ ← fault_if count_fault (not (nat_eq object.count 1))
+    _ ← fault_if COUNT (not (nat_eq object.count 1))
     _ ← spend (setting.limits.heap + 1)
-    _ ← fault_if not_empty_fault (not (all_zero object.cells))
+    _ ← fault_if NOT_EMPTY (not (all_zero object.cells))
     give (freed cell name st)
   statement n run (Delete at (Ints size) target) st = delete_array target size st
   statement n run (Delete at (Objects class size) target) st = delete_array target size st
@@ -330,28 +290,28 @@ module _ (setting : Setting) where
     b ← found setting.program target st
     _ ← kept_apart setting.program (own_element target)
         (index_elements source ++ index_elements target) st
-    _ ← fault_if nil_fault (is_nil (read st a))
-    _ ← fault_if not_nil_fault (not (is_nil (read st b)))
+    _ ← fault_if NIL (is_nil (read st a))
+    _ ← fault_if NOT_NIL (not (is_nil (read st b)))
     give (counted suc (written st b (read st a)) (number_of (read st a)))
   statement n run (Uncopy at kind source target) st = do
     a ← found setting.program source st
     b ← found setting.program target st
     _ ← kept_apart setting.program (own_element target)
         (index_elements source ++ index_elements target) st
-    _ ← fault_if nil_fault (is_nil (read st a))
-    _ ← fault_if not_same_fault (not (same_value (read st a) (read st b)) || same_cell a b)
+    _ ← fault_if NIL (is_nil (read st a))
+    _ ← fault_if NOT_SAME (not (same_value (read st a) (read st b)) || same_cell a b)
     give (counted one_less (written st b Nil) (number_of (read st a)))
   statement n run (Call at back None method args) st = do
     _ ← spend (length args)
-    _ ← fault_if too_deep_fault (is_too_deep st)
+    _ ← fault_if TOO_DEEP (is_too_deep st)
     invoked run back (method_named setting.program (own_class st) method.text) st.self []
         (cells_named st args) st
   statement n run (Call at back (Some (Whole name)) method args) st = do
     _ ← spend (length args)
     let cell = cell_named setting.program st name.text
     let self = number_of (read st cell)
-    _ ← fault_if nil_fault (is_nil (read st cell))
-    _ ← fault_if too_deep_fault (is_too_deep st)
+    _ ← fault_if NIL (is_nil (read st cell))
+    _ ← fault_if TOO_DEEP (is_too_deep st)
     invoked run back (method_named setting.program (class_of st self) method.text) self (cell ∷ [])
         (cells_named st args) st
   statement n run (Call at back (Some (Item name index)) method args) st =

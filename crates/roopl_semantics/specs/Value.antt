@@ -9,7 +9,7 @@ use Rattle.inverse_rules.specs.rpp_tree.Tree.{Expression, Number, Null, Variable
 use Rattle.inverse_rules.specs.rpp_tree.Tree.{Item, Source, nodes, index_nodes}
 use Rattle.class_rules.specs.Members.{field_of}
 use Rattle.class_rules.specs.Classes.{class_fields}
-use Rattle.code_conventions.specs.declared.faults.TheConstants.{NIL, INDEX}
+pub use Rattle.code_conventions.specs.declared.faults.TheConstants.{NIL, INDEX}
 use Rattle.roopl_semantics.specs.Operators.{operated}
 use Rattle.roopl_semantics.specs.Run.{Run, after_cost, given}
 use Rattle.roopl_semantics.specs.Store.{Value, Word, Nil, Name, Binding, State, number_of}
@@ -69,19 +69,12 @@ written st (Part name index) value =
 abbrev pub variable_value : Source → State → List ℕ → Value
 variable_value program st name = read st (cell_named program st name)
 
--- the faults of an element
-abbrev pub nil_fault : ℕ
-nil_fault = NIL
-
-abbrev pub index_fault : ℕ
-index_fault = INDEX
-
 -- the element of an array at an index, a word without sign
 abbrev pub element_cell : State → Value → ℕ → Result Cell ℕ
 element_cell st (Name array) index =
     if nat_lt index (length (object_at st.store array).cells) then Ok (Part array index)
-    else Err index_fault
-element_cell st _ index = Err nil_fault
+    else Err INDEX
+element_cell st _ index = Err NIL
 
 -- the element of the array of a name, once the index has its value
 abbrev pub element_of : Source → State → List ℕ → Result Value ℕ → Result Cell ℕ

@@ -11,12 +11,12 @@ use Rattle.source_blocks.specs.class_rules.Classes.{class_number}
 use Rattle.source_blocks.specs.roopl_semantics.Store.{Value, Word, Nil, OfClass, State, Object}
 use Rattle.source_blocks.specs.roopl_semantics.Store.{object_at, number_of, is_zero, same_value}
 use Rattle.source_blocks.specs.roopl_semantics.Value.{Cell, read, value, variable_value}
-use Rattle.source_blocks.specs.roopl_semantics.Value.{read_cell, cell_of, nil_fault}
-use Rattle.source_blocks.specs.roopl_semantics.Execution.{Setting, not_nil_fault, count_fault}
-use Rattle.source_blocks.specs.roopl_semantics.Execution.{not_empty_fault, not_same_fault}
-use Rattle.source_blocks.specs.roopl_semantics.Execution.{class_differs_fault}
-use Rattle.source_blocks.specs.roopl_semantics.Execution.{length_differs_fault, length_fault}
-use Rattle.source_blocks.specs.roopl_semantics.Execution.{too_deep_fault}
+use Rattle.source_blocks.specs.roopl_semantics.Value.{read_cell, cell_of, NIL}
+use Rattle.source_blocks.specs.roopl_semantics.Execution.{Setting, NOT_NIL, COUNT}
+use Rattle.source_blocks.specs.roopl_semantics.Execution.{NOT_EMPTY, NOT_SAME}
+use Rattle.source_blocks.specs.roopl_semantics.Execution.{CLASS_DIFFERS}
+use Rattle.source_blocks.specs.roopl_semantics.Execution.{LENGTH_DIFFERS, LENGTH}
+use Rattle.source_blocks.specs.roopl_semantics.Execution.{TOO_DEEP}
 use Rattle.source_blocks.specs.meaning_machine.Machine.{Caller}
 use Rattle.source_compared.specs.Comparisons.{Compared, Values, Below, Missing, Count, Length}
 use Rattle.source_compared.specs.Comparisons.{Size, Heads, Nothing, first_of, access_at, to_be_zero}
@@ -136,17 +136,17 @@ module _ (setting : Setting) (st : State) where
   -- what the check with this fault compares
   abbrev pub check : (code : ℕ) → Subject → Compared
   check code it =
-      if nat_eq code not_nil_fault then Values it.target Nil
-      else if nat_eq code nil_fault then Missing it.array
-      else if nat_eq code count_fault then Count (object_of it.target).count
-      else if nat_eq code not_empty_fault then first_filled (object_of it.target).cells
-      else if nat_eq code not_same_fault then unlike it.target it.other
-      else if nat_eq code class_differs_fault then
+      if nat_eq code NOT_NIL then Values it.target Nil
+      else if nat_eq code NIL then Missing it.array
+      else if nat_eq code COUNT then Count (object_of it.target).count
+      else if nat_eq code NOT_EMPTY then first_filled (object_of it.target).cells
+      else if nat_eq code NOT_SAME then unlike it.target it.other
+      else if nat_eq code CLASS_DIFFERS then
       Heads (object_of it.target).head (OfClass it.class)
-      else if nat_eq code length_differs_fault then
+      else if nat_eq code LENGTH_DIFFERS then
       Length it.other (length (object_of it.target).cells)
-      else if nat_eq code length_fault then Size it.other
-      else if nat_eq code too_deep_fault then Below (Word st.depth) setting.limits.deep
+      else if nat_eq code LENGTH then Size it.other
+      else if nat_eq code TOO_DEEP then Below (Word st.depth) setting.limits.deep
       else Nothing
 
   -- what a statement that stops with this fault compares as it begins

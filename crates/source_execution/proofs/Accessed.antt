@@ -6,7 +6,7 @@ use Rattle.rpp_tree.specs.Tree.{Source, Expression, Number, Null, Variable, Elem
 use Rattle.source_checks.specs.roopl_semantics.Store.{State, Value, Word, Nil, Name, object_at, number_of}
 use Rattle.source_checks.specs.roopl_semantics.Value.{Cell, Part, value, read_cell, element_cell, element_of}
 use Rattle.source_checks.specs.roopl_semantics.Value.{combined}
-use Rattle.source_checks.specs.roopl_semantics.Value.{variable_value, index_fault}
+use Rattle.source_checks.specs.roopl_semantics.Value.{variable_value, INDEX}
 use Rattle.source_checks.specs.source_compared.Comparisons.{Compared, Truth, Values, Below, Missing, Count, Length}
 use Rattle.source_checks.specs.source_compared.Comparisons.{Size, Heads, Nothing, first_of, access_in, access_at}
 use Rattle.source_checks.specs.Checks.{failing_access}
@@ -27,7 +27,7 @@ stays_first code Nothing second n = absurd n
 
 there_or_not : (st : State) (array index : ℕ) (b : Bool) → nat_lt index (length (object_at st.store array).cells) ≡ b
     → Accesses (if b then Nothing else Below (Word index) (length (object_at st.store array).cells))
-    (read_cell st (if b then Ok (Part array index) else Err index_fault))
+    (read_cell st (if b then Ok (Part array index) else Err INDEX))
 there_or_not st array index true e = refl
 there_or_not st array index false e = (refl, e)
 

@@ -6,7 +6,7 @@ use Rattle.source_checks.specs.rpp_words.declared.input.Limits.{Limits}
 use Rattle.rpp_tree.specs.Tree.{Source as Program}
 use Rattle.source_checks.specs.roopl_semantics.Run.{Fault}
 use Rattle.source_checks.specs.roopl_semantics.Store.{Value, number_of}
-use Rattle.source_checks.specs.roopl_semantics.Value.{nil_fault, index_fault}
+use Rattle.source_checks.specs.roopl_semantics.Value.{NIL, INDEX}
 use Rattle.source_checks.specs.roopl_semantics.Source.{source}
 use Rattle.source_checks.specs.meaning_machine.Machine.{Config, next}
 use Rattle.source_checks.specs.meaning_machine.SourceLaws.{set_for, start_of}
@@ -37,9 +37,9 @@ pub record FailsAsMeant (program : Program) (limits : Limits) (input : List Fiel
 -- what an evaluation that stops with this fault compares: an index that is not below the length of
 -- the array, or an array that is nil
 abbrev pub IsNotThere : (code : ℕ) → Compared → Type 0
-IsNotThere code (Below found limit) = (code ≡ index_fault)
+IsNotThere code (Below found limit) = (code ≡ INDEX)
     × (nat_lt (number_of found) limit ≡ false)
-IsNotThere code (Missing array) = (code ≡ nil_fault) × (array ≡ true)
+IsNotThere code (Missing array) = (code ≡ NIL) × (array ≡ true)
 IsNotThere code _ = ⊥
 
 -- one that gives a value compares nothing

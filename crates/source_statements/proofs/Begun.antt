@@ -9,7 +9,7 @@ use Rattle.rpp_tree.specs.Tree.{Delete, Copy, Uncopy, Call, Skip}
 use Rattle.source_blocks.specs.roopl_semantics.Run.{Run as Run', More, ◌>>=◌, give, fault_if}
 use Rattle.source_blocks.specs.roopl_semantics.Store.{Value, State}
 use Rattle.source_blocks.specs.roopl_semantics.Value.{evaluated}
-use Rattle.source_blocks.specs.roopl_semantics.Execution.{Setting, holds, loop_fault, opened, constructed, statement}
+use Rattle.source_blocks.specs.roopl_semantics.Execution.{Setting, holds, LOOP, opened, constructed, statement}
 use Rattle.source_blocks.specs.meaning_machine.Machine.{Config, Chosen, First, Holding, past_it, inside, simply, begun, held_local}
 use Rattle.source_blocks.specs.meaning_machine.Machine.{called}
 use Rattle.source_blocks.specs.source_steps.StateView.{setting_of}
@@ -69,7 +69,7 @@ module _ (setting : Setting) (x : Config) (s : Statement) (rest : Statements) (f
   module _ (at : ℕ) (entry : Expression) (first again : Statements) (exit : Expression)
       (here : s ≡ From at entry first again exit) where
     abbrev after_entry : Statement → Value → Run' Config
-    after_entry s' v = fault_if loop_fault (not (holds v)) >>= (λ u. give (inside x s' rest
+    after_entry s' v = fault_if LOOP (not (holds v)) >>= (λ u. give (inside x s' rest
         (First entry first again exit) first x.state))
 
     abbrev loop_run : Statement → Run' Config
@@ -91,7 +91,7 @@ module _ (setting : Setting) (x : Config) (s : Statement) (rest : Statements) (f
     loop_refused g left v why t e is f = subst (λ r. Failed why left (metered fuel r)) (sym loop_is)
         (subst (λ m. Failed why left m) (sym (goes fuel g (evaluated setting.program entry x.state) v (after_entry s)
         e))
-        (fails g left (fault_if loop_fault (not (holds v))) _ why
+        (fails g left (fault_if LOOP (not (holds v))) _ why
         (subst (λ b. Failed why left (metered g (fault_if 2 b))) is f)))
 
     pub loop_goes : {E : Type 0} (result : Result E Stop) (g left : ℕ) (v : Value) (t : Bool) (y : Config)
@@ -102,7 +102,7 @@ module _ (setting : Setting) (x : Config) (s : Statement) (rest : Statements) (f
         → Gives (λ (e : E). y) result left (metered fuel (begun setting x s rest))
     loop_goes result g left v t y e is f m = subst (λ r. Gives (λ e. y) result left (metered fuel r)) (sym loop_is)
         (through (λ e. y) result fuel g left (evaluated setting.program entry x.state) v (after_entry s) e
-        (through (λ e. y) result g left left (fault_if loop_fault (not (holds v))) tt _
+        (through (λ e. y) result g left left (fault_if LOOP (not (holds v))) tt _
         (ap (λ b. metered g (fault_if 2 b)) (sym is) ∙ f) (given_as result left y _ m)))
 
   -- a local variable

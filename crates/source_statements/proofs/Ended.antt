@@ -6,7 +6,7 @@ use Rattle.rpp_tree.specs.Tree.{Expression, Statements}
 use Rattle.source_blocks.specs.roopl_semantics.Run.{Run, ◌>>=◌, give, fault_if}
 use Rattle.source_blocks.specs.roopl_semantics.Store.{Value, State, same_value}
 use Rattle.source_blocks.specs.roopl_semantics.Value.{Cell, Slot, evaluated, read}
-use Rattle.source_blocks.specs.roopl_semantics.Execution.{Setting, holds, fi_fault, loop_fault, delocal_fault, closed, moved_back}
+use Rattle.source_blocks.specs.roopl_semantics.Execution.{Setting, holds, FI, LOOP, DELOCAL, closed, moved_back}
 use Rattle.source_blocks.specs.meaning_machine.Machine.{Config, Part, Chosen, First, Again, Holding, Calling, closing, ended, left}
 use Rattle.source_blocks.specs.meaning_machine.Machine.{Caller as From, turned_to, turned_first}
 use Rattle.source_blocks.specs.source_steps.declared.stop.Stop.{Stop}
@@ -25,7 +25,7 @@ module _ (setting : Setting) (x : Config) (fuel : ℕ) where
   -- a side of a choice
   module _ (side : Bool) (test after : Expression) (in_part : HasPart x.around (Chosen side test after)) where
     abbrev side_test : Value → Run Config
-    side_test w = fault_if fi_fault (if side then not (holds w) else holds w)
+    side_test w = fault_if FI (if side then not (holds w) else holds w)
         >>= (λ u. give (left in_part.inmost in_part.others x.params x.state))
 
     pub side_fails : (l : ℕ) (why : Stop) → Failed why l (metered fuel (evaluated setting.program after x.state))
@@ -39,7 +39,7 @@ module _ (setting : Setting) (x : Config) (fuel : ℕ) where
         → Failed why l (metered fuel (closing setting x x.around))
     side_differs g l w why t e d f = subst (λ r. Failed why l (metered fuel r)) (sym (closing_is _ in_part))
         (subst (λ m. Failed why l m) (sym (goes fuel g (evaluated setting.program after x.state) w side_test e))
-        (fails g l (fault_if fi_fault (if side then not (holds w) else holds w)) _ why
+        (fails g l (fault_if FI (if side then not (holds w) else holds w)) _ why
         (subst (λ b. Failed why l (metered g (fault_if 1 b))) d f)))
 
     pub side_goes : (g l : ℕ) (w : Value) (t : Bool) (y : Config)
@@ -49,7 +49,7 @@ module _ (setting : Setting) (x : Config) (fuel : ℕ) where
     side_goes g l w t y e d f m =
         ap (metered fuel) (closing_is _ in_part)
         ∙ goes fuel g (evaluated setting.program after x.state) w side_test e
-        ∙ goes g l (fault_if fi_fault (if side then not (holds w) else holds w)) tt _
+        ∙ goes g l (fault_if FI (if side then not (holds w) else holds w)) tt _
         (ap (λ b. metered g (fault_if 1 b)) (sym d) ∙ f)
         ∙ gives l (left in_part.inmost in_part.others x.params x.state)
         ∙ ap (λ z. Went z l) (sym (m ∙ ap (leaving x) in_part.is))
@@ -58,7 +58,7 @@ module _ (setting : Setting) (x : Config) (fuel : ℕ) where
   module _ (name : List ℕ) (value end_value : Expression) (in_part : HasPart x.around (Holding name value end_value))
     where
       abbrev local_test : Value → Run Config
-      local_test w = fault_if delocal_fault (not (same_value (read x.state (Slot 0)) w))
+      local_test w = fault_if DELOCAL (not (same_value (read x.state (Slot 0)) w))
           >>= (λ u. give (left in_part.inmost in_part.others x.params (closed x.state)))
 
       pub close_fails : (l : ℕ) (why : Stop)
@@ -73,7 +73,7 @@ module _ (setting : Setting) (x : Config) (fuel : ℕ) where
           → Failed why l (metered fuel (closing setting x x.around))
       close_differs g l w why t e d f = subst (λ r. Failed why l (metered fuel r)) (sym (closing_is _ in_part))
           (subst (λ m. Failed why l m) (sym (goes fuel g (evaluated setting.program end_value x.state) w local_test e))
-          (fails g l (fault_if delocal_fault (not (same_value (read x.state (Slot 0)) w))) _ why
+          (fails g l (fault_if DELOCAL (not (same_value (read x.state (Slot 0)) w))) _ why
           (subst (λ b. Failed why l (metered g (fault_if 3 b))) d f)))
 
       pub close_goes : (g l : ℕ) (w : Value) (t : Bool) (mid y : Config)
@@ -86,7 +86,7 @@ module _ (setting : Setting) (x : Config) (fuel : ℕ) where
           ∙ ap (λ (z : Config). leaving z z.around) m in
           ap (metered fuel) (closing_is _ in_part)
           ∙ goes fuel g (evaluated setting.program end_value x.state) w local_test e
-          ∙ goes g l (fault_if delocal_fault (not (same_value (read x.state (Slot 0)) w))) tt _
+          ∙ goes g l (fault_if DELOCAL (not (same_value (read x.state (Slot 0)) w))) tt _
           (ap (λ b. metered g (fault_if 3 b)) (sym d) ∙ f)
           ∙ gives l (left in_part.inmost in_part.others x.params (closed x.state))
           ∙ ap (λ z. Went z l) (sym (gone ∙ ap (leaving (record x { state = closed x.state })) in_part.is))
@@ -128,7 +128,7 @@ module _ (setting : Setting) (x : Config) (fuel : ℕ) where
         ∙ ap (λ z. Went z g) (sym (m ∙ ap (going_on x (Again entry first again exit) again) in_part.is))
 
     abbrev again_then : HasPart x.around (Again entry first again exit) → Value → Run Config
-    again_then in_part v = fault_if loop_fault (holds v) >>= (λ u. give (turned_to x in_part.inmost in_part.others
+    again_then in_part v = fault_if LOOP (holds v) >>= (λ u. give (turned_to x in_part.inmost in_part.others
         (First entry first again exit) first))
 
     pub again_fails : (l : ℕ) (why : Stop) → HasPart x.around (Again entry first again exit)
@@ -144,7 +144,7 @@ module _ (setting : Setting) (x : Config) (fuel : ℕ) where
     again_refused g l v why t in_part e d f = subst (λ r. Failed why l (metered fuel r)) (sym (closing_is _ in_part))
         (subst (λ m. Failed why l m)
         (sym (goes fuel g (evaluated setting.program entry x.state) v (again_then in_part) e))
-        (fails g l (fault_if loop_fault (holds v)) _ why (subst (λ b. Failed why l (metered g (fault_if 2 b))) d f)))
+        (fails g l (fault_if LOOP (holds v)) _ why (subst (λ b. Failed why l (metered g (fault_if 2 b))) d f)))
 
     pub again_goes : (g l : ℕ) (v : Value) (t : Bool) (y : Config)
         (in_part : HasPart x.around (Again entry first again exit))
@@ -155,7 +155,7 @@ module _ (setting : Setting) (x : Config) (fuel : ℕ) where
     again_goes g l v t y in_part e d f m =
         ap (metered fuel) (closing_is _ in_part)
         ∙ goes fuel g (evaluated setting.program entry x.state) v (again_then in_part) e
-        ∙ goes g l (fault_if loop_fault (holds v)) tt (λ u. give (turned_to x in_part.inmost in_part.others
+        ∙ goes g l (fault_if LOOP (holds v)) tt (λ u. give (turned_to x in_part.inmost in_part.others
         (First entry first again exit) first)) (ap (λ b. metered g (fault_if 2 b)) (sym d) ∙ f)
         ∙ gives l (turned_to x in_part.inmost in_part.others (First entry first again exit) first)
         ∙ ap (λ z. Went z l) (sym (m ∙ ap (going_on x (First entry first again exit) first) in_part.is))

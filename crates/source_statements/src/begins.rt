@@ -14,6 +14,7 @@ ghost use Rattle.source_blocks.specs.Opens.{closing_of};
 ghost use Rattle.source_blocks.specs.Runs.{IsSound, IsSimple, config_of, state_in, here_in, rest_in};
 ghost use Rattle.source_blocks.specs.Stops.{MayStop};
 
+use code_conventions::faults::LOOP;
 use crate::calls::{call, call_on};
 use rpp_tree::tree::{Block, Expr, Stmt};
 use source_blocks::{
@@ -109,7 +110,7 @@ fn repeat<'a>(run: &mut Run<'a>, fuel: &mut u64, at: u32, turns: &Loop<'a>) -> R
 {
     match value_in(run, fuel, turns.entry) {
         Err(why) => Err(why),
-        Ok(value) => match refuse(fuel, 2, !is_true(value)) {
+        Ok(value) => match refuse(fuel, LOOP, !is_true(value)) {
             Err(why) => Err(why),
             Ok(()) => {
                 let task = Task::Text {

@@ -17,6 +17,7 @@ ghost use Rattle.source_blocks.specs.Tasks.{task_of};
 ghost use Rattle.source_blocks.specs.Opens.{cells_in, values_in, part_of, IsCaller};
 ghost use Rattle.source_blocks.specs.Runs.{IsSound, config_of, state_in, here_in, rest_in, only_cell};
 
+use code_conventions::faults::{NIL, TOO_DEEP};
 use crate::begins::open_local;
 use crate::methods::{begin, called, cost_of, is_deep, method_of};
 use rpp_tree::Text;
@@ -283,7 +284,7 @@ fn call_own<'a>(run: &mut Run<'a>, fuel: &mut u64, calls: &Calls<'a>) -> Result<
     let deep = is_deep(&run.setting);
     match spend(fuel, cost_of(calls.args)) {
         Err(why) => Err(why),
-        Ok(()) => match refuse(fuel, 14, deep) {
+        Ok(()) => match refuse(fuel, TOO_DEEP, deep) {
             Err(why) => Err(why),
             Ok(()) => enter(run, run.setting.object, None, calls),
         },
@@ -313,9 +314,9 @@ pub fn call_on<'a>(
     let (cell, value) = named(run, &name.text);
     match spend(fuel, cost_of(calls.args)) {
         Err(why) => Err(why),
-        Ok(()) => match refuse(fuel, 5, value.is_nil()) {
+        Ok(()) => match refuse(fuel, NIL, value.is_nil()) {
             Err(why) => Err(why),
-            Ok(()) => match refuse(fuel, 14, deep) {
+            Ok(()) => match refuse(fuel, TOO_DEEP, deep) {
                 Err(why) => Err(why),
                 Ok(()) => enter(run, value.number(), Some(cell), calls),
             },

@@ -14,6 +14,7 @@ ghost use Rattle.source_blocks.specs.Runs.{IsSound, Stays, config_of, state_in};
 ghost use Rattle.source_blocks.specs.Endings.{IsInCall};
 ghost use Rattle.source_statements.specs.Endings.{IsInSide, caller_state, HasRoom, Falls};
 
+use code_conventions::faults::{DELOCAL, FI, LOOP};
 use rpp_tree::tree::Expr;
 use source_blocks::{
     Caller, Ending, Frame, Local, Loop, Part, Run, Task, block_ending, close_block, closing_value,
@@ -46,7 +47,7 @@ fn end_side(run: &mut Run, fuel: &mut u64, side: bool, after: &Expr) -> Result<(
 {
     match value_in(run, fuel, after) {
         Err(why) => Err(why),
-        Ok(value) => match refuse(fuel, 1, differs(side, is_true(value))) {
+        Ok(value) => match refuse(fuel, FI, differs(side, is_true(value))) {
             Err(why) => Err(why),
             Ok(()) => {
                 close_block(run);
@@ -106,7 +107,7 @@ fn end_again<'a>(run: &mut Run<'a>, fuel: &mut u64, turns: &Loop<'a>) -> Result<
 {
     match value_in(run, fuel, turns.entry) {
         Err(why) => Err(why),
-        Ok(value) => match refuse(fuel, 2, is_true(value)) {
+        Ok(value) => match refuse(fuel, LOOP, is_true(value)) {
             Err(why) => Err(why),
             Ok(()) => {
                 let task = Task::Text {
@@ -150,7 +151,7 @@ fn end_local(run: &mut Run, fuel: &mut u64, local: &Local) -> Result<(), Stop>
 {
     match closing_value(run, fuel, &local.end_value) {
         Err(why) => Err(why),
-        Ok(last) => match refuse(fuel, 3, !innermost(run).same(last)) {
+        Ok(last) => match refuse(fuel, DELOCAL, !innermost(run).same(last)) {
             Err(why) => Err(why),
             Ok(()) => {
                 if run.locals.is_empty() {

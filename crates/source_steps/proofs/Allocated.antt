@@ -5,7 +5,7 @@ use Rattle.source_store.specs.buddy_book.Place.{Taken, count_taken, place}
 use Rattle.source_store.specs.roopl_semantics.Run.{Run, ◌>>=◌, give, fault_if}
 use Rattle.source_store.specs.roopl_semantics.Store.{State, Value, Name, Head}
 use Rattle.source_store.specs.roopl_semantics.Value.{Cell, written}
-use Rattle.source_store.specs.roopl_semantics.Execution.{Setting, allocated, order_of_cells, new_object, heap_full_fault}
+use Rattle.source_store.specs.roopl_semantics.Execution.{Setting, allocated, order_of_cells, new_object, HEAP_FULL}
 use Rattle.source_store.specs.declared.value.Value.{Value as Held}
 use Rattle.source_store.specs.HeapView.{Kept, asked_for, TookBlock}
 use Rattle.source_steps.specs.declared.scope.Scope.{Scope as Chain}
@@ -21,7 +21,7 @@ with_new size cell head cells st =
     written (record st { store = (name, new_object head cells) ∷ st.store; log = log }) cell (Name name)
 
 abbrev by_full : ℕ → Cell → Head → List Value → State → Bool → Run State
-by_full size cell head cells st t = fault_if heap_full_fault t >>= (λ u. give (with_new size cell head cells st))
+by_full size cell head cells st t = fault_if HEAP_FULL t >>= (λ u. give (with_new size cell head cells st))
 
 room_goes : (size : ℕ) (cell : Cell) (head : Head) (cells : List Value) (st : State) (fuel : ℕ)
     → metered fuel (by_full size cell head cells st false) ≡ Went (with_new size cell head cells st) fuel

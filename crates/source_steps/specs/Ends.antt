@@ -11,11 +11,11 @@ use Rattle.source_store.specs.roopl_semantics.Store.{State, Value, Word, Nil, He
 use Rattle.source_store.specs.roopl_semantics.Store.{is_nil, number_of, same_value, object_at, zero_values}
 use Rattle.source_store.specs.roopl_semantics.Execution.{Setting, statement, counted, one_less}
 use Rattle.source_store.specs.roopl_semantics.Execution.{same_cell, is_of_class, all_zero, allocated, freed}
-use Rattle.source_store.specs.roopl_semantics.Execution.{not_nil_fault}
-use Rattle.source_store.specs.roopl_semantics.Execution.{not_same_fault, class_differs_fault}
-use Rattle.source_store.specs.roopl_semantics.Execution.{length_differs_fault, length_fault, count_fault}
-use Rattle.source_store.specs.roopl_semantics.Execution.{not_empty_fault}
-use Rattle.source_store.specs.roopl_semantics.Value.{Cell, read, written, evaluated, found, nil_fault}
+use Rattle.source_store.specs.roopl_semantics.Execution.{NOT_NIL}
+use Rattle.source_store.specs.roopl_semantics.Execution.{NOT_SAME, CLASS_DIFFERS}
+use Rattle.source_store.specs.roopl_semantics.Execution.{LENGTH_DIFFERS, LENGTH, COUNT}
+use Rattle.source_store.specs.roopl_semantics.Execution.{NOT_EMPTY}
+use Rattle.source_store.specs.roopl_semantics.Value.{Cell, read, written, evaluated, found, NIL}
 use Rattle.source_store.specs.meaning_machine.Reversed.{ungiven}
 use Rattle.source_store.specs.declared.value.Value.{Value as Held}
 use Rattle.source_store.specs.HeapView.{Kept as Heap}
@@ -43,21 +43,21 @@ does_simply here fuel s st = metered fuel (statement (setting_of here) 0 (λ bod
 -- after the places and the check of an `uncopy`
 abbrev pub uncopied : Cell → Cell → State → Run State
 uncopied a b st = do
-  _ ← fault_if nil_fault (is_nil (read st a))
-  _ ← fault_if not_same_fault (not (same_value (read st a) (read st b)) || same_cell a b)
+  _ ← fault_if NIL (is_nil (read st a))
+  _ ← fault_if NOT_SAME (not (same_value (read st a) (read st b)) || same_cell a b)
   give (counted one_less (written st b Nil) (number_of (read st a)))
 
 -- after the places and the check of a `copy`
 abbrev pub copied : Cell → Cell → State → Run State
 copied a b st = do
-  _ ← fault_if nil_fault (is_nil (read st a))
-  _ ← fault_if not_nil_fault (not (is_nil (read st b)))
+  _ ← fault_if NIL (is_nil (read st a))
+  _ ← fault_if NOT_NIL (not (is_nil (read st b)))
   give (counted suc (written st b (read st a)) (number_of (read st a)))
 
 -- after the place and the check of a `new` of an object
 abbrev pub made : Setting → List ℕ → Cell → State → Run State
 made setting class cell st = do
-  _ ← fault_if not_nil_fault (not (is_nil (read st cell)))
+  _ ← fault_if NOT_NIL (not (is_nil (read st cell)))
   _ ← spend (setting.limits.heap + 1)
   let number = unwrap_or (class_number setting.program class) 0
   let cells = zero_values (class_fields setting.program number)
@@ -82,8 +82,8 @@ filled setting cell head element n st = do
 abbrev pub made_array : Setting → Cell → (ℕ → Head) → Value → Value → State → Run State
 made_array setting cell head element v st = do
   let n = number_of v
-  _ ← fault_if not_nil_fault (not (is_nil (read st cell)))
-  _ ← fault_if length_fault (is_less n 1)
+  _ ← fault_if NOT_NIL (not (is_nil (read st cell)))
+  _ ← fault_if LENGTH (is_less n 1)
   _ ← spend (setting.limits.heap + 1)
   st' ← allocated setting n cell (head n) (replicate n element) st
   _ ← spend n
@@ -93,7 +93,7 @@ made_array setting cell head element v st = do
 abbrev pub emptied : Setting → ℕ → Cell → ℕ → State → Run State
 emptied setting cost cell name st = do
   _ ← spend cost
-  _ ← fault_if not_empty_fault (not (all_zero (object_at st.store name).cells))
+  _ ← fault_if NOT_EMPTY (not (all_zero (object_at st.store name).cells))
   give (freed setting cell name st)
 
 -- after the place and the check of a `delete` of an object
@@ -101,12 +101,12 @@ abbrev pub gone : Setting → List ℕ → Cell → State → Run State
 gone setting class cell st = do
   let name = number_of (read st cell)
   let object = object_at st.store name
-  _ ← fault_if nil_fault (is_nil (read st cell))
-  _ ← fault_if class_differs_fault (not (is_of_class object.head
+  _ ← fault_if NIL (is_nil (read st cell))
+  _ ← fault_if CLASS_DIFFERS (not (is_of_class object.head
       (class_number setting.program class)))
-  _ ← fault_if count_fault (not (nat_eq object.count 1))
+  _ ← fault_if COUNT (not (nat_eq object.count 1))
   _ ← spend (setting.limits.heap + 1)
-  _ ← fault_if not_empty_fault (not (all_zero object.cells))
+  _ ← fault_if NOT_EMPTY (not (all_zero object.cells))
   give (freed setting cell name st)
 
 -- after the place and the length of a `delete` of an array
@@ -114,11 +114,11 @@ abbrev pub gone_array : Setting → Cell → Value → State → Run State
 gone_array setting cell v st = do
   let name = number_of (read st cell)
   let array = object_at st.store name
-  _ ← fault_if nil_fault (is_nil (read st cell))
-  _ ← fault_if length_differs_fault (not (nat_eq (length array.cells) (number_of v)))
-  _ ← fault_if count_fault (not (nat_eq array.count 1))
+  _ ← fault_if NIL (is_nil (read st cell))
+  _ ← fault_if LENGTH_DIFFERS (not (nat_eq (length array.cells) (number_of v)))
+  _ ← fault_if COUNT (not (nat_eq array.count 1))
   _ ← spend (setting.limits.heap + 1 + length array.cells)
-  _ ← fault_if not_empty_fault (not (all_zero array.cells))
+  _ ← fault_if NOT_EMPTY (not (all_zero array.cells))
   give (freed setting cell name st)
 
 -- the head of an array of words, or of references to objects of a class

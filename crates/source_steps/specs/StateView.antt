@@ -5,7 +5,7 @@ use Rattle.rpp_tree.specs.declared.tree.Var.{Var}
 use Rattle.rpp_tree.specs.Views.{source_of}
 use Rattle.source_store.specs.roopl_semantics.Store.{Value, Name, object_at, Store, Binding, State}
 use Rattle.source_store.specs.roopl_semantics.Execution.{Setting, bound}
-use Rattle.source_store.specs.roopl_semantics.Value.{Cell, Part, nil_fault, index_fault}
+use Rattle.source_store.specs.roopl_semantics.Value.{Cell, Part, NIL, INDEX}
 use Rattle.source_store.specs.declared.value.Value.{Value as Held}
 use Rattle.source_store.specs.ValueView.{values_of}
 use Rattle.source_store.specs.HeapView.{Kept}
@@ -51,8 +51,8 @@ seen f (Err fault) = Err fault
 -- the element of an array at an index
 abbrev pub element_in : Store → Value → ℕ → Result Cell ℕ
 element_in store (Name array) index = if nat_lt index (length (object_at store array).cells)
-    then Ok (Part array index) else Err index_fault
-element_in store _ index = Err nil_fault
+    then Ok (Part array index) else Err INDEX
+element_in store _ index = Err NIL
 
 -- the state in which a method begins on an object, with these values of its variables
 abbrev pub entered : Here → List Var → ℕ → Kept → List Held → State

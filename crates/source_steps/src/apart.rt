@@ -14,6 +14,7 @@ use crate::expressions::{Setting, one_less};
 use crate::scope::Scope;
 use crate::steps::refuse;
 use crate::stop::Stop;
+use code_conventions::faults::SHARED_ARRAY;
 use rpp_tree::tree::{Expr, Ident, Place};
 use source_store::{Heap, Value};
 
@@ -191,7 +192,7 @@ fn both_apart(
     spend_elements(fuel, Some(first), second)?;
     let shared = shares(setting, scope, heap, values, name, Some(first), second)
         || (shares(setting, scope, heap, values, other, Some(first), second) || false);
-    refuse(fuel, 16, shared)
+    refuse(fuel, SHARED_ARRAY, shared)
 }
 
 /// The index of a place, if it is an element.

@@ -13,6 +13,7 @@ use crate::expressions::Setting;
 use crate::scope::Scope;
 use crate::steps::refuse;
 use crate::stop::Stop;
+use code_conventions::faults::TOUCHED;
 use rpp_tree::tree::Ident;
 use rpp_words::NoMemory;
 use source_store::{Heap, Lack, Value};
@@ -106,7 +107,7 @@ pub fn move_back(
             [value, moved @ ..] => {
                 let place = *cell;
                 let now = read_cell(setting, scope, heap, values, place);
-                refuse(fuel, 15, !now.is_zero())?;
+                refuse(fuel, TOUCHED, !now.is_zero())?;
                 write_cell(setting, scope, heap, values, place, *value);
                 match move_back(setting, scope, heap, values, fuel, cells, moved) {
                     Ok(()) => Ok(()),
@@ -173,7 +174,7 @@ pub fn return_values(
             [value, held @ ..] => {
                 let place = *cell;
                 let before = read_cell(setting, scope, heap, values, place);
-                refuse(fuel, 15, !before.is_zero())?;
+                refuse(fuel, TOUCHED, !before.is_zero())?;
                 write_cell(setting, scope, heap, values, place, *value);
                 match return_values(
                     setting, scope, heap, values, fuel, receiver, args, held, inside,

@@ -14,6 +14,7 @@ use crate::expressions::Setting;
 use crate::scope::Scope;
 use crate::steps::{locate, refuse};
 use crate::stop::Stop;
+use code_conventions::faults::{NIL, NOT_NIL, NOT_SAME};
 use rpp_tree::tree::{Place, VarType};
 use source_store::{Heap, Value};
 
@@ -51,8 +52,8 @@ fn refer(
 {
     let first = read_cell(setting, scope, heap, values, a);
     let second = read_cell(setting, scope, heap, values, b);
-    refuse(fuel, 5, first.is_nil())?;
-    refuse(fuel, 4, !second.is_nil())?;
+    refuse(fuel, NIL, first.is_nil())?;
+    refuse(fuel, NOT_NIL, !second.is_nil())?;
     write_cell(setting, scope, heap, values, b, first);
     heap.raise(first.number())?;
     Ok(())
@@ -108,8 +109,8 @@ fn take_back(
 {
     let first = read_cell(setting, scope, heap, values, a);
     let second = read_cell(setting, scope, heap, values, b);
-    refuse(fuel, 5, first.is_nil())?;
-    refuse(fuel, 10, !first.same(second) || is_same_cell(a, b))?;
+    refuse(fuel, NIL, first.is_nil())?;
+    refuse(fuel, NOT_SAME, !first.same(second) || is_same_cell(a, b))?;
     write_cell(setting, scope, heap, values, b, Value::Nil);
     heap.lower(first.number());
     Ok(())

@@ -13,6 +13,7 @@ ghost use Rattle.source_steps.specs.StateView.{IsFramed, element_in, state_of, s
 use crate::cell::{Cell, cell_of_name, read_cell, variable};
 use crate::scope::Scope;
 use class_table::Checked;
+use code_conventions::faults::{INDEX, NIL};
 use rpp_tree::tree::{BinOp, Expr, Place};
 use rpp_words::{Limits, less, wrap_add, wrap_sub};
 use source_store::{Heap, Value};
@@ -148,11 +149,11 @@ fn element(heap: &Heap, array: Value, index: u32) -> Result<Cell, u32>
                     index: index as usize,
                 })
             } else {
-                Err(9)
+                Err(INDEX)
             }
         }
-        Value::Nil => Err(5),
-        Value::Word(_) => Err(5),
+        Value::Nil => Err(NIL),
+        Value::Word(_) => Err(NIL),
     }
 }
 

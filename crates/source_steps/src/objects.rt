@@ -18,6 +18,7 @@ use crate::expressions::Setting;
 use crate::scope::Scope;
 use crate::steps::{evaluate, locate, refuse, spend};
 use crate::stop::Stop;
+use code_conventions::faults::{CLASS_DIFFERS, COUNT, HEAP_FULL, LENGTH, LENGTH_DIFFERS, NIL, NOT_EMPTY, NOT_NIL};
 use rpp_tree::Text;
 use rpp_tree::tree::{Expr, Ident, Made, Place, Var, VarType};
 use rpp_words::{NoMemory, less};
@@ -68,10 +69,10 @@ fn allocate(
     ensures same { fuel.new ≡ fuel.old }
 {
     if heap.is_too_large(cells.len() as u32) {
-        return Err(Stop::Fault(8));
+        return Err(Stop::Fault(HEAP_FULL));
     }
     match heap.take(head, cells)? {
-        None => Err(Stop::Fault(8)),
+        None => Err(Stop::Fault(HEAP_FULL)),
         Some(name) => {
             write_cell(setting, scope, heap, values, cell, Value::Name(name));
             Ok(())
@@ -98,7 +99,7 @@ fn make(
     ensures less { fuel.new ≤ fuel.old }
 {
     let old = read_cell(setting, scope, heap, values, cell);
-    refuse(fuel, 4, !old.is_nil())?;
+    refuse(fuel, NOT_NIL, !old.is_nil())?;
     spend(fuel, setting.limits.heap as u64 + 1)?;
     allocate_object(setting, scope, heap, values, fuel, cell, class)
 }
@@ -225,7 +226,7 @@ fn allocate_array(
     ensures same { fuel.new ≡ fuel.old }
 {
     if heap.is_too_large(count) {
-        return Err(Stop::Fault(8));
+        return Err(Stop::Fault(HEAP_FULL));
     }
     let cells = elements(setting.alloc, count, element_of(kind))?;
     allocate(
@@ -262,8 +263,8 @@ fn make_array(
 {
     let old = read_cell(setting, scope, heap, values, cell);
     let count = size.number();
-    refuse(fuel, 4, !old.is_nil())?;
-    refuse(fuel, 13, less(count, 1))?;
+    refuse(fuel, NOT_NIL, !old.is_nil())?;
+    refuse(fuel, LENGTH, less(count, 1))?;
     fill_array(setting, scope, heap, values, fuel, cell, kind, count)
 }
 
@@ -358,7 +359,7 @@ fn empty_out(
     ensures less { fuel.new ≤ fuel.old }
 {
     spend(fuel, setting.limits.heap as u64 + 1 + cells as u64)?;
-    refuse(fuel, 7, !heap.is_empty(name))?;
+    refuse(fuel, NOT_EMPTY, !heap.is_empty(name))?;
     free(setting, scope, heap, values, cell, name)?;
     Ok(())
 }
@@ -384,9 +385,9 @@ fn drop_object(
     let value = read_cell(setting, scope, heap, values, cell);
     let name = value.number();
     let named = setting.checked.table().class_of(class);
-    refuse(fuel, 5, value.is_nil())?;
-    refuse(fuel, 11, !heap.is_of_class(name, named))?;
-    refuse(fuel, 6, heap.count_of(name) != 1)?;
+    refuse(fuel, NIL, value.is_nil())?;
+    refuse(fuel, CLASS_DIFFERS, !heap.is_of_class(name, named))?;
+    refuse(fuel, COUNT, heap.count_of(name) != 1)?;
     empty_out(setting, scope, heap, values, fuel, cell, name, 0)
 }
 
@@ -435,9 +436,9 @@ fn drop_array(
     let value = read_cell(setting, scope, heap, values, cell);
     let name = value.number();
     let length = heap.length_of(name);
-    refuse(fuel, 5, value.is_nil())?;
-    refuse(fuel, 12, length != size.number() as usize)?;
-    refuse(fuel, 6, heap.count_of(name) != 1)?;
+    refuse(fuel, NIL, value.is_nil())?;
+    refuse(fuel, LENGTH_DIFFERS, length != size.number() as usize)?;
+    refuse(fuel, COUNT, heap.count_of(name) != 1)?;
     empty_out(
         setting,
         scope,
