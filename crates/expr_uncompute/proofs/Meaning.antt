@@ -16,6 +16,7 @@ use Rattle.register_expressions.specs.Number.{word_in, combined}
 use Rattle.expr_uncompute.specs.Means.{is_equation, shown, shown_result, cell_result, AreOperands, words, compared}
 use Rattle.expr_uncompute.specs.Means.{OperandsOf, IsInt, StandsArray, Means, MeansPlace}
 use Rattle.register_expressions.proofs.Numbers.{element_nil, element_inside, element_past}
+use Rattle.register_expressions.specs.code_conventions.declared.faults.TheConstants.{INDEX}
 
 same_test : (x y u v : ℕ) → (x ≡ y → u ≡ v) → (u ≡ v → x ≡ y) → nat_eq x y ≡ nat_eq u v
 same_test x y u v f g = ⊎_elim (λ e. let k = f e in grind (arith, nat_tests))
@@ -69,14 +70,14 @@ module _ (address slot : ℕ → ℕ) where
         inside l =
             let t : nat_lt i (length (object_at st.store n).cells) ≡ true = grind (arith, nat_tests) in
             element_inside cells (address n) i h.0 (rw h.1 l)
-            ∙ sym (ap (λ t. cell_result address slot (if t then Ok (Part n i) else Err 9)) t)
+            ∙ sym (ap (λ t. cell_result address slot (if t then Ok (Part n i) else Err INDEX)) t)
 
         past : length (object_at st.store n).cells ≤ i → element_address cells (address n) i
             ≡ cell_result address slot (element_cell st (Name n) i)
         past g =
             let t : nat_lt i (length (object_at st.store n).cells) ≡ false = grind (arith, nat_tests) in
             element_past cells (address n) i h.0 (rw h.1 g) ∙ sym
-            (ap (λ t. cell_result address slot (if t then Ok (Part n i) else Err 9)) t)
+            (ap (λ t. cell_result address slot (if t then Ok (Part n i) else Err INDEX)) t)
 
     element_at_is : (v : Value) (r : Result Value ℕ) (k : ℕ) → shown address slot v ≡ k
         → StandsArray address slot program st spot b cells v → IsInt address slot r → (name : List ℕ)
@@ -103,16 +104,16 @@ module _ (address slot : ℕ → ℕ) where
             ≡ shown_result address slot (read_cell st (element_cell st (Name n) i))
         inside l =
             let t : nat_lt i (length (object_at st.store n).cells) ≡ true = grind (arith, nat_tests) in
-            ap (λ t. word_in cells (cell_result address slot (if t then Ok (Part n i) else Err 9))) t ∙ ap Ok (h.2 i l)
-            ∙ sym (ap (λ t. shown_result address slot (read_cell st (if t then Ok (Part n i) else Err 9))) t)
+            ap (λ t. word_in cells (cell_result address slot (if t then Ok (Part n i) else Err INDEX))) t ∙ ap Ok (h.2 i l)
+            ∙ sym (ap (λ t. shown_result address slot (read_cell st (if t then Ok (Part n i) else Err INDEX))) t)
 
         past : length (object_at st.store n).cells ≤ i → word_in cells
             (cell_result address slot (element_cell st (Name n) i))
             ≡ shown_result address slot (read_cell st (element_cell st (Name n) i))
         past g =
             let t : nat_lt i (length (object_at st.store n).cells) ≡ false = grind (arith, nat_tests) in
-            ap (λ t. word_in cells (cell_result address slot (if t then Ok (Part n i) else Err 9))) t
-            ∙ sym (ap (λ t. shown_result address slot (read_cell st (if t then Ok (Part n i) else Err 9))) t)
+            ap (λ t. word_in cells (cell_result address slot (if t then Ok (Part n i) else Err INDEX))) t
+            ∙ sym (ap (λ t. shown_result address slot (read_cell st (if t then Ok (Part n i) else Err INDEX))) t)
 
     word_in_is : (r : Result Value ℕ) (name : List ℕ) → StandsArray address slot program st spot b cells
         (variable_value program st name) → word_in cells (cell_result address slot (element_of program st name r))

@@ -33,6 +33,7 @@ use Rattle.expr_uncompute.proofs.Written.{FitFrom, same_turned, place_turned}
 use Rattle.expr_uncompute.proofs.Updates.{place_low, update_goes, update_traps_place, update_traps_value}
 use Rattle.expr_uncompute.proofs.Updates.{update_traps_sharing, swap_goes, swap_traps_first, swap_traps_second}
 use Rattle.expr_uncompute.proofs.Updates.{swap_traps_sharing}
+use Rattle.register_expressions.specs.code_conventions.declared.faults.TheConstants.{SHARED_ARRAY}
 
 updated_word : (op : UpdateOp) (x v : ℕ) → x < 2 ^ 32 → v < 2 ^ 32 → updated op x v < 2 ^ 32
 updated_word update.Add x v h k = omega arith
@@ -213,7 +214,7 @@ module _ (spot : List ℕ → Spot) (free : ℕ) (m : Memory) where
     pub update_sharing_fault : (d : Bool) (a v : ℕ) → place_address spot (bases_of m) m.cells target ≡ Ok a
         → number spot (bases_of m) m.cells value ≡ Ok v → update_shares spot (bases_of m) m.cells target value ≡ true
         → (k : ℕ) × (k ≤ place_steps target + fetch_steps value + apart_steps target (index_of target) value)
-        × Runs im (update_cells spot free op target value) d m (Trapped 16 k)
+        × Runs im (update_cells spot free op target value) d m (Trapped SHARED_ARRAY k)
     update_sharing_fault d a v na nv shared = run_traps (place_words target + words value) ready im d _ _ 16
         (update_traps_sharing spot free (bases_of m) (reg m) op target value m.cells a v
         (fit_from target (words value) ready place_sees) value_sees na nv shared)
@@ -280,7 +281,7 @@ module _ (spot : List ℕ → Spot) (free : ℕ) (m : Memory) where
     pub swap_sharing_fault : (d : Bool) (p q : ℕ) → place_address spot (bases_of m) m.cells left ≡ Ok p
         → place_address spot (bases_of m) m.cells right ≡ Ok q → swap_shares spot (bases_of m) m.cells left right ≡ true
         → (k : ℕ) × (k ≤ place_steps left + place_steps right + both_apart_steps left right)
-        × Runs im (swap_cells spot free left right) d m (Trapped 16 k)
+        × Runs im (swap_cells spot free left right) d m (Trapped SHARED_ARRAY k)
     swap_sharing_fault d p q np nq shared = run_traps (place_words left + place_words right) ready im d _ _ 16
         (swap_traps_sharing spot free (bases_of m) (reg m) left right m.cells p q
         (fit_from left (place_words right) ready left_sees) right_sees np nq shared)

@@ -110,7 +110,7 @@ module _ (im : Image) (ob fr : ℕ) (cs : List ℕ) (inside : END_CELL < length 
 
   -- else it traps
   pub depth_traps : fr + FRAME_WORDS ≡ end → Will im depth_code false (depth_mem 0 0 0 cs)
-      (λ o. (k : ℕ) × (k ≤ 4) × (o ≡ Trapped 14 k))
+      (λ o. (k : ℕ) × (k ≤ 4) × (o ≡ Trapped TOO_DEEP k))
   depth_traps h =
       let same : fr ≡ last = omega (arith, last_is, h) in
       will_in_trap im false (line end_row) (check_differ_cells FRAME CONTENT TOO_DEEP) _ _ 3 14 1 finds_end

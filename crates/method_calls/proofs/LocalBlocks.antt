@@ -147,7 +147,7 @@ module _ (w : World) (IsInit : Scope → Var → Expression → Type 0) (f : Loc
   last_check n st cs v c h said m1 i false same =
       let nz = f.other_words s u st cs var e v c h is said same in
       let x = bit_xor (w.word_of u st (read st (Slot 0))) (w.word_of u (closed st) v) in
-      let told_is : checked st v ≡ Fault 3 0 = ap (λ b. told (fault_if DELOCAL (not b) >>= λ z. give (closed st)))
+      let told_is : checked st v ≡ Fault DELOCAL 0 = ap (λ b. told (fault_if DELOCAL (not b) >>= λ z. give (closed st)))
       same in
       let k = runs_fails w.im true (Equal 12 7) 3 (mk 0 ob fr 0 0 0 0 x (gone cs)) nz in
       subst (λ z. Will w.im (check_equal_cells VALUE NOUGHT DELOCAL) true z

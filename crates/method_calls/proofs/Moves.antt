@@ -79,7 +79,7 @@ module _ (im : Image) (ob fr : ℕ) (sp : Spot) (j : ℕ) (cs : List ℕ) where
       (gives_back im ob fr sp cs1 l1 ha (slice_index cs up) (e ∙ z)))
 
   pub traps_down : at < 2 ^ 32 → up < 2 ^ 32 → at < length cs → up < length cs → at ≢ up → slice_index cs at ≢ 0
-      → Will im (move_code sp j) true (mk 0 ob fr 0 0 0 0 0 cs) (λ o. (k : ℕ) × (k ≤ 8) × (o ≡ Trapped 15 k))
+      → Will im (move_code sp j) true (mk 0 ob fr 0 0 0 0 0 cs) (λ o. (k : ℕ) × (k ≤ 8) × (o ≡ Trapped TOUCHED k))
   unfolding move_code
   traps_down ha hu la lu ne nz =
       let cs1 = slice_set cs up 0 in
@@ -221,11 +221,11 @@ module _ (w : World) (knows : Known w) (f : FrameFacts w knows) (s : Scope) (u :
         (will_more w.im _ true _ _ _ (λ o q. meets_told _ _ (sym said)
         (meets_slack (8 * suc (length names)) (omega arith) (meets_later 8 q))) (rest cs2 (m.back z)))
     back_step rest false z =
-        let said : told (moved_back (c ∷ cells_of names) (v ∷ vals) st) ≡ Fault 15 0 =
+        let said : told (moved_back (c ∷ cells_of names) (v ∷ vals) st) ≡ Fault TOUCHED 0 =
         ap (λ b. told (fault_if TOUCHED (not b) >>= λ t. moved_back (cells_of names) vals (written st c v))) z
         in
         let first = subst (λ k. Will w.im (move_code (knows.spot s name) k) true (plain w u cs)
-        (λ o. (k : ℕ) × (k ≤ 8) × (o ≡ Trapped 15 k))) same
+        (λ o. (k : ℕ) × (k ≤ 8) × (o ≡ Trapped TOUCHED k))) same
         (traps_down w.im (w.object_of u) (w.frame_of u) (knows.spot s name) (length (pairs names vals)) cs near high
         m.words.at_in m.words.up_in m.words.apart (m.cell.touched z)) in
         will_seq_back w.im (moves_code (knows.spot s) names) (move_code (knows.spot s name) (length names)) _ Q

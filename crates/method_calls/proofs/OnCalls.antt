@@ -60,9 +60,9 @@ stays (b ∷ cells) (v ∷ values) st end k c n e = by (is_zero (read st b)) ref
         ∙ plus_none (told (moved_back cells values (written st b v))) in
         ih k (sym said ∙ e) ∙ read_other st b c v (λ q. n.0 (sym q))
     by false z ih =
-        let said : told (moved_back (b ∷ cells) (v ∷ values) st) ≡ Fault 15 0 =
+        let said : told (moved_back (b ∷ cells) (v ∷ values) st) ≡ Fault TOUCHED 0 =
         ap (λ x. told (fault_if TOUCHED (not x) >>= λ t. moved_back cells values (written st b v))) z in
-        let q : Fault 15 0 ≡ Fine end k = sym said ∙ e in absurd (cc)
+        let q : Fault TOUCHED 0 ≡ Fine end k = sym said ∙ e in absurd (cc)
 
 -- ---- what the source says of it
 
@@ -103,9 +103,9 @@ module _ (setting : Setting) (n : ℕ) (back : Bool) (at : ℕ) (x name : Ident)
   zero_more = omega arith
 
   pub says_nil : is_nil (read st the_cell) ≡ true → told (one setting n (Call at back (Some (Whole x)) name args) st)
-      ≡ Fault 5 (1 + length args)
+      ≡ Fault NIL (1 + length args)
   says_nil e = counted ∙ ap (λ b. plus (1 + length args) (told (fault_if NIL b >>= λ z. deep_run))) e
-      ∙ ap (Fault 5) zero_more
+      ∙ ap (Fault NIL) zero_more
 
   past_nil : is_nil (read st the_cell) ≡ false → told (one setting n (Call at back (Some (Whole x)) name args) st)
       ≡ plus (1 + length args) (told deep_run)
@@ -113,9 +113,9 @@ module _ (setting : Setting) (n : ℕ) (back : Bool) (at : ℕ) (x name : Ident)
       ∙ ap (plus (1 + length args)) (told_after 0 deep_run ∙ plus_none (told deep_run))
 
   pub says_deep : is_nil (read st the_cell) ≡ false → is_too_deep setting st ≡ true
-      → told (one setting n (Call at back (Some (Whole x)) name args) st) ≡ Fault 14 (1 + length args)
+      → told (one setting n (Call at back (Some (Whole x)) name args) st) ≡ Fault TOO_DEEP (1 + length args)
   says_deep e d = past_nil e ∙ ap (λ b. plus (1 + length args) (told (fault_if TOO_DEEP b >>= λ z. call_run))) d
-      ∙ ap (Fault 14) zero_more
+      ∙ ap (Fault TOO_DEEP) zero_more
 
   pub says_on : (method : Procedure) (self : ℕ) (c : Cell) (cells : List Cell) (caller : State) (vals : List Value)
       (v : Value) → is_nil (read st the_cell) ≡ false → is_too_deep setting st ≡ false → the_cell ≡ c → read st c ≡ v
@@ -424,12 +424,12 @@ module _ (w : World) (knows : Known w) (f : FrameFacts w knows) (on : Receivers 
       arguments false z =
           let word = w.object_of deep in
           let home1 = written (home end) c (Name n_of) in
-          let said : moves_home end ≡ Fault 15 0 = ap (λ b. told
+          let said : moves_home end ≡ Fault TOUCHED 0 = ap (λ b. told
           (fault_if TOUCHED (not b) >>= λ t. moved_back cells (values end) home1)) z in
           let found = finds_touched w.im ob fr sp (out_cells cs2) still_in low word
           (λ e. comes.cell.touched z (sym same_word ∙ e)) in
           let taken : Will w.im (take_code sp ++ (onto_code ++ last_row)) true m0
-          (λ q. (k : ℕ) × (k ≤ 18) × (q ≡ Trapped 15 k)) =
+          (λ q. (k : ℕ) × (k ≤ 18) × (q ≡ Trapped TOUCHED k)) =
           will_two_back w.im (take_code sp) (onto_code ++ last_row) m0 (mk 0 ob fr 0 0 word 0 0 (out_cells cs2)) 13 _
           lowered
           (will_more w.im _ true _ _ _ (λ o t. (13 + t.0, (let l = t.1 in omega arith), ap (after 13) t.2)) found) in
@@ -437,7 +437,7 @@ module _ (w : World) (knows : Known w) (f : FrameFacts w knows) (on : Receivers 
           (λ o. Moved (after k o)) in
           will_seq_back w.im (moves_code (knows.spot s) args) (take_code sp ++ (onto_code ++ last_row)) m0 Moved
           (will_more w.im _ true _ _ _ (λ o t. subst (Next W Moved) (sym t.2)
-          (meets_told (Fault 15 0) _ (sym said) (faults (let l = t.1 in omega arith)))) taken)
+          (meets_told (Fault TOUCHED 0) _ (sym said) (faults (let l = t.1 in omega arith)))) taken)
 
       front_back : Will w.im (front_on_code (knows.spot s) x slot args) true m0
           (Meets (Open w s u) w.rates n (18 + 8 * length args + 8 + 6) (moves_home end))
@@ -529,7 +529,7 @@ module _ (w : World) (knows : Known w) (f : FrameFacts w knows) (on : Receivers 
 
   on_nil : (n : ℕ) (kind d : Bool) → is_nil (read st c) ≡ true
       → Will w.im (call_on_code (knows.spot s) kind x slot args) d (mk 0 ob fr 0 0 0 0 0 cs)
-      (Meets (Open w s u) w.rates (suc n) 0 (Fault 5 (1 + length args)))
+      (Meets (Open w s u) w.rates (suc n) 0 (Fault NIL (1 + length args)))
   on_nil n kind d z =
       early n 5 kind d (will_more w.im _ false _ _ _ (λ o q. (q.0, (let l = q.1 in omega arith), q.2))
       (trap_first (nil_code sp) _ _ 5 3 (nil_traps w.im ob fr sp cs peeked.at_in low peeked.small
@@ -537,7 +537,7 @@ module _ (w : World) (knows : Known w) (f : FrameFacts w knows) (on : Receivers 
 
   too_deep : (n : ℕ) (kind d : Bool) → is_nil (read st c) ≡ false → is_full ≡ true
       → Will w.im (call_on_code (knows.spot s) kind x slot args) d (mk 0 ob fr 0 0 0 0 0 cs)
-      (Meets (Open w s u) w.rates (suc n) 0 (Fault 14 (1 + length args)))
+      (Meets (Open w s u) w.rates (suc n) 0 (Fault TOO_DEEP (1 + length args)))
   too_deep n kind d there e =
       let he = f.has_end s u st cs h in
       early n 14 kind d (will_two w.im (nil_code sp) _ _ _ 6 _

@@ -109,9 +109,9 @@ module _ (setting : Setting) (n : ℕ) (back : Bool) (at : ℕ) (name : Ident) (
       ∙ plus_plus 1 (length args) (told (fault_if TOO_DEEP (is_too_deep setting st) >>= λ x. after_check))
 
   pub says_too_deep : is_too_deep setting st ≡ true → told (one setting n (Call at back None name args) st)
-      ≡ Fault 14 (1 + length args)
+      ≡ Fault TOO_DEEP (1 + length args)
   says_too_deep e = counted ∙ ap (λ b. plus (1 + length args) (told (fault_if TOO_DEEP b >>= λ x. after_check))) e
-      ∙ (let z : 1 + length args + 0 ≡ 1 + length args = omega arith in ap (Fault 14) z)
+      ∙ (let z : 1 + length args + 0 ≡ 1 + length args = omega arith in ap (Fault TOO_DEEP) z)
 
   pub says_called : (method : Procedure) (cells : List Cell) (caller : State) (vals : List Value)
       → is_too_deep setting st ≡ false → method_named setting.program (own_class st) name.text ≡ method
@@ -338,21 +338,21 @@ module _ (w : World) (knows : Known w) (f : FrameFacts w knows) (s : Scope) (nam
 
   -- if too many calls are open
   refused : (n : ℕ) (kind d : Bool) → is_full ≡ true → Will w.im (call_code (knows.spot s) kind slot args) d
-      (mk 0 ob fr 0 0 0 0 0 cs) (Meets (Open w s u) w.rates (suc n) 0 (Fault 14 (1 + length args)))
+      (mk 0 ob fr 0 0 0 0 0 cs) (Meets (Open w s u) w.rates (suc n) 0 (Fault TOO_DEEP (1 + length args)))
   refused n kind d e =
       let he = f.has_end s u st cs h in
-      let Q : Outcome → Type 0 = Meets (Open w s u) w.rates (suc n) 0 (Fault 14 (1 + length args)) in
+      let Q : Outcome → Type 0 = Meets (Open w s u) w.rates (suc n) 0 (Fault TOO_DEEP (1 + length args)) in
       let W : Memory → ℕ → Type 0 = λ m1 k1. Will w.im (enter_at_cells VALUE kind) d m1
       (Next (λ m2 k2. Will w.im (front_code (knows.spot s) slot args) true m2 (λ o. Q (after k1 (after k2 o))))
       (λ o. Q (after k1 o))) in
-      let trap : (o : Outcome) → (k : ℕ) × (k ≤ 4) × (o ≡ Trapped 14 k)
+      let trap : (o : Outcome) → (k : ℕ) × (k ≤ 4) × (o ≡ Trapped TOO_DEEP k)
       → Next W Q o = λ o t. subst (Next W Q) (sym t.2) (faults
       (few_steps w.rates.steps (length args) t.0 f.image.thousand t.1)) in
       let first : Will w.im (front_code (knows.spot s) slot args) false (mk 0 ob fr 0 0 0 0 0 cs) (Next W Q) =
       will_seq w.im depth_code (moves_code (knows.spot s) args ++ line (addi FRAME FRAME_WORDS ∷ fetch_row slot)) _
       (Next W Q)
       (will_more w.im depth_code false _ _ _ (λ o t. subst (Next _ (Next W Q)) (sym t.2)
-      (trap (Trapped 14 t.0) (t.0, t.1, refl))) (depth_traps w.im ob fr cs he.cell_in he.small
+      (trap (Trapped TOO_DEEP t.0) (t.0, t.1, refl))) (depth_traps w.im ob fr cs he.cell_in he.small
       (end_fits st cs h true e) (he.at_end e))) in
       will_around w.im d (front_code (knows.spot s) slot args) (enter_at_cells VALUE kind) _ Q first
     where
@@ -396,7 +396,7 @@ module _ (w : World) (knows : Known w) (f : FrameFacts w knows) (s : Scope) (at 
   law_by n owes d u st m h true e =
       let depth = (f.steady s u [] st m.cells h.open_frame).depth_is in
       let deep : is_too_deep w.setting st ≡ true = ap (λ x. not (nat_lt x w.setting.limits.deep)) depth ∙ e in
-      let said : told (one w.setting n (turned d (Call at back None name args)) st) ≡ Fault 14 (1 + length args) =
+      let said : told (one w.setting n (turned d (Call at back None name args)) st) ≡ Fault TOO_DEEP (1 + length args) =
       ap (λ z. told (one w.setting n z st)) (turned_call d back at name args)
       ∙ says_too_deep w.setting n (xor d back) at name args st deep in
       subst (λ z. Will w.im (call_code (knows.spot s) back (knows.slot s name) args) d z

@@ -73,7 +73,7 @@ module _ (im : Image) (ob fr : ℕ) (sp : Spot) (cs : List ℕ) (inside : addres
         refl) unpeeks
 
     pub nil_traps : word ≡ 0 → Will im (nil_code sp) false (mk 0 ob fr 0 0 0 0 0 cs)
-        (λ o. (k : ℕ) × (k ≤ 3) × (o ≡ Trapped 5 k))
+        (λ o. (k : ℕ) × (k ≤ 3) × (o ≡ Trapped NIL k))
     nil_traps z =
         let t : is_less 0 word ≡ false = ap (is_less 0) z in
         will_in_trap im false (line (peek_row sp)) (check_positive_cells CONTENT NIL) _ _ 2 5 1 peeks
@@ -109,7 +109,7 @@ module _ (im : Image) (ob fr : ℕ) (sp : Spot) (cs : List ℕ) (inside : addres
       (will_leave im ob fr 0 0 0 (slice_set cs at x) sp low)
 
   pub finds_touched : (x : ℕ) → word ≢ 0 → Will im (take_code sp) true (mk 0 ob fr 0 0 x 0 0 cs)
-      (λ o. (k : ℕ) × (k ≤ 3) × (o ≡ Trapped 15 k))
+      (λ o. (k : ℕ) × (k ≤ 3) × (o ≡ Trapped TOUCHED k))
   finds_touched x nz =
       let c = runs_fails im true (Equal MOVED NOUGHT) TOUCHED (on_spot 0 word 0 (slice_set cs at x)) nz in
       will_in_trap im true (line (reach_row sp)) (check_equal_cells MOVED NOUGHT TOUCHED

@@ -25,6 +25,7 @@ use Rattle.object_codegen.proofs.Leading.{fault_ahead, fault_back}
 use Rattle.object_codegen.proofs.Over.{over_two, changes_two}
 use Rattle.object_codegen.proofs.Uncopied.{uncopied, copied_again}
 use Rattle.object_codegen.proofs.Copying.{copy_goes, copy_nil, copy_not_nil, uncopy_nil, uncopy_other, uncopy_one}
+use Rattle.refine_heap.specs.code_conventions.declared.faults.TheConstants.{NIL, NOT_NIL, NOT_SAME}
 
 -- what a copy needs below the free words is there when they are filled
 copies_filled : (low n p q x c : ℕ) (cells ys : List ℕ) → Filled low n cells ys → Copies low p q x c cells
@@ -138,42 +139,42 @@ module _ (spot : List ℕ → Spot) (free : ℕ) (source target : Lvalue) (p : L
         (fault_back copy_checks copy_alter t im)
 
     pub nil_fault_of : (d : Bool) → slice_index m.cells a ≡ 0
-        → Will im p d m (TrapsWithin 5 (found_places_steps source target + 2))
-    nil_fault_of false e = (encloses false).traps 5 2 (λ ys f. before 5 2 ys
+        → Will im p d m (TrapsWithin NIL (found_places_steps source target + 2))
+    nil_fault_of false e = (encloses false).traps NIL 2 (λ ys f. before NIL 2 ys
         (copy_nil (bases_of m) (reg m) a a' ys (let i = inside ys f in let l = a_low in omega arith)
         (f.below a a_low ∙ e)))
-    nil_fault_of true e = (encloses true).traps 5 2 (λ ys f. behind 5 2 ys
+    nil_fault_of true e = (encloses true).traps NIL 2 (λ ys f. behind NIL 2 ys
         (uncopy_nil (bases_of m) (reg m) a a' ys (let i = inside ys f in let l = a_low in omega arith)
         (f.below a a_low ∙ e)))
 
     pub not_nil_fault_of : (x : ℕ) → slice_index m.cells a ≡ x → x < 2 ^ 31 → x ≢ 0 → slice_index m.cells a' ≢ 0
-        → Will im p false m (TrapsWithin 4 (found_places_steps source target + 6))
+        → Will im p false m (TrapsWithin NOT_NIL (found_places_steps source target + 6))
     not_nil_fault_of x e l n n' =
-        (encloses false).traps 4 6 (λ ys f.
+        (encloses false).traps NOT_NIL 6 (λ ys f.
         let i = inside ys f in
         let k = a_low in
         let k' = a'_low in
-        before 4 6 ys (copy_not_nil (bases_of m) (reg m) a a' ys x (omega arith) (omega arith) (f.below a a_low ∙ e) l
+        before NOT_NIL 6 ys (copy_not_nil (bases_of m) (reg m) a a' ys x (omega arith) (omega arith) (f.below a a_low ∙ e) l
         n (λ z. n' (sym (f.below a' a'_low) ∙ z))))
 
     pub not_same_fault_of : (x y : ℕ) → slice_index m.cells a ≡ x → slice_index m.cells a' ≡ y → x < 2 ^ 31 → x ≢ 0
-        → x ≢ y → Will im p true m (TrapsWithin 10 (found_places_steps source target + 11))
+        → x ≢ y → Will im p true m (TrapsWithin NOT_SAME (found_places_steps source target + 11))
     not_same_fault_of x y e e' l n n' =
-        (encloses true).traps 10 11 (λ ys f.
+        (encloses true).traps NOT_SAME 11 (λ ys f.
         let i = inside ys f in
         let k = a_low in
         let k' = a'_low in
-        behind 10 11 ys (uncopy_other (bases_of m) (reg m) a a' ys x y (omega arith) (omega arith) (f.below a a_low ∙ e)
+        behind NOT_SAME 11 ys (uncopy_other (bases_of m) (reg m) a a' ys x y (omega arith) (omega arith) (f.below a a_low ∙ e)
         (f.below a' a'_low ∙ e') l n n'))
 
     pub one_place_fault_of : (x : ℕ) → a ≡ a' → slice_index m.cells a ≡ x → x < 2 ^ 31 → x ≢ 0
-        → Will im p true m (TrapsWithin 10 (found_places_steps source target + 19))
+        → Will im p true m (TrapsWithin NOT_SAME (found_places_steps source target + 19))
     one_place_fault_of x q e l n =
-        (encloses true).traps 10 19 (λ ys f.
+        (encloses true).traps NOT_SAME 19 (λ ys f.
         let i = inside ys f in
         let k = a_low in
         let k' = a'_low in
-        behind 10 19 ys (uncopy_one (bases_of m) (reg m) a a' ys x (omega arith) (omega arith)
+        behind NOT_SAME 19 ys (uncopy_one (bases_of m) (reg m) a a' ys x (omega arith) (omega arith)
         (rw f.count at.can.ready.small) (f.below a a_low ∙ e) (ap (slice_index ys) (sym q) ∙ f.below a a_low ∙ e)
         l n q))
 

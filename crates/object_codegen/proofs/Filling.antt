@@ -23,6 +23,7 @@ use Rattle.object_codegen.specs.Code.{mark_cell, mark_of, block, move_cells, fil
 use Rattle.object_codegen.specs.News
 use Rattle.object_codegen.specs.News.{filled, IsShape, move_steps, left_length, moved_length}
 use Rattle.object_codegen.proofs.Leading.{Leads, goes_leads, leads_seq, leads_around, falls_first, goes_falls}
+use Rattle.refine_heap.specs.code_conventions.declared.faults.TheConstants.{HEAP_FULL}
 
 xor_self : (x : ℕ) → bit_xor x x ≡ 0
 xor_self x = ap (λ z. bit_xor z x) (sym (xor_zero_l x)) ∙ xor-twice 0 x
@@ -124,8 +125,8 @@ module _ (b : Bases) (p v : ℕ) where
   -- or there is no block
   pub alter_falls : (im : Image) (o hi n : ℕ) (shape : Shape) (orders : List Symbol) (zs : List ℕ)
       → Goes orders n (calling b 0 0 p v shape zs) (calling b o 0 p v shape zs)
-      → Will im (Enter 0 false ∷ []) false (calling b o 0 p v shape zs) (TrapsWithin 8 hi)
+      → Will im (Enter 0 false ∷ []) false (calling b o 0 p v shape zs) (TrapsWithin HEAP_FULL hi)
       → Will im (new_alter shape orders) false (mem b nothing_else (keeping v p 0) zs)
-      (TrapsWithin 8 ((move_steps shape + n) + hi))
+      (TrapsWithin HEAP_FULL ((move_steps shape + n) + hi))
   alter_falls im o hi n shape orders zs found full = goes_falls (goes_seq (moves_go shape zs) found)
       (falls_first _ (falls_first (fill_cells shape) full))

@@ -12,6 +12,7 @@ use Rattle.expr_uncompute.specs.refine_form.declared.spot.Spot.{Spot}
 use Rattle.expr_uncompute.specs.register_expressions.Number.{Bases, number, Same, SamePlace}
 use Rattle.expr_uncompute.specs.Means.{shown, shown_result, cell_result, Means, MeansPlace, SameValues, SameCells}
 use Rattle.expr_uncompute.proofs.Meaning.{number_is, place_is}
+use Rattle.refine_heap.specs.code_conventions.declared.faults.TheConstants.{INDEX}
 
 -- ---- a name that an expression gives is one that a cell holds
 
@@ -45,7 +46,7 @@ holder program st (Element name index) n q = is_held st (element_of program st n
 holder program st (Binary at o left right) n q = absurd (no_name o (value program st left) (value program st right) n q)
 
 -- the array of an element's cell is the one that its variable has
-owner_if : (t : Bool) (array i : ℕ) (cell : Cell) → if◌then◌else◌ {A = Result Cell ℕ} t (Ok (Part array i)) (Err 9)
+owner_if : (t : Bool) (array i : ℕ) (cell : Cell) → if◌then◌else◌ {A = Result Cell ℕ} t (Ok (Part array i)) (Err INDEX)
     ≡ Ok cell → array ≡ owner_in cell
 owner_if true array i cell e = ap (λ r. owner_in (cell_in r)) e
 owner_if false array i cell e = absurd (cc)
@@ -62,7 +63,7 @@ owner_by program st name (Err f) cell e = absurd (cc)
 owner_by program st name (Ok v) cell e = owner_of st (variable_value program st name) (number_of v) cell e
 
 -- and it is an element's
-part_if : (t : Bool) (array i k : ℕ) → if◌then◌else◌ {A = Result Cell ℕ} t (Ok (Part array i)) (Err 9) ≡ Ok (Slot k) → ⊥
+part_if : (t : Bool) (array i k : ℕ) → if◌then◌else◌ {A = Result Cell ℕ} t (Ok (Part array i)) (Err INDEX) ≡ Ok (Slot k) → ⊥
 part_if true array i k e = let q = ap cell_in e in cc
 part_if false array i k e = cc
 

@@ -33,6 +33,8 @@ use Rattle.object_codegen.proofs.NewLaws.{Room, new_leads, new_not_nil, new_full
 use Rattle.object_codegen.proofs.NewLaws.{deleted_other, deleted_shared, deleted_full}
 use Rattle.object_codegen.proofs.SizeOrdering.{ordering}
 use Rattle.object_codegen.proofs.Taken.{emptied, filled_changes, emptied_fills, emptied_above, filled_again}
+use Rattle.refine_heap.specs.code_conventions.declared.faults.TheConstants.{COUNT, HEAP_FULL, LENGTH, NIL, NOT_EMPTY}
+use Rattle.refine_heap.specs.code_conventions.declared.faults.TheConstants.{NOT_NIL}
 
 -- a mark is a word
 mark_word : (v : ℕ) (shape : Shape) → IsShape shape → IsLength v shape → mark_of v shape < 2 ^ 32
@@ -173,18 +175,18 @@ module _ (im : Image) (m : Memory) (object frame low n steps a v o : ℕ) (shape
   there : (ys : List ℕ) → Filled low n m.cells ys → a < length ys
   there ys f = let k = f.count in omega arith
 
-  pub not_nil : slice_index m.cells a ≢ 0 → Will im p false m (TrapsWithin 4 (steps + 2))
+  pub not_nil : slice_index m.cells a ≢ 0 → Will im p false m (TrapsWithin NOT_NIL (steps + 2))
   not_nil h = stops false 4 2 (λ ys f. new_not_nil b a v im shape is_shape orders (order_steps shape) ys (there ys f)
       (λ e. h (sym (f.below a a_low) ∙ e)))
 
   pub full : (most : ℕ) → IsLength v shape → slice_index m.cells a ≡ 0
       → Lacks im object frame o a v shape low n most m.cells
-      → Will im p false m (TrapsWithin 8 (steps + (check_steps shape +
+      → Will im p false m (TrapsWithin HEAP_FULL (steps + (check_steps shape +
       ((move_steps shape + order_steps shape) + most))))
   full most l e k = stops false 8 _ (λ ys f. new_full b a v im shape is_shape orders (order_steps shape) ys o most l
       (there ys f) (f.below a a_low ∙ e) (finds l ys) (k.lacks ys f))
 
-  pub nil : slice_index m.cells a ≡ 0 → Will im p true m (TrapsWithin 5 (steps + 4))
+  pub nil : slice_index m.cells a ≡ 0 → Will im p true m (TrapsWithin NIL (steps + 4))
   nil e = stops true 5 4 (λ ys f. deleted_nil b a v im shape is_shape orders (order_steps shape) ys 0 (there ys f)
       (f.below a a_low ∙ e) refl)
 
@@ -197,7 +199,7 @@ module _ (im : Image) (m : Memory) (object frame low n steps a v o : ℕ) (shape
 
   pub counted : (x : ℕ) → slice_index m.cells a ≡ x → x + 1 < low → x < 2 ^ 31 → x ≢ 0
       → slice_index m.cells x ≡ mark_of v shape → slice_index m.cells (x + 1) ≢ 1
-      → Will im p true m (TrapsWithin 6 (steps + 15))
+      → Will im p true m (TrapsWithin COUNT (steps + 15))
   counted x e l s some q h =
       stops true 6 15 (λ ys f. let k = f.count in deleted_shared b a v im shape is_shape orders (order_steps shape) ys x
       (there ys f) (f.below a a_low ∙ e) s some (omega arith) (f.below x (omega arith) ∙ q)
@@ -207,7 +209,7 @@ module _ (im : Image) (m : Memory) (object frame low n steps a v o : ℕ) (shape
       → x + HEADER_WORDS + size_of v shape < 2 ^ 31 → x ≢ 0 → slice_index m.cells x ≡ mark_of v shape
       → slice_index m.cells (x + 1) ≡ 1 → x + HEADER_WORDS ≤ i → i < x + HEADER_WORDS + size_of v shape
       → slice_index m.cells i ≢ 0
-      → Will im p true m (TrapsWithin 7 (steps + (27 + 13 * size_of v shape)))
+      → Will im p true m (TrapsWithin NOT_EMPTY (steps + (27 + 13 * size_of v shape)))
   not_empty x i e w s some q c lo hi h =
       stops true 7 _ (λ ys f. let k = f.count in deleted_full b a v im shape is_shape orders (order_steps shape) ys x
       (there ys f) (f.below a a_low ∙ e) (omega arith) some (size_of v shape) i refl (omega arith) s
@@ -261,8 +263,8 @@ array_law spot free target size p law = record {
   length_faults = λ im m object frame a v regs_are can at value apart e t.
       let i = can.ready.inside in
       let low = place_low spot free (bases_of m) target a m.cells can.first at in
-      (law.encloses im false m can a v at value apart).traps 13 5
-      (λ ys f. subst (λ z. Will im (new_mid Lengthy order_cells) false z (TrapsWithin 13 5))
+      (law.encloses im false m can a v at value apart).traps LENGTH 5
+      (λ ys f. subst (λ z. Will im (new_mid Lengthy order_cells) false z (TrapsWithin LENGTH 5))
       (found_is m object frame v a ys regs_are) (new_length (record { object = object; frame = frame }) a v im
       order_cells ys t (let k = f.count in omega arith) (f.below a low ∙ e)));
   place_faults = law.place_faults;

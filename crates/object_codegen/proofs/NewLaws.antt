@@ -27,6 +27,8 @@ use Rattle.object_codegen.proofs.Deleting.{delete_nil, delete_other, delete_shar
 use Rattle.object_codegen.proofs.Leading.{Leads, goes_leads, leads_seq, falls_first, goes_falls, fault_ahead}
 use Rattle.object_codegen.proofs.Leading.{fault_back}
 use Rattle.object_codegen.proofs.Filling.{nothing_else, calling, Called, Blank, alter_leads, alter_falls}
+use Rattle.refine_heap.specs.code_conventions.declared.faults.TheConstants.{COUNT, HEAP_FULL, LENGTH, NIL, NOT_EMPTY}
+use Rattle.refine_heap.specs.code_conventions.declared.faults.TheConstants.{NOT_NIL}
 
 -- what the middle costs, if the allocator makes t steps
 abbrev pub mid_steps : Shape → (n orders t : ℕ) → ℕ
@@ -110,14 +112,14 @@ module _ (b : Bases) (p v : ℕ) where
     -- ---- faults of a new
 
     pub new_not_nil : (zs : List ℕ) → p < length zs → slice_index zs p ≢ 0
-        → Will im (new_mid shape orders) false (found zs) (TrapsWithin 4 2)
+        → Will im (new_mid shape orders) false (found zs) (TrapsWithin NOT_NIL 2)
     new_not_nil zs h n = fault_ahead (new_alter shape orders ++ mirror_cells (delete_checks shape))
         (checks_not_nil shape zs h n) im
 
     pub new_full : (zs : List ℕ) (o hi : ℕ) → IsLength v shape → p < length zs → slice_index zs p ≡ 0
         → Goes orders k (calling b 0 0 p v shape zs) (calling b o 0 p v shape zs)
-        → Will im (Enter 0 false ∷ []) false (calling b o 0 p v shape zs) (TrapsWithin 8 hi)
-        → Will im (new_mid shape orders) false (found zs) (TrapsWithin 8
+        → Will im (Enter 0 false ∷ []) false (calling b o 0 p v shape zs) (TrapsWithin HEAP_FULL hi)
+        → Will im (new_mid shape orders) false (found zs) (TrapsWithin HEAP_FULL
         (check_steps shape + ((move_steps shape + k) + hi)))
     new_full zs o hi is_length h e found_order full =
         goes_falls (checks_pass shape zs is_length h e) (falls_first (mirror_cells (delete_checks shape))
@@ -126,7 +128,7 @@ module _ (b : Bases) (p v : ℕ) where
     -- ---- faults of a delete
 
     module _ (zs : List ℕ) (x : ℕ) (p_in : p < length zs) (source : slice_index zs p ≡ x) where
-      pub deleted_nil : x ≡ 0 → Will im (new_mid shape orders) true (found zs) (TrapsWithin 5 4)
+      pub deleted_nil : x ≡ 0 → Will im (new_mid shape orders) true (found zs) (TrapsWithin NIL 4)
       deleted_nil e = fault_back (new_checks shape) (new_alter shape orders)
           (delete_nil b nothing_else v p x shape zs is_shape p_in source e) im
 
@@ -136,7 +138,7 @@ module _ (b : Bases) (p v : ℕ) where
           (delete_other b nothing_else v p x shape zs is_shape p_in source small some h n) im
 
       pub deleted_shared : x < 2 ^ 31 → x ≢ 0 → x + 1 < length zs → slice_index zs x ≡ mark_of v shape
-          → slice_index zs (x + 1) ≢ 1 → Will im (new_mid shape orders) true (found zs) (TrapsWithin 6 15)
+          → slice_index zs (x + 1) ≢ 1 → Will im (new_mid shape orders) true (found zs) (TrapsWithin COUNT 15)
       deleted_shared small some h e n = fault_back (new_checks shape) (new_alter shape orders)
           (delete_shared b nothing_else v p x shape zs is_shape p_in source small some h e n) im
 
@@ -144,7 +146,7 @@ module _ (b : Bases) (p v : ℕ) where
           → x + HEADER_WORDS + n < 2 ^ 31 → slice_index zs x ≡ mark_of v shape → slice_index zs (x + 1) ≡ 1
           → x + HEADER_WORDS ≤ a
           → a < x + HEADER_WORDS + n → slice_index zs a ≢ 0
-          → Will im (new_mid shape orders) true (found zs) (TrapsWithin 7 (27 + 13 * n))
+          → Will im (new_mid shape orders) true (found zs) (TrapsWithin NOT_EMPTY (27 + 13 * n))
       deleted_full small some n a n_is within ends e c lo hi nz =
           fault_back (new_checks shape) (new_alter shape orders)
           (delete_full b nothing_else v p x shape zs is_shape p_in source small some n n_is within ends a e c lo hi nz)
@@ -152,6 +154,6 @@ module _ (b : Bases) (p v : ℕ) where
 
   -- the length is not above 0
   pub new_length : (im : Image) (orders : List Symbol) (zs : List ℕ) → is_less 0 v ≡ false → p < length zs
-      → slice_index zs p ≡ 0 → Will im (new_mid Lengthy orders) false (found zs) (TrapsWithin 13 5)
+      → slice_index zs p ≡ 0 → Will im (new_mid Lengthy orders) false (found zs) (TrapsWithin LENGTH 5)
   new_length im orders zs t h e = fault_ahead (new_alter Lengthy orders ++ mirror_cells (delete_checks Lengthy))
       (checks_length zs t h e) im

@@ -34,6 +34,7 @@ use Rattle.expr_uncompute.specs.Found.{LeavesWithin, leaves_within, TrapsWithin,
 use Rattle.object_codegen.specs.declared.shape.Shape.{Shape}
 use Rattle.object_codegen.specs.declared.shape.Shape.TheVariants.{Fixed, Lengthy}
 use Rattle.object_codegen.specs.News.{left_length, moved_length, calling, Allocates, Lacks}
+use Rattle.refine_heap.specs.code_conventions.declared.faults.TheConstants.{HEAP_FULL}
 
 -- words filled over the last part of a memory
 module _ (low n : ℕ) (front stack : List ℕ) (fits : length front ≤ low) where
@@ -177,7 +178,7 @@ module _ (object frame o p v : ℕ) (shape : Shape) (object_small : object < 2 ^
   leaves_as : (m : Memory) (h : ℕ) (o' : Outcome) → LeavesIn m h o' → LeavesWithin m (h + 1) (most_steps h + 7) o'
   leaves_as m h _ (leaves_in k lo hi) = leaves_within k (omega arith) hi
 
-  traps_as : (h : ℕ) (o' : Outcome) → TrapsFull h o' → TrapsWithin 8 (most_steps h + 7) o'
+  traps_as : (h : ℕ) (o' : Outcome) → TrapsFull h o' → TrapsWithin HEAP_FULL (most_steps h + 7) o'
   traps_as h _ (traps_full k l) = traps_within k l
 
   module _ (im : Image) (top : ℕ) (body : List Symbol) (law : AllocatorLaw body) (routine : Routine im 0 top body)
@@ -334,6 +335,6 @@ module _ (object frame o p v : ℕ) (shape : Shape) (object_small : object < 2 ^
             (call 0 placing taken (drop (length (front placing)) ys) placed words)).lacks false false o refl
             order_from (enters 0 _ (omega arith)) none in
             subst (λ z. Will im (Enter 0 false ∷ []) false (calling object frame o 0 p v shape z)
-            (TrapsWithin 8 (most_steps limits.heap + 7))) (sym e)
+            (TrapsWithin HEAP_FULL (most_steps limits.heap + 7))) (sym e)
             (will_more im (Enter 0 false ∷ []) false _ _ _ (traps_as limits.heap) run);
       }

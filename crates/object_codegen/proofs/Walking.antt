@@ -19,6 +19,7 @@ use Rattle.expr_uncompute.proofs.register_expressions_laws.Goes.{Goes, Traps, go
 use Rattle.expr_uncompute.proofs.register_expressions_laws.Scratch.{Scratch, keeping, mem}
 use Rattle.object_codegen.specs.Code.{walk_head, walk_tail, walk_cells}
 use Rattle.object_codegen.proofs.Touching.{by_first, nil_goes, nil_traps}
+use Rattle.refine_heap.specs.code_conventions.declared.faults.TheConstants.{NOT_EMPTY}
 
 -- below 2^31 the signed order is that of numbers
 pub less_small : (a b : ℕ) → a < 2 ^ 31 → b < 2 ^ 31 → is_less a b ≡ nat_lt a b
@@ -161,7 +162,7 @@ module _ (b : Bases) (f : ℕ → ℕ) (v p st en : ℕ) (zs : List ℕ) (order 
   -- or one is not
   stops : (im : Image) (r w o j : ℕ) → w + r ≡ en → st ≤ w → word_of (nat_eq st w) ≡ o → w ≤ j → j < en
       → slice_index zs j ≢ 0 → (k : ℕ) × (k ≤ 13 * r) × Rounds im 10 walk_head walk_tail false (walking o w)
-      (Trapped 7 k)
+      (Trapped NOT_EMPTY k)
   stops im zero w o j e h eo lo hi nz = absurd (omega arith)
   stops im (suc r) w o j e h eo lo hi nz =
       ⊎_elim (λ z. onward z (stops im r (w + 1) 0 j (omega arith) (omega arith) (not_before w h)
@@ -172,7 +173,7 @@ module _ (b : Bases) (f : ℕ → ℕ) (v p st en : ℕ) (zs : List ℕ) (order 
       head = head_ahead im w o 0 h (omega arith) eo (not_last w (omega arith))
 
       here : slice_index zs w ≢ 0 → (k : ℕ) × (k ≤ 13 * suc r)
-          × Rounds im 10 walk_head walk_tail false (walking o w) (Trapped 7 k)
+          × Rounds im 10 walk_head walk_tail false (walking o w) (Trapped NOT_EMPTY k)
       here n =
           let t = (traps_first (addi FIRST_WORD 1 ∷ []) (nil_traps b f kept (by_first b f kept w) 7 zs (omega arith)
           n)).ahead im in
@@ -180,8 +181,8 @@ module _ (b : Bases) (f : ℕ → ℕ) (v p st en : ℕ) (zs : List ℕ) (order 
           (6 + t.0, omega arith, ends_in_tail head refl t.2 tt)
 
       onward : slice_index zs w ≡ 0 → (k : ℕ) × (k ≤ 13 * r)
-          × Rounds im 10 walk_head walk_tail false (walking 0 (w + 1)) (Trapped 7 k)
-          → (k : ℕ) × (k ≤ 13 * suc r) × Rounds im 10 walk_head walk_tail false (walking o w) (Trapped 7 k)
+          × Rounds im 10 walk_head walk_tail false (walking 0 (w + 1)) (Trapped NOT_EMPTY k)
+          → (k : ℕ) × (k ≤ 13 * suc r) × Rounds im 10 walk_head walk_tail false (walking o w) (Trapped NOT_EMPTY k)
       onward z t = let l = t.1 in (
         13 + t.0,
         omega arith,
@@ -195,7 +196,7 @@ module _ (b : Bases) (f : ℕ → ℕ) (v p st en : ℕ) (zs : List ℕ) (order 
     ahead = λ im. let t = stops im n st 1 j e (omega arith) (is_one st st refl) lo hi nz in let l = t.1 in (
       3 + t.0,
       omega arith,
-      (while_law 10 walk_head walk_tail).turns im false (walking 1 st) (Trapped 7 t.0)
+      (while_law 10 walk_head walk_tail).turns im false (walking 1 st) (Trapped NOT_EMPTY t.0)
           (not_zero 1 refl) t.2,
     );
   }

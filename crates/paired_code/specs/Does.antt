@@ -6,6 +6,7 @@ use Rattle.paired_code.specs.declared.part.Symbol.{Symbol}
 use Rattle.paired_code.specs.Machine.{Image}
 use Rattle.paired_code.specs.Layout.{xor}
 use Rattle.paired_code.specs.Pieces.{Outcome, Done, Trapped, Still, Will}
+use Rattle.code_conventions.specs.declared.faults.TheConstants.{FI}
 
 -- what the source says, with its cost
 pub data Told (A : Type 0) : Type 0 where
@@ -66,7 +67,7 @@ chosen false s t = t
 
 -- a fault, if the tests before and after differ
 abbrev pub agreed : {A : Type 0} → Bool → A → Told A
-agreed true a = Fault 1 0
+agreed true a = Fault FI 0
 agreed false a = Fine a 0
 
 -- the meaning of `if t then p else q fi u`

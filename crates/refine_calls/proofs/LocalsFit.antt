@@ -55,6 +55,7 @@ use Rattle.refine_calls.proofs.FactsFit.{known}
 use Rattle.refine_calls.proofs.SlotMoves.{new_free}
 use Rattle.refine_calls.proofs.Bridge.{reads_of}
 use Rattle.buddy_pisa.specs.pisa_isa.declared.image.TheConstants.{MOST_STATICS}
+use Rattle.method_calls.specs.code_conventions.declared.faults.TheConstants.{INDEX}
 
 -- ---- a variable that does not occur is not read
 
@@ -86,8 +87,8 @@ module _ (program : Source) (b : Binding) (frame : List Binding) (self depth : �
     element_under (Name n) i = by (Rattle.std.specs.Prelude.nat_lt i
         (length (Rattle.method_calls.specs.roopl_semantics.Store.object_at store n).cells))
       where
-        by : (t : Bool) → read_cell with_it (Rattle.std.specs.Prelude.if◌then◌else◌ t (Ok (Part n i)) (Err 9))
-            ≡ read_cell without_it (Rattle.std.specs.Prelude.if◌then◌else◌ t (Ok (Part n i)) (Err 9))
+        by : (t : Bool) → read_cell with_it (Rattle.std.specs.Prelude.if◌then◌else◌ t (Ok (Part n i)) (Err INDEX))
+            ≡ read_cell without_it (Rattle.std.specs.Prelude.if◌then◌else◌ t (Ok (Part n i)) (Err INDEX))
         by true = refl
         by false = refl
 

@@ -16,6 +16,7 @@ use Rattle.code_scope.specs.refine_form.declared.spot.Spot.{Spot}
 use Rattle.register_expressions.specs.Number.{Bases, element_address, element_at, word_in, combined, word_of, number}
 use Rattle.register_expressions.specs.Number.{IsArray, Sees}
 use Rattle.refine_form.proofs.meaning_sound_laws.Values.{truth_is_word}
+use Rattle.code_scope.specs.code_conventions.declared.faults.TheConstants.{INDEX, NIL}
 
 -- the same words below an address
 abbrev pub Agree : ℕ → List ℕ → List ℕ → Type 0
@@ -44,15 +45,15 @@ operated_word op.Rem x y h k = omega arith
 
 -- ---- elements
 
-pub element_nil : (zs : List ℕ) (array i : ℕ) → array ≡ 0 → element_address zs array i ≡ Err 5
+pub element_nil : (zs : List ℕ) (array i : ℕ) → array ≡ 0 → element_address zs array i ≡ Err NIL
 element_nil zs array i e =
     let t : nat_eq array 0 ≡ true = grind (arith, nat_tests) in
-    ap (λ t. if t then Err 5 else (if nat_lt i (slice_index zs array) then Ok (array + i + HEADER_WORDS) else Err 9)) t
+    ap (λ t. if t then Err NIL else (if nat_lt i (slice_index zs array) then Ok (array + i + HEADER_WORDS) else Err INDEX)) t
 
 picked : (t u : Bool) (x : Result ℕ ℕ) (p q : Bool) → t ≡ p → u ≡ q
-    → (if t then Err 5 else (if u then x else Err 9)) ≡ (if p then Err 5 else (if q then x else Err 9))
-picked t u x p q e f = ap (λ t. if t then Err 5 else (if u then x else Err 9)) e
-    ∙ ap (λ u. if p then Err 5 else (if u then x else Err 9)) f
+    → (if t then Err NIL else (if u then x else Err INDEX)) ≡ (if p then Err NIL else (if q then x else Err INDEX))
+picked t u x p q e f = ap (λ t. if t then Err NIL else (if u then x else Err INDEX)) e
+    ∙ ap (λ u. if p then Err NIL else (if u then x else Err INDEX)) f
 
 pub element_inside : (zs : List ℕ) (array i : ℕ) → array ≢ 0 → i < slice_index zs array
     → element_address zs array i ≡ Ok (array + i + HEADER_WORDS)
@@ -61,7 +62,7 @@ element_inside zs array i n l = picked (nat_eq array 0) (nat_lt i (slice_index z
     true (grind (arith, nat_tests)) (grind (arith, nat_tests))
 
 pub element_past : (zs : List ℕ) (array i : ℕ) → array ≢ 0 → slice_index zs array ≤ i
-    → element_address zs array i ≡ Err 9
+    → element_address zs array i ≡ Err INDEX
 element_past zs array i n l = picked (nat_eq array 0) (nat_lt i (slice_index zs array)) (Ok (array + i + HEADER_WORDS))
     false false
     (grind (arith, nat_tests)) (grind (arith, nat_tests))

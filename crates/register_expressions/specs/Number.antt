@@ -9,6 +9,7 @@ use Rattle.code_scope.specs.roopl_semantics.Operators.{operated}
 use Rattle.code_scope.specs.refine_form.declared.spot.Spot.{Spot}
 use Rattle.code_scope.specs.refine_form.declared.spot.Spot.TheVariants.{Field, Frame}
 pub use Rattle.rpp_tree.specs.Tree.{lvalue_read}
+use Rattle.code_scope.specs.code_conventions.declared.faults.TheConstants.{INDEX, NIL}
 
 -- the addresses of the current object and of the current frame
 pub record Bases : Type 0 where
@@ -23,8 +24,8 @@ address_of b (Frame i) = b.frame + i
 -- the address of an element of an array, by its index without sign
 abbrev pub element_address : List ℕ → (array index : ℕ) → Result ℕ ℕ
 element_address cells array index =
-    if nat_eq array 0 then Err 5 else (if nat_lt index (slice_index cells array)
-    then Ok (array + index + HEADER_WORDS) else Err 9)
+    if nat_eq array 0 then Err NIL else (if nat_lt index (slice_index cells array)
+    then Ok (array + index + HEADER_WORDS) else Err INDEX)
 
 abbrev pub element_at : List ℕ → (array : ℕ) → Result ℕ ℕ → Result ℕ ℕ
 element_at cells array (Err fault) = Err fault

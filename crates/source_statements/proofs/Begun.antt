@@ -86,24 +86,24 @@ module _ (setting : Setting) (x : Config) (s : Statement) (rest : Statements) (f
 
     pub loop_refused : (g left : ℕ) (v : Value) (why : Stop) (t : Bool)
         → metered fuel (evaluated setting.program entry x.state) ≡ Went v g → t ≡ not (holds v)
-        → Failed why left (metered g (fault_if 2 t))
+        → Failed why left (metered g (fault_if LOOP t))
         → Failed why left (metered fuel (begun setting x s rest))
     loop_refused g left v why t e is f = subst (λ r. Failed why left (metered fuel r)) (sym loop_is)
         (subst (λ m. Failed why left m) (sym (goes fuel g (evaluated setting.program entry x.state) v (after_entry s)
         e))
         (fails g left (fault_if LOOP (not (holds v))) _ why
-        (subst (λ b. Failed why left (metered g (fault_if 2 b))) is f)))
+        (subst (λ b. Failed why left (metered g (fault_if LOOP b))) is f)))
 
     pub loop_goes : {E : Type 0} (result : Result E Stop) (g left : ℕ) (v : Value) (t : Bool) (y : Config)
         → metered fuel (evaluated setting.program entry x.state) ≡ Went v g → t ≡ not (holds v)
-        → metered g (fault_if 2 t) ≡ Went tt left
+        → metered g (fault_if LOOP t) ≡ Went tt left
         → MatchResult result (λ u. y ≡ inside x s rest (First entry first again exit) first x.state)
         (λ why. why ≡ stop.Lacks lacking.NoMemory)
         → Gives (λ (e : E). y) result left (metered fuel (begun setting x s rest))
     loop_goes result g left v t y e is f m = subst (λ r. Gives (λ e. y) result left (metered fuel r)) (sym loop_is)
         (through (λ e. y) result fuel g left (evaluated setting.program entry x.state) v (after_entry s) e
         (through (λ e. y) result g left left (fault_if LOOP (not (holds v))) tt _
-        (ap (λ b. metered g (fault_if 2 b)) (sym is) ∙ f) (given_as result left y _ m)))
+        (ap (λ b. metered g (fault_if LOOP b)) (sym is) ∙ f) (given_as result left y _ m)))
 
   -- a local variable
   module _ (name : List ℕ) (value : Expression) (body : Statements) (end_value : Expression) where

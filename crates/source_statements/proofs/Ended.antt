@@ -35,22 +35,22 @@ module _ (setting : Setting) (x : Config) (fuel : ℕ) where
 
     pub side_differs : (g l : ℕ) (w : Value) (why : Stop) (t : Bool)
         → metered fuel (evaluated setting.program after x.state) ≡ Went w g
-        → t ≡ (if side then not (holds w) else holds w) → Failed why l (metered g (fault_if 1 t))
+        → t ≡ (if side then not (holds w) else holds w) → Failed why l (metered g (fault_if FI t))
         → Failed why l (metered fuel (closing setting x x.around))
     side_differs g l w why t e d f = subst (λ r. Failed why l (metered fuel r)) (sym (closing_is _ in_part))
         (subst (λ m. Failed why l m) (sym (goes fuel g (evaluated setting.program after x.state) w side_test e))
         (fails g l (fault_if FI (if side then not (holds w) else holds w)) _ why
-        (subst (λ b. Failed why l (metered g (fault_if 1 b))) d f)))
+        (subst (λ b. Failed why l (metered g (fault_if FI b))) d f)))
 
     pub side_goes : (g l : ℕ) (w : Value) (t : Bool) (y : Config)
         → metered fuel (evaluated setting.program after x.state) ≡ Went w g
-        → t ≡ (if side then not (holds w) else holds w) → metered g (fault_if 1 t) ≡ Went tt l
+        → t ≡ (if side then not (holds w) else holds w) → metered g (fault_if FI t) ≡ Went tt l
         → y ≡ leaving x x.around → metered fuel (closing setting x x.around) ≡ Went y l
     side_goes g l w t y e d f m =
         ap (metered fuel) (closing_is _ in_part)
         ∙ goes fuel g (evaluated setting.program after x.state) w side_test e
         ∙ goes g l (fault_if FI (if side then not (holds w) else holds w)) tt _
-        (ap (λ b. metered g (fault_if 1 b)) (sym d) ∙ f)
+        (ap (λ b. metered g (fault_if FI b)) (sym d) ∙ f)
         ∙ gives l (left in_part.inmost in_part.others x.params x.state)
         ∙ ap (λ z. Went z l) (sym (m ∙ ap (leaving x) in_part.is))
 
@@ -69,16 +69,16 @@ module _ (setting : Setting) (x : Config) (fuel : ℕ) where
 
       pub close_differs : (g l : ℕ) (w : Value) (why : Stop) (t : Bool)
           → metered fuel (evaluated setting.program end_value x.state) ≡ Went w g
-          → t ≡ not (same_value (read x.state (Slot 0)) w) → Failed why l (metered g (fault_if 3 t))
+          → t ≡ not (same_value (read x.state (Slot 0)) w) → Failed why l (metered g (fault_if DELOCAL t))
           → Failed why l (metered fuel (closing setting x x.around))
       close_differs g l w why t e d f = subst (λ r. Failed why l (metered fuel r)) (sym (closing_is _ in_part))
           (subst (λ m. Failed why l m) (sym (goes fuel g (evaluated setting.program end_value x.state) w local_test e))
           (fails g l (fault_if DELOCAL (not (same_value (read x.state (Slot 0)) w))) _ why
-          (subst (λ b. Failed why l (metered g (fault_if 3 b))) d f)))
+          (subst (λ b. Failed why l (metered g (fault_if DELOCAL b))) d f)))
 
       pub close_goes : (g l : ℕ) (w : Value) (t : Bool) (mid y : Config)
           → metered fuel (evaluated setting.program end_value x.state) ≡ Went w g
-          → t ≡ not (same_value (read x.state (Slot 0)) w) → metered g (fault_if 3 t) ≡ Went tt l
+          → t ≡ not (same_value (read x.state (Slot 0)) w) → metered g (fault_if DELOCAL t) ≡ Went tt l
           → mid ≡ record x { state = closed x.state } → y ≡ leaving mid mid.around
           → metered fuel (closing setting x x.around) ≡ Went y l
       close_goes g l w t mid y e d f m n =
@@ -87,7 +87,7 @@ module _ (setting : Setting) (x : Config) (fuel : ℕ) where
           ap (metered fuel) (closing_is _ in_part)
           ∙ goes fuel g (evaluated setting.program end_value x.state) w local_test e
           ∙ goes g l (fault_if DELOCAL (not (same_value (read x.state (Slot 0)) w))) tt _
-          (ap (λ b. metered g (fault_if 3 b)) (sym d) ∙ f)
+          (ap (λ b. metered g (fault_if DELOCAL b)) (sym d) ∙ f)
           ∙ gives l (left in_part.inmost in_part.others x.params (closed x.state))
           ∙ ap (λ z. Went z l) (sym (gone ∙ ap (leaving (record x { state = closed x.state })) in_part.is))
 
@@ -140,23 +140,23 @@ module _ (setting : Setting) (x : Config) (fuel : ℕ) where
     pub again_refused : (g l : ℕ) (v : Value) (why : Stop) (t : Bool)
         (in_part : HasPart x.around (Again entry first again exit))
         → metered fuel (evaluated setting.program entry x.state) ≡ Went v g → t ≡ holds v
-        → Failed why l (metered g (fault_if 2 t)) → Failed why l (metered fuel (closing setting x x.around))
+        → Failed why l (metered g (fault_if LOOP t)) → Failed why l (metered fuel (closing setting x x.around))
     again_refused g l v why t in_part e d f = subst (λ r. Failed why l (metered fuel r)) (sym (closing_is _ in_part))
         (subst (λ m. Failed why l m)
         (sym (goes fuel g (evaluated setting.program entry x.state) v (again_then in_part) e))
-        (fails g l (fault_if LOOP (holds v)) _ why (subst (λ b. Failed why l (metered g (fault_if 2 b))) d f)))
+        (fails g l (fault_if LOOP (holds v)) _ why (subst (λ b. Failed why l (metered g (fault_if LOOP b))) d f)))
 
     pub again_goes : (g l : ℕ) (v : Value) (t : Bool) (y : Config)
         (in_part : HasPart x.around (Again entry first again exit))
         → metered fuel (evaluated setting.program entry x.state) ≡ Went v g → t ≡ holds v
-        → metered g (fault_if 2 t) ≡ Went tt l
+        → metered g (fault_if LOOP t) ≡ Went tt l
         → y ≡ going_on x (First entry first again exit) first x.around
         → metered fuel (closing setting x x.around) ≡ Went y l
     again_goes g l v t y in_part e d f m =
         ap (metered fuel) (closing_is _ in_part)
         ∙ goes fuel g (evaluated setting.program entry x.state) v (again_then in_part) e
         ∙ goes g l (fault_if LOOP (holds v)) tt (λ u. give (turned_to x in_part.inmost in_part.others
-        (First entry first again exit) first)) (ap (λ b. metered g (fault_if 2 b)) (sym d) ∙ f)
+        (First entry first again exit) first)) (ap (λ b. metered g (fault_if LOOP b)) (sym d) ∙ f)
         ∙ gives l (turned_to x in_part.inmost in_part.others (First entry first again exit) first)
         ∙ ap (λ z. Went z l) (sym (m ∙ ap (going_on x (First entry first again exit) first) in_part.is))
 

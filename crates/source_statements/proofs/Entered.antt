@@ -8,6 +8,7 @@ use Rattle.source_blocks.specs.roopl_semantics.Run.{Run, ◌>>=◌, give, spend,
 use Rattle.source_blocks.specs.roopl_semantics.Store.{State, Value, Binding}
 use Rattle.source_blocks.specs.roopl_semantics.Value.{Cell, cell_named, own_class, read}
 use Rattle.source_blocks.specs.roopl_semantics.Execution.{Setting, is_too_deep, cells_named, bound, moved_out, in_direction}
+use Rattle.source_blocks.specs.roopl_semantics.Execution.{TOO_DEEP}
 use Rattle.source_blocks.specs.meaning_machine.Machine.{Config, Calling, called, entered}
 use Rattle.source_blocks.specs.meaning_machine.Machine.{Caller as From}
 use Rattle.source_blocks.specs.source_steps.declared.stop.Stop.{Stop}
@@ -32,7 +33,7 @@ module _ (setting : Setting) (x : Config) (s : Statement) (rest : Statements) (a
       (cells_named setting st args)
 
   abbrev own_deep : Run Config
-  own_deep = fault_if 14 (is_too_deep setting st) >>= (λ v. give own_entered)
+  own_deep = fault_if TOO_DEEP (is_too_deep setting st) >>= (λ v. give own_entered)
 
   pub own_unpaid : (left : ℕ) (why : Stop) → Failed why left (metered fuel (spend cost))
       → Failed why left (metered fuel own_call)
@@ -40,24 +41,24 @@ module _ (setting : Setting) (x : Config) (s : Statement) (rest : Statements) (a
       (subst (λ k. Failed why left (metered fuel (spend k))) paid e)
 
   pub own_too_deep : (one left : ℕ) (why : Stop) (deep : Bool) → metered fuel (spend cost) ≡ Went tt one
-      → Failed why left (metered one (fault_if 14 deep)) → deep ≡ is_too_deep setting st
+      → Failed why left (metered one (fault_if TOO_DEEP deep)) → deep ≡ is_too_deep setting st
       → Failed why left (metered fuel own_call)
   own_too_deep one left why deep p e d =
       subst (λ m. Failed why left m)
       (sym (goes fuel one (spend (length args)) tt (λ u. own_deep) (ap (λ k. metered fuel (spend k)) (sym paid) ∙ p)))
-      (fails one left (fault_if 14 (is_too_deep setting st)) (λ v. give own_entered) why
-      (subst (λ t. Failed why left (metered one (fault_if 14 t))) d e))
+      (fails one left (fault_if TOO_DEEP (is_too_deep setting st)) (λ v. give own_entered) why
+      (subst (λ t. Failed why left (metered one (fault_if TOO_DEEP t))) d e))
 
   pub own_goes : {E : Type 0} (result : Result E Stop) (one two : ℕ) (deep : Bool) (y : Config)
-      → metered fuel (spend cost) ≡ Went tt one → metered one (fault_if 14 deep) ≡ Went tt two
+      → metered fuel (spend cost) ≡ Went tt one → metered one (fault_if TOO_DEEP deep) ≡ Went tt two
       → deep ≡ is_too_deep setting st
       → MatchResult result (λ u. y ≡ own_entered) (λ why. why ≡ stop.Lacks lacking.NoMemory)
       → Gives (λ (e : E). y) result two (metered fuel own_call)
   own_goes result one two deep y p q d m =
       through (λ e. y) result fuel one two (spend (length args)) tt (λ u. own_deep)
       (ap (λ k. metered fuel (spend k)) (sym paid) ∙ p)
-      (through (λ e. y) result one two two (fault_if 14 (is_too_deep setting st)) tt (λ v. give own_entered)
-      (ap (λ t. metered one (fault_if 14 t)) (sym d) ∙ q) (given_as result two y own_entered m))
+      (through (λ e. y) result one two two (fault_if TOO_DEEP (is_too_deep setting st)) tt (λ v. give own_entered)
+      (ap (λ t. metered one (fault_if TOO_DEEP t)) (sym d) ∙ q) (given_as result two y own_entered m))
 
   -- a call on what a variable or field refers to
   module _ (name : Ident) where
