@@ -8,6 +8,7 @@ ghost use Rattle.refine_form.specs.Held.{HoldsBoth};
 ghost use Rattle.branch_codegen.specs.Laws.{IfLaw, FromLaw};
 
 use crate::branches::{conditional, repetition};
+use code_conventions::memory::EXPRESSION_WORDS;
 use code_conventions::registers::FLAG;
 use code_scope::Scope;
 use expr_uncompute::test_code;
@@ -27,8 +28,8 @@ pub fn if_code(
     after: &Expr,
     scope: &Scope,
 ) -> Result<Piece, NoMemory>
-    requires test_room { words_of (expression_of test.now) ≤ 1000 }
-    requires after_room { words_of (expression_of after.now) ≤ 1000 }
+    requires test_room { words_of (expression_of test.now) ≤ EXPRESSION_WORDS }
+    requires after_room { words_of (expression_of after.now) ≤ EXPRESSION_WORDS }
     ensures law { IfOk result (λ p.
         IfLaw (known_in scope.now) (expression_of test.now) (expression_of after.now) yes.cells
         no.cells p.cells) }
@@ -53,8 +54,8 @@ pub fn from_code(
     until: &Expr,
     scope: &Scope,
 ) -> Result<Piece, NoMemory>
-    requires entry_room { words_of (expression_of entry.now) ≤ 1000 }
-    requires exit_room { words_of (expression_of until.now) ≤ 1000 }
+    requires entry_room { words_of (expression_of entry.now) ≤ EXPRESSION_WORDS }
+    requires exit_room { words_of (expression_of until.now) ≤ EXPRESSION_WORDS }
     ensures law { IfOk result (λ p.
         FromLaw (known_in scope.now) (expression_of entry.now) (expression_of until.now) first.cells
         again.cells p.cells) }

@@ -26,6 +26,8 @@ pub const PLACE_WORD: u32 = 2;
 pub const FIRST_VARIABLE: u32 = 16;
 /// The most variables of a method: parameters and nested locals.
 pub const MOST_VARIABLES: u32 = 48;
+/// The most frame words that expressions may take whose code is made together.
+pub const EXPRESSION_WORDS: usize = 1_000;
 
 /// The words of an object's or array's header: what it begins with, and how many cells refer to it.
 pub fn header(head: u32, count: u32) -> [u32; 2]

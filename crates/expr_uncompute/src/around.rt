@@ -11,6 +11,7 @@ ghost use Rattle.expr_uncompute.specs.Steps.{place_tokens};
 ghost use Rattle.register_expressions.specs.code_scope.Visible.{spot_of, free_of, known_in};
 
 use crate::middles::{around_place, around_places, around_value};
+use code_conventions::memory::EXPRESSION_WORDS;
 use code_scope::Scope;
 use paired_code::Piece;
 use rpp_tree::tree::{Expr, Place};
@@ -28,7 +29,7 @@ pub fn place_around(
     scope: &Scope,
     middle: Piece,
 ) -> Result<Piece, NoMemory>
-    requires room { words_of_place (lvalue_of place.now) ≤ 1000 }
+    requires room { words_of_place (lvalue_of place.now) ≤ EXPRESSION_WORDS }
     requires marks { middle.marks ≡ [] }
     ensures law { IfOk result (λ p.
         PlaceAroundLaw (spot_of (known_in scope.now)) (free_of (known_in scope.now))
@@ -54,7 +55,7 @@ pub fn place_and_value_around(
     middle: Piece,
 ) -> Result<Piece, NoMemory>
     requires room { words_of_place (lvalue_of place.now) + words_of (expression_of value.now) ≤
-        1000 }
+        EXPRESSION_WORDS }
     requires marks { middle.marks ≡ [] }
     ensures law { IfOk result (λ p.
         ValueAroundLaw (spot_of (known_in scope.now)) (free_of (known_in scope.now))
@@ -83,7 +84,7 @@ pub fn places_around(
     middle: Piece,
 ) -> Result<Piece, NoMemory>
     requires room { words_of_place (lvalue_of source.now) + words_of_place (lvalue_of target.now) ≤
-        1000 }
+        EXPRESSION_WORDS }
     requires marks { middle.marks ≡ [] }
     ensures law { IfOk result (λ p.
         PlacesAroundLaw (spot_of (known_in scope.now)) (free_of (known_in scope.now))

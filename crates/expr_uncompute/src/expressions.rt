@@ -13,6 +13,7 @@ ghost use Rattle.register_expressions.specs.code_scope.Visible.{spot_of, free_of
 
 use crate::places::{swap_piece, update_piece};
 use crate::values::{test_piece, value_piece};
+use code_conventions::memory::EXPRESSION_WORDS;
 use code_scope::Scope;
 use paired_code::Piece;
 use rpp_tree::tree::{Expr, Place, UpdateOp};
@@ -27,7 +28,7 @@ use std::alloc::Global;
 /// 10 and 16 to 24 are 0 before and after. The only error is that memory ran out.
 pub fn value_code(alloc: Global, e: &Expr, scope: &Scope, into: u8) -> Result<Piece, NoMemory>
     requires register { Target into }
-    requires room { words_of (expression_of e.now) ≤ 1000 }
+    requires room { words_of (expression_of e.now) ≤ EXPRESSION_WORDS }
     ensures law { IfOk result (λ p.
         ValueLaw (spot_of (known_in scope.now)) (free_of (known_in scope.now)) into
         (expression_of e.now) p.cells) }
@@ -42,7 +43,7 @@ pub fn value_code(alloc: Global, e: &Expr, scope: &Scope, into: u8) -> Result<Pi
 /// Whether an expression is true, 1 or 0, xored into the register `into`: else as `value_code`.
 pub fn test_code(alloc: Global, e: &Expr, scope: &Scope, into: u8) -> Result<Piece, NoMemory>
     requires register { Target into }
-    requires room { words_of (expression_of e.now) ≤ 1000 }
+    requires room { words_of (expression_of e.now) ≤ EXPRESSION_WORDS }
     ensures law { IfOk result (λ p.
         TestLaw (spot_of (known_in scope.now)) (free_of (known_in scope.now)) into
         (expression_of e.now) p.cells) }
@@ -66,7 +67,7 @@ pub fn update_code(
     scope: &Scope,
 ) -> Result<Piece, NoMemory>
     requires room { words_of_place (lvalue_of place.now) + words_of (expression_of value.now) ≤
-        1000 }
+        EXPRESSION_WORDS }
     ensures law { IfOk result (λ p.
         UpdateLaw (spot_of (known_in scope.now)) (free_of (known_in scope.now)) op
         (lvalue_of place.now) (expression_of value.now) p.cells) }
@@ -92,7 +93,7 @@ pub fn swap_code(
     scope: &Scope,
 ) -> Result<Piece, NoMemory>
     requires room { words_of_place (lvalue_of left.now) + words_of_place (lvalue_of right.now) ≤
-        1000 }
+        EXPRESSION_WORDS }
     ensures law { IfOk result (λ p.
         SwapLaw (spot_of (known_in scope.now)) (free_of (known_in scope.now)) (lvalue_of left.now)
         (lvalue_of right.now) p.cells) }

@@ -8,6 +8,7 @@ ghost use Rattle.register_expressions.specs.code_scope.Visible.{offset_of, spot_
 
 use crate::apart::{apart, apart_from, own_apart};
 use crate::values::{checked, open, parts, place_words, prepare, result_register};
+use code_conventions::memory::EXPRESSION_WORDS;
 use code_conventions::registers::{AMOUNT, FRAME, OTHER_PLACE, PLACE, RIGHT};
 use code_scope::{Names, spot_of};
 use paired_code::{Piece, seq};
@@ -41,7 +42,7 @@ pub fn place_code(
 ) -> Result<Piece, NoMemory>
     requires low { AMOUNT < into }
     requires register { into < 32 }
-    requires room { i + words_of_place (lvalue_of place.now) ≤ 1000 }
+    requires room { i + words_of_place (lvalue_of place.now) ≤ EXPRESSION_WORDS }
     ensures { IfOk result (λ p.
         p ≡ unmarked (place_cells (spot_of_name (known_by names.now)) (free_of (known_by names.now))
         (lvalue_of place.now) i into)) }
@@ -62,7 +63,7 @@ pub fn place_code(
 
 /// The value of an expression kept in a register.
 pub fn fetch_code(alloc: Global, names: &Names, e: &Expr, i: u32) -> Result<Piece, NoMemory>
-    requires { i + words_of (expression_of e.now) ≤ 1000 }
+    requires { i + words_of (expression_of e.now) ≤ EXPRESSION_WORDS }
     ensures { IfOk result (λ p.
         p ≡ unmarked (fetch_cells (spot_of_name (known_by names.now)) (free_of (known_by names.now))
         (expression_of e.now) i AMOUNT)) }
@@ -76,7 +77,7 @@ pub fn fetch_code(alloc: Global, names: &Names, e: &Expr, i: u32) -> Result<Piec
 
 /// A place found, and the check that it is an element of no array that its index reads.
 pub fn found_place(alloc: Global, place: &Place, names: &Names) -> Result<Piece, NoMemory>
-    requires room { words_of_place (lvalue_of place.now) ≤ 1000 }
+    requires room { words_of_place (lvalue_of place.now) ≤ EXPRESSION_WORDS }
     ensures { IfOk result (λ p.
         p ≡ unmarked (found_place_cells (spot_of_name (known_by names.now))
         (free_of (known_by names.now)) (lvalue_of place.now))) }
@@ -94,7 +95,7 @@ pub fn found_value(
     names: &Names,
 ) -> Result<Piece, NoMemory>
     requires room { words_of_place (lvalue_of place.now) + words_of (expression_of value.now) ≤
-        1000 }
+        EXPRESSION_WORDS }
     ensures { IfOk result (λ p.
         p ≡ unmarked (found_value_cells (spot_of_name (known_by names.now))
         (free_of (known_by names.now)) (lvalue_of place.now) (expression_of value.now))) }
@@ -114,7 +115,7 @@ pub fn both_places(
     names: &Names,
 ) -> Result<Piece, NoMemory>
     requires room { words_of_place (lvalue_of left.now) + words_of_place (lvalue_of right.now) ≤
-        1000 }
+        EXPRESSION_WORDS }
     ensures { IfOk result (λ p.
         p ≡ unmarked (place_cells (spot_of_name (known_by names.now))
         (free_of (known_by names.now)) (lvalue_of left.now) 0 PLACE ++ place_cells
@@ -134,7 +135,7 @@ pub fn found_places(
     names: &Names,
 ) -> Result<Piece, NoMemory>
     requires room { words_of_place (lvalue_of source.now) + words_of_place (lvalue_of target.now) ≤
-        1000 }
+        EXPRESSION_WORDS }
     ensures { IfOk result (λ p.
         p ≡ unmarked (found_places_cells (spot_of_name (known_by names.now))
         (free_of (known_by names.now)) (lvalue_of source.now) (lvalue_of target.now))) }

@@ -10,6 +10,7 @@ ghost use Rattle.expr_uncompute.specs.Steps.{place_tokens};
 ghost use Rattle.register_expressions.specs.code_scope.Visible.{spot_of as spot_of_name, free_of, known_by};
 
 use crate::found::{found_place, found_places, found_value};
+use code_conventions::memory::EXPRESSION_WORDS;
 use code_scope::Names;
 use paired_code::Piece;
 use register_expressions::cells::enclosed;
@@ -24,7 +25,7 @@ pub fn around_place(
     names: &Names,
     middle: Piece,
 ) -> Result<Piece, NoMemory>
-    requires room { words_of_place (lvalue_of place.now) ≤ 1000 }
+    requires room { words_of_place (lvalue_of place.now) ≤ EXPRESSION_WORDS }
     requires marks { middle.marks ≡ [] }
     ensures law { IfOk result (λ p.
         PlaceAroundLaw (spot_of_name (known_by names.now)) (free_of (known_by names.now))
@@ -47,7 +48,7 @@ pub fn around_value(
     names: &Names,
     middle: Piece,
 ) -> Result<Piece, NoMemory>
-    requires room { words_of_place (lvalue_of place.now) + words_of (expression_of value.now) ≤ 1000 }
+    requires room { words_of_place (lvalue_of place.now) + words_of (expression_of value.now) ≤ EXPRESSION_WORDS }
     requires marks { middle.marks ≡ [] }
     ensures law { IfOk result (λ p.
         ValueAroundLaw (spot_of_name (known_by names.now)) (free_of (known_by names.now))
@@ -72,7 +73,7 @@ pub fn around_places(
     middle: Piece,
 ) -> Result<Piece, NoMemory>
     requires room { words_of_place (lvalue_of source.now) + words_of_place (lvalue_of target.now) ≤
-        1000 }
+        EXPRESSION_WORDS }
     requires marks { middle.marks ≡ [] }
     ensures law { IfOk result (λ p.
         PlacesAroundLaw (spot_of_name (known_by names.now)) (free_of (known_by names.now))

@@ -16,6 +16,7 @@ ghost use Rattle.register_expressions.specs.code_scope.Visible.{offset_of, spot_
 use crate::apart::both_apart;
 use crate::found::{both_places, found_value};
 use crate::values::{checked, prepare};
+use code_conventions::memory::EXPRESSION_WORDS;
 use code_conventions::registers::{
     AMOUNT, CONTENT, FIRST_WORD, FRAME, LEFT, OBJECT, OTHER_PLACE, PLACE, RIGHT, SECOND_WORD,
 };
@@ -132,7 +133,7 @@ fn by_value(
     value: &Expr,
     names: &Names,
 ) -> Result<Piece, NoMemory>
-    requires { words_of_place (lvalue_of place.now) + words_of (expression_of value.now) ≤ 1000 }
+    requires { words_of_place (lvalue_of place.now) + words_of (expression_of value.now) ≤ EXPRESSION_WORDS }
     ensures { IfOk result (λ p.
         p ≡ unmarked (found_update_cells (spot_of_name (known_by names.now))
         (free_of (known_by names.now)) op (lvalue_of place.now) (expression_of value.now))) }
@@ -153,7 +154,7 @@ fn by_held(
     names: &Names,
 ) -> Result<Piece, NoMemory>
     requires small { offset_of spot < 2 ^ 32 }
-    requires room { words_of (expression_of value.now) ≤ 1000 }
+    requires room { words_of (expression_of value.now) ≤ EXPRESSION_WORDS }
     requires few { need_of (expression_of value.now) < 10 }
     ensures { IfOk result (λ p.
         p ≡ unmarked (held_update_cells (spot_of_name (known_by names.now)) op spot
@@ -174,7 +175,7 @@ fn whole_by_operator(
     value: &Expr,
     names: &Names,
 ) -> Result<Piece, NoMemory>
-    requires room { words_of (expression_of value.now) ≤ 1000 }
+    requires room { words_of (expression_of value.now) ≤ EXPRESSION_WORDS }
     requires whole { lvalue_of place.now ≡ Whole place.now.name }
     ensures { IfOk result (λ p.
         p ≡ unmarked (operated_update_cells (spot_of_name (known_by names.now))
@@ -196,7 +197,7 @@ fn whole_by_place(
     value: &Expr,
     names: &Names,
 ) -> Result<Piece, NoMemory>
-    requires room { words_of (expression_of value.now) ≤ 1000 }
+    requires room { words_of (expression_of value.now) ≤ EXPRESSION_WORDS }
     requires whole { lvalue_of place.now ≡ Whole place.now.name }
     requires reads { expression_of value.now ≡ lvalue_read (lvalue_of read.now) }
     ensures { IfOk result (λ p.
@@ -221,7 +222,7 @@ fn whole_update(
     value: &Expr,
     names: &Names,
 ) -> Result<Piece, NoMemory>
-    requires room { words_of (expression_of value.now) ≤ 1000 }
+    requires room { words_of (expression_of value.now) ≤ EXPRESSION_WORDS }
     requires whole { lvalue_of place.now ≡ Whole place.now.name }
     ensures { IfOk result (λ p.
         p ≡ unmarked (whole_update_cells (spot_of_name (known_by names.now))
@@ -239,7 +240,7 @@ fn whole_update(
 
 // An element's index and its address, which is in the register of its array.
 fn near_place(alloc: Global, names: &Names, name: &Text, index: &Expr) -> Result<Piece, NoMemory>
-    requires { words_of (expression_of index.now) ≤ 1000 }
+    requires { words_of (expression_of index.now) ≤ EXPRESSION_WORDS }
     ensures { IfOk result (λ p.
         p ≡ unmarked (near_place_cells (spot_of_name (known_by names.now))
         (free_of (known_by names.now)) name.now (expression_of index.now))) }
@@ -271,8 +272,8 @@ fn near_update(
     value: &Expr,
     names: &Names,
 ) -> Result<Piece, NoMemory>
-    requires index { words_of (expression_of index.now) ≤ 1000 }
-    requires value { words_of (expression_of value.now) ≤ 1000 }
+    requires index { words_of (expression_of index.now) ≤ EXPRESSION_WORDS }
+    requires value { words_of (expression_of value.now) ≤ EXPRESSION_WORDS }
     requires few { 2 + need_of (expression_of index.now) + need_of (expression_of value.now) < 10 }
     ensures { IfOk result (λ p.
         p ≡ unmarked (near_update_cells (spot_of_name (known_by names.now)) op name.now
@@ -296,7 +297,7 @@ fn item_update(
     names: &Names,
 ) -> Result<Piece, NoMemory>
     requires room { words_of (expression_of index.now) + words_of (expression_of value.now) ≤
-        1000 }
+        EXPRESSION_WORDS }
     requires item { lvalue_of place.now ≡ Item place.now.name (expression_of index.now) }
     ensures { IfOk result (λ p.
         p ≡ unmarked (item_update_cells (spot_of_name (known_by names.now))
@@ -318,7 +319,7 @@ fn update_by_form(
     value: &Expr,
     names: &Names,
 ) -> Result<Piece, NoMemory>
-    requires { words_of_place (lvalue_of place.now) + words_of (expression_of value.now) ≤ 1000 }
+    requires { words_of_place (lvalue_of place.now) + words_of (expression_of value.now) ≤ EXPRESSION_WORDS }
     ensures { IfOk result (λ p.
         p ≡ unmarked (update_cells (spot_of_name (known_by names.now))
         (free_of (known_by names.now)) op (lvalue_of place.now) (expression_of value.now))) }
@@ -337,7 +338,7 @@ pub fn update_piece(
     value: &Expr,
     names: &Names,
 ) -> Result<Piece, NoMemory>
-    requires { words_of_place (lvalue_of place.now) + words_of (expression_of value.now) ≤ 1000 }
+    requires { words_of_place (lvalue_of place.now) + words_of (expression_of value.now) ≤ EXPRESSION_WORDS }
     ensures law { IfOk result (λ p.
         UpdateLaw (spot_of_name (known_by names.now)) (free_of (known_by names.now)) op
         (lvalue_of place.now) (expression_of value.now) p.cells) }
@@ -427,7 +428,7 @@ fn swap_spots(alloc: Global, x: Spot, y: Spot) -> Result<Piece, NoMemory>
 
 // Any two places swapped.
 fn swap_found(alloc: Global, left: &Place, right: &Place, names: &Names) -> Result<Piece, NoMemory>
-    requires { words_of_place (lvalue_of left.now) + words_of_place (lvalue_of right.now) ≤ 1000 }
+    requires { words_of_place (lvalue_of left.now) + words_of_place (lvalue_of right.now) ≤ EXPRESSION_WORDS }
     ensures { IfOk result (λ p.
         p ≡ unmarked (found_swap_cells (spot_of_name (known_by names.now))
         (free_of (known_by names.now)) (lvalue_of left.now) (lvalue_of right.now))) }
@@ -449,7 +450,7 @@ fn around_near(
     middle: Piece,
 ) -> Result<Piece, NoMemory>
     requires small { offset_of spot < 2 ^ 32 }
-    requires room { words_of (expression_of index.now) ≤ 1000 }
+    requires room { words_of (expression_of index.now) ≤ EXPRESSION_WORDS }
     requires middle { middle.marks ≡ [] }
     ensures { IfOk result (λ p.
         p ≡ unmarked (around (near_place_cells (spot_of_name (known_by names.now))
@@ -470,7 +471,7 @@ fn variable_first(
     index: &Expr,
     names: &Names,
 ) -> Result<Piece, NoMemory>
-    requires room { words_of (expression_of index.now) ≤ 1000 }
+    requires room { words_of (expression_of index.now) ≤ EXPRESSION_WORDS }
     ensures { IfOk result (λ p.
         p ≡ unmarked (near_swap_cells (spot_of_name (known_by names.now))
         (free_of (known_by names.now))
@@ -491,7 +492,7 @@ fn variable_second(
     right: &Place,
     names: &Names,
 ) -> Result<Piece, NoMemory>
-    requires room { words_of (expression_of index.now) ≤ 1000 }
+    requires room { words_of (expression_of index.now) ≤ EXPRESSION_WORDS }
     ensures { IfOk result (λ p.
         p ≡ unmarked (near_swap_cells (spot_of_name (known_by names.now))
         (free_of (known_by names.now)) RIGHT
@@ -505,7 +506,7 @@ fn variable_second(
 }
 
 fn whole_swap(alloc: Global, left: &Place, right: &Place, names: &Names) -> Result<Piece, NoMemory>
-    requires room { words_of_place (lvalue_of right.now) ≤ 1000 }
+    requires room { words_of_place (lvalue_of right.now) ≤ EXPRESSION_WORDS }
     requires whole { lvalue_of left.now ≡ Whole left.now.name }
     ensures { IfOk result (λ p.
         p ≡ unmarked (whole_swap_cells (spot_of_name (known_by names.now))
@@ -535,7 +536,7 @@ fn item_swap(
     names: &Names,
 ) -> Result<Piece, NoMemory>
     requires room { words_of (expression_of index.now) + words_of_place (lvalue_of right.now) ≤
-        1000 }
+        EXPRESSION_WORDS }
     requires item { lvalue_of left.now ≡ Item left.now.name (expression_of index.now) }
     ensures { IfOk result (λ p.
         p ≡ unmarked (item_swap_cells (spot_of_name (known_by names.now))
@@ -560,7 +561,7 @@ fn swap_by_form(
     right: &Place,
     names: &Names,
 ) -> Result<Piece, NoMemory>
-    requires { words_of_place (lvalue_of left.now) + words_of_place (lvalue_of right.now) ≤ 1000 }
+    requires { words_of_place (lvalue_of left.now) + words_of_place (lvalue_of right.now) ≤ EXPRESSION_WORDS }
     ensures { IfOk result (λ p.
         p ≡ unmarked (swap_cells (spot_of_name (known_by names.now)) (free_of (known_by names.now))
         (lvalue_of left.now) (lvalue_of right.now))) }
@@ -578,7 +579,7 @@ pub fn swap_piece(
     right: &Place,
     names: &Names,
 ) -> Result<Piece, NoMemory>
-    requires { words_of_place (lvalue_of left.now) + words_of_place (lvalue_of right.now) ≤ 1000 }
+    requires { words_of_place (lvalue_of left.now) + words_of_place (lvalue_of right.now) ≤ EXPRESSION_WORDS }
     ensures law { IfOk result (λ p.
         SwapLaw (spot_of_name (known_by names.now)) (free_of (known_by names.now))
         (lvalue_of left.now) (lvalue_of right.now) p.cells) }

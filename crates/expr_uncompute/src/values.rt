@@ -9,6 +9,7 @@ ghost use Rattle.expr_uncompute.specs.Promises.{ValueLaw, TestLaw};
 ghost use Rattle.register_expressions.specs.Steps.{tokens};
 ghost use Rattle.register_expressions.specs.code_scope.Visible.{spot_of as spot_of_name, free_of, known_by};
 
+use code_conventions::memory::EXPRESSION_WORDS;
 use code_conventions::registers::{CONTENT, ITEM, LEFT, RIGHT, TRUTH};
 use code_scope::{Names, free_word, spot_of};
 use paired_code::{Piece, empty, seq};
@@ -26,7 +27,7 @@ use std::alloc::Global;
 /// How many words of the frame an expression needs.
 #[cycle(count_words)]
 pub fn words(e: &Expr) -> u32
-    requires { words_of (expression_of e.now) ≤ 1000 }
+    requires { words_of (expression_of e.now) ≤ EXPRESSION_WORDS }
     ensures { result ≡ words_of (expression_of e.now) }
 {
     match e {
@@ -39,7 +40,7 @@ pub fn words(e: &Expr) -> u32
 
 #[cycle(count_words)]
 fn read_words(place: &Place) -> u32
-    requires { words_of (lvalue_read (lvalue_of place.now)) ≤ 1000 }
+    requires { words_of (lvalue_read (lvalue_of place.now)) ≤ EXPRESSION_WORDS }
     ensures { result ≡ words_of (lvalue_read (lvalue_of place.now)) }
 {
     match &place.index {
@@ -50,7 +51,7 @@ fn read_words(place: &Place) -> u32
 
 /// The words that a place needs.
 pub fn place_words(place: &Place) -> u32
-    requires { words_of_place (lvalue_of place.now) ≤ 1000 }
+    requires { words_of_place (lvalue_of place.now) ≤ EXPRESSION_WORDS }
     ensures { result ≡ words_of_place (lvalue_of place.now) }
 {
     match &place.index {
@@ -141,7 +142,7 @@ pub fn checked(
 }
 
 fn open_read(alloc: Global, names: &Names, place: &Place, i: u32) -> Result<Piece, NoMemory>
-    requires { i ≤ 1000 }
+    requires { i ≤ EXPRESSION_WORDS }
     ensures { IfOk result (λ p.
         p ≡ unmarked (open_cells (spot_of_name (known_by names.now)) (free_of (known_by names.now))
         (lvalue_read (lvalue_of place.now)) i)) }
@@ -160,7 +161,7 @@ fn open_read(alloc: Global, names: &Names, place: &Place, i: u32) -> Result<Piec
 
 /// The value of an expression in its register, if its parts are prepared.
 pub fn open(alloc: Global, names: &Names, e: &Expr, i: u32) -> Result<Piece, NoMemory>
-    requires { i + words_of (expression_of e.now) ≤ 1000 }
+    requires { i + words_of (expression_of e.now) ≤ EXPRESSION_WORDS }
     ensures { IfOk result (λ p.
         p ≡ unmarked (open_cells (spot_of_name (known_by names.now)) (free_of (known_by names.now))
         (expression_of e.now) i)) }
@@ -187,7 +188,7 @@ pub fn open(alloc: Global, names: &Names, e: &Expr, i: u32) -> Result<Piece, NoM
 /// Every element and operator computed once into its word of the frame.
 #[cycle(prepared)]
 pub fn prepare(alloc: Global, names: &Names, e: &Expr, i: u32) -> Result<Piece, NoMemory>
-    requires { i + words_of (expression_of e.now) ≤ 1000 }
+    requires { i + words_of (expression_of e.now) ≤ EXPRESSION_WORDS }
     ensures { IfOk result (λ p.
         p ≡ unmarked (prepare_cells (spot_of_name (known_by names.now))
         (free_of (known_by names.now)) (expression_of e.now) i)) }
@@ -215,7 +216,7 @@ pub fn prepare(alloc: Global, names: &Names, e: &Expr, i: u32) -> Result<Piece, 
 
 #[cycle(prepared)]
 fn prepare_read(alloc: Global, names: &Names, place: &Place, i: u32) -> Result<Piece, NoMemory>
-    requires { i + words_of (lvalue_read (lvalue_of place.now)) ≤ 1000 }
+    requires { i + words_of (lvalue_read (lvalue_of place.now)) ≤ EXPRESSION_WORDS }
     ensures { IfOk result (λ p.
         p ≡ unmarked (prepare_cells (spot_of_name (known_by names.now))
         (free_of (known_by names.now)) (lvalue_read (lvalue_of place.now)) i)) }
@@ -233,7 +234,7 @@ fn prepare_read(alloc: Global, names: &Names, place: &Place, i: u32) -> Result<P
 }
 
 fn parts_read(alloc: Global, names: &Names, place: &Place, i: u32) -> Result<Piece, NoMemory>
-    requires { i + words_of (lvalue_read (lvalue_of place.now)) ≤ 1000 }
+    requires { i + words_of (lvalue_read (lvalue_of place.now)) ≤ EXPRESSION_WORDS }
     ensures { IfOk result (λ p.
         p ≡ unmarked (parts_cells (spot_of_name (known_by names.now)) (free_of (known_by names.now))
         (lvalue_read (lvalue_of place.now)) i)) }
@@ -246,7 +247,7 @@ fn parts_read(alloc: Global, names: &Names, place: &Place, i: u32) -> Result<Pie
 
 /// The parts of an expression prepared.
 pub fn parts(alloc: Global, names: &Names, e: &Expr, i: u32) -> Result<Piece, NoMemory>
-    requires { i + words_of (expression_of e.now) ≤ 1000 }
+    requires { i + words_of (expression_of e.now) ≤ EXPRESSION_WORDS }
     ensures { IfOk result (λ p.
         p ≡ unmarked (parts_cells (spot_of_name (known_by names.now)) (free_of (known_by names.now))
         (expression_of e.now) i)) }
@@ -290,7 +291,7 @@ pub fn result_register(e: &Expr) -> u8
 
 fn prepared_value(alloc: Global, e: &Expr, names: &Names, into: u8) -> Result<Piece, NoMemory>
     requires register { Target into }
-    requires room { words_of (expression_of e.now) ≤ 1000 }
+    requires room { words_of (expression_of e.now) ≤ EXPRESSION_WORDS }
     ensures { IfOk result (λ p.
         p ≡ unmarked (prepared_value_cells (spot_of_name (known_by names.now))
         (free_of (known_by names.now)) (expression_of e.now) into)) }
@@ -304,7 +305,7 @@ fn prepared_value(alloc: Global, e: &Expr, names: &Names, into: u8) -> Result<Pi
 
 fn prepared_test(alloc: Global, e: &Expr, names: &Names, into: u8) -> Result<Piece, NoMemory>
     requires register { Target into }
-    requires room { words_of (expression_of e.now) ≤ 1000 }
+    requires room { words_of (expression_of e.now) ≤ EXPRESSION_WORDS }
     ensures { IfOk result (λ p.
         p ≡ unmarked (prepared_test_cells (spot_of_name (known_by names.now))
         (free_of (known_by names.now)) (expression_of e.now) into)) }
@@ -320,7 +321,7 @@ fn prepared_test(alloc: Global, e: &Expr, names: &Names, into: u8) -> Result<Pie
 
 fn chosen_value(alloc: Global, e: &Expr, names: &Names, into: u8) -> Result<Piece, NoMemory>
     requires register { Target into }
-    requires room { words_of (expression_of e.now) ≤ 1000 }
+    requires room { words_of (expression_of e.now) ≤ EXPRESSION_WORDS }
     ensures { IfOk result (λ p.
         p ≡ unmarked (value_cells (spot_of_name (known_by names.now)) (free_of (known_by names.now))
         (expression_of e.now) into)) }
@@ -335,7 +336,7 @@ fn chosen_value(alloc: Global, e: &Expr, names: &Names, into: u8) -> Result<Piec
 /// The value of an expression xored into a register.
 pub fn value_piece(alloc: Global, e: &Expr, names: &Names, into: u8) -> Result<Piece, NoMemory>
     requires register { Target into }
-    requires room { words_of (expression_of e.now) ≤ 1000 }
+    requires room { words_of (expression_of e.now) ≤ EXPRESSION_WORDS }
     ensures code { IfOk result (λ p.
         p ≡ unmarked (value_cells (spot_of_name (known_by names.now)) (free_of (known_by names.now))
         (expression_of e.now) into)) }
@@ -349,7 +350,7 @@ pub fn value_piece(alloc: Global, e: &Expr, names: &Names, into: u8) -> Result<P
 
 fn chosen_test(alloc: Global, e: &Expr, names: &Names, into: u8) -> Result<Piece, NoMemory>
     requires register { Target into }
-    requires room { words_of (expression_of e.now) ≤ 1000 }
+    requires room { words_of (expression_of e.now) ≤ EXPRESSION_WORDS }
     ensures { IfOk result (λ p.
         p ≡ unmarked (test_cells (spot_of_name (known_by names.now)) (free_of (known_by names.now))
         (expression_of e.now) into)) }
@@ -364,7 +365,7 @@ fn chosen_test(alloc: Global, e: &Expr, names: &Names, into: u8) -> Result<Piece
 /// Whether it is true xored into a register.
 pub fn test_piece(alloc: Global, e: &Expr, names: &Names, into: u8) -> Result<Piece, NoMemory>
     requires register { Target into }
-    requires room { words_of (expression_of e.now) ≤ 1000 }
+    requires room { words_of (expression_of e.now) ≤ EXPRESSION_WORDS }
     ensures code { IfOk result (λ p.
         p ≡ unmarked (test_cells (spot_of_name (known_by names.now)) (free_of (known_by names.now))
         (expression_of e.now) into)) }

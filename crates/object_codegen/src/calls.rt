@@ -20,6 +20,7 @@ use crate::news::new_middle;
 use crate::orders::{fixed_order, order_code};
 use crate::shape::Shape;
 use crate::tables::{class_number, field_count, order_of};
+use code_conventions::memory::EXPRESSION_WORDS;
 use expr_uncompute::{Scope, place_and_value_around, place_around, places_around};
 use paired_code::Piece;
 use rpp_tree::tree::{Expr, Ident, Made, Place};
@@ -40,7 +41,7 @@ pub fn copy_code(
     scope: &Scope,
 ) -> Result<Piece, NoMemory>
     requires room { words_of_place (lvalue_of source.now) + words_of_place (lvalue_of target.now) ≤
-        1000 }
+        EXPRESSION_WORDS }
     ensures law { IfOk result (λ p.
         CopyLaw (spot_of (known_in scope.now)) (free_of (known_in scope.now))
         (lvalue_of source.now) (lvalue_of target.now) p.cells) }
@@ -71,7 +72,7 @@ pub fn object_code(
     place: &Place,
     scope: &Scope,
 ) -> Result<Piece, NoMemory>
-    requires room { words_of_place (lvalue_of place.now) ≤ 1000 }
+    requires room { words_of_place (lvalue_of place.now) ≤ EXPRESSION_WORDS }
     ensures law { IfOk result (λ p.
         ObjectLaw (spot_of (known_in scope.now)) (free_of (known_in scope.now)) table fields order
         (lvalue_of place.now) p.cells) }
@@ -94,7 +95,7 @@ pub fn array_code(
     scope: &Scope,
 ) -> Result<Piece, NoMemory>
     requires room { words_of_place (lvalue_of place.now) + words_of (expression_of size.now) ≤
-        1000 }
+        EXPRESSION_WORDS }
     ensures law { IfOk result (λ p.
         ArrayLaw (spot_of (known_in scope.now)) (free_of (known_in scope.now))
         (lvalue_of place.now) (expression_of size.now) p.cells) }
@@ -115,7 +116,7 @@ pub fn class_code(
     place: &Place,
     scope: &Scope,
 ) -> Result<Piece, NoMemory>
-    requires room { words_of_place (lvalue_of place.now) ≤ 1000 }
+    requires room { words_of_place (lvalue_of place.now) ≤ EXPRESSION_WORDS }
     ensures law { IfOk result (λ p.
         ObjectLaw (spot_of (known_in scope.now)) (free_of (known_in scope.now))
         (address_of (source_of scope.now.program) (class_of (source_of scope.now.program) class.now))
@@ -137,7 +138,7 @@ pub fn class_code(
 /// class's table and so many cells as it has fields, or an array. Its inverse is the fragment of
 /// the `delete`. The only error is that memory ran out.
 pub fn new_code(alloc: Global, made: &Made, place: &Place, scope: &Scope) -> Result<Piece, NoMemory>
-    requires room { creation_words (creation_of made.now) (lvalue_of place.now) ≤ 1000 }
+    requires room { creation_words (creation_of made.now) (lvalue_of place.now) ≤ EXPRESSION_WORDS }
     ensures law { IfOk result (λ p.
         NewLaw (source_of scope.now.program) (spot_of (known_in scope.now)) (free_of
         (known_in scope.now)) (creation_of made.now) (lvalue_of place.now) p.cells) }

@@ -9,6 +9,7 @@ ghost use Rattle.code_scope.specs.Visible.{spot_of as spot_of_name, known_by, of
 
 use crate::cells::{add, addi, andx, enclosed, orx, sltx, sub, xor, xori};
 use crate::rows::{copy, element, element_word, reached, truth};
+use code_conventions::memory::EXPRESSION_WORDS;
 use code_conventions::registers::{CONTENT, LEFT, NOUGHT};
 use code_scope::{Names, spot_of};
 use paired_code::{Piece, empty, seq};
@@ -118,7 +119,7 @@ fn own(kind: Kind, left: bool, right: bool) -> u32
 
 #[cycle(need)]
 fn read_need(place: &Place) -> u32
-    requires { words_of (lvalue_read (lvalue_of place.now)) ≤ 1000 }
+    requires { words_of (lvalue_read (lvalue_of place.now)) ≤ EXPRESSION_WORDS }
     ensures value { result ≡ need_of (lvalue_read (lvalue_of place.now)) }
     ensures bound { result ≤ 11 * words_of (lvalue_read (lvalue_of place.now)) + 1 }
     ensures some { 1 ≤ result }
@@ -132,7 +133,7 @@ fn read_need(place: &Place) -> u32
 /// How many registers an expression needs.
 #[cycle(need)]
 pub fn need(e: &Expr) -> u32
-    requires { words_of (expression_of e.now) ≤ 1000 }
+    requires { words_of (expression_of e.now) ≤ EXPRESSION_WORDS }
     ensures value { result ≡ need_of (expression_of e.now) }
     ensures bound { result ≤ 11 * words_of (expression_of e.now) + 1 }
     ensures some { 1 ≤ result }
@@ -151,7 +152,7 @@ pub fn need(e: &Expr) -> u32
 }
 
 fn told_need(e: &Expr) -> u32
-    requires { words_of (expression_of e.now) ≤ 1000 }
+    requires { words_of (expression_of e.now) ≤ EXPRESSION_WORDS }
     ensures { result ≡ told_need_of (expression_of e.now) }
 {
     beside(is_truth(e)) + need(e)
@@ -174,7 +175,7 @@ fn has_parts(e: &Expr) -> bool
 /// Whether there are enough registers for the parts of an expression, and it is not nil or an element
 /// with a leaf as index.
 pub fn is_held(e: &Expr) -> bool
-    requires { words_of (expression_of e.now) ≤ 1000 }
+    requires { words_of (expression_of e.now) ≤ EXPRESSION_WORDS }
     ensures value { result ≡ held_of (expression_of e.now) }
     ensures few { result ≡ true → need_of (expression_of e.now) < 10 }
 {
@@ -206,7 +207,7 @@ fn has_element(e: &Expr) -> bool
 
 /// Whether an update by this value opens it once.
 pub fn is_opened_once(e: &Expr) -> bool
-    requires { words_of (expression_of e.now) ≤ 1000 }
+    requires { words_of (expression_of e.now) ≤ EXPRESSION_WORDS }
     ensures value { result ≡ opened_once (expression_of e.now) }
     ensures few { result ≡ true → need_of (expression_of e.now) < 10 }
 {
@@ -215,8 +216,8 @@ pub fn is_opened_once(e: &Expr) -> bool
 
 /// Whether an element that changes can be found once, with its index and its value in registers.
 pub fn is_near(index: &Expr, value: &Expr) -> bool
-    requires index { words_of (expression_of index.now) ≤ 1000 }
-    requires value { words_of (expression_of value.now) ≤ 1000 }
+    requires index { words_of (expression_of index.now) ≤ EXPRESSION_WORDS }
+    requires value { words_of (expression_of value.now) ≤ EXPRESSION_WORDS }
     ensures value { result ≡ near_of (expression_of index.now) (expression_of value.now) }
     ensures few { result ≡ true → 2 + need_of (expression_of index.now) + need_of
         (expression_of value.now) < 10 }
@@ -408,7 +409,7 @@ fn changed_core(
     right: &Expr,
     k: u32,
 ) -> Result<Piece, NoMemory>
-    requires room { words_of (expression_of left.now) ≤ 1000 }
+    requires room { words_of (expression_of left.now) ≤ EXPRESSION_WORDS }
     requires few { k + need_of (expression_of left.now) < 9 }
     ensures { IfOk result (λ p.
         p ≡ unmarked (if literal_is (expression_of right.now)
@@ -462,7 +463,7 @@ fn given_core(
     right: &Expr,
     at: At,
 ) -> Result<Piece, NoMemory>
-    requires room { words_of (expression_of left.now) ≤ 1000 }
+    requires room { words_of (expression_of left.now) ≤ EXPRESSION_WORDS }
     requires few { at.k + need_of (expression_of left.now) < 9 }
     requires register { at.into < 32 }
     requires content { at.into ≢ CONTENT }
@@ -534,7 +535,7 @@ fn held_element(alloc: Global, spot: Spot, index: Piece, k: u32) -> Result<Piece
 #[cycle(held)]
 #[tactic(auto, using(crate::proofs::HeldBounds::need_least))]
 fn held_read(alloc: Global, names: &Names, place: &Place, k: u32) -> Result<Piece, NoMemory>
-    requires room { words_of (lvalue_read (lvalue_of place.now)) ≤ 1000 }
+    requires room { words_of (lvalue_read (lvalue_of place.now)) ≤ EXPRESSION_WORDS }
     requires few { k + need_of (lvalue_read (lvalue_of place.now)) ≤ 9 }
     ensures { IfOk result (λ p.
         p ≡ unmarked (held_cells (spot_of_name (known_by names.now))
@@ -601,7 +602,7 @@ fn both_told(
     second: Piece,
     k: u32,
 ) -> Result<Piece, NoMemory>
-    requires left { words_of (expression_of left.now) ≤ 1000 }
+    requires left { words_of (expression_of left.now) ≤ EXPRESSION_WORDS }
     requires first { first.marks ≡ [] }
     requires second { second.marks ≡ [] }
     requires few { k + (told_need_of (expression_of left.now) +
@@ -636,7 +637,7 @@ fn right_at(kind: Kind, left: &Expr, right: &Expr, k: u32) -> u32
     requires few { k + (own_of kind (truth_is (expression_of left.now))
         (truth_is (expression_of right.now)) + (need_of (expression_of left.now) +
         need_of (expression_of right.now))) ≤ 9 }
-    requires room { words_of (expression_of left.now) ≤ 1000 }
+    requires room { words_of (expression_of left.now) ≤ EXPRESSION_WORDS }
     ensures value { result ≡ right_place kind (truth_is (expression_of left.now))
         (truth_is (expression_of right.now)) (need_of (expression_of left.now)) k }
     ensures few { result ≤ k + (own_of kind (truth_is (expression_of left.now))
@@ -652,7 +653,7 @@ fn right_at(kind: Kind, left: &Expr, right: &Expr, k: u32) -> u32
 
 // What opens the operands of an operator, by their fragments.
 fn operands(alloc: Global, e: &Expr, first: Piece, second: Piece, k: u32) -> Result<Piece, NoMemory>
-    requires room { words_of (expression_of e.now) ≤ 1000 }
+    requires room { words_of (expression_of e.now) ≤ EXPRESSION_WORDS }
     requires first { first.marks ≡ [] }
     requires second { second.marks ≡ [] }
     requires few { k + need_of (expression_of e.now) ≤ 9 }
@@ -692,7 +693,7 @@ fn operator_core(
     right: &Expr,
     k: u32,
 ) -> Result<Piece, NoMemory>
-    requires room { words_of (expression_of left.now) ≤ 1000 }
+    requires room { words_of (expression_of left.now) ≤ EXPRESSION_WORDS }
     requires few { k + (own_of (kind_of op) (truth_is (expression_of left.now))
         (truth_is (expression_of right.now)) + (need_of (expression_of left.now) +
         need_of (expression_of right.now))) ≤ 9 }
@@ -721,7 +722,7 @@ fn operator_core(
 #[cycle(held)]
 #[tactic(auto, using(crate::proofs::HeldBounds::need_least))]
 pub fn held(alloc: Global, names: &Names, e: &Expr, k: u32) -> Result<Piece, NoMemory>
-    requires room { words_of (expression_of e.now) ≤ 1000 }
+    requires room { words_of (expression_of e.now) ≤ EXPRESSION_WORDS }
     requires few { k + need_of (expression_of e.now) ≤ 9 }
     ensures { IfOk result (λ p.
         p ≡ unmarked (held_cells (spot_of_name (known_by names.now)) (expression_of e.now) k)) }
@@ -754,7 +755,7 @@ pub fn held_place(
     name: &Text,
     index: &Expr,
 ) -> Result<Piece, NoMemory>
-    requires room { words_of (expression_of index.now) ≤ 1000 }
+    requires room { words_of (expression_of index.now) ≤ EXPRESSION_WORDS }
     requires few { 2 + need_of (expression_of index.now) ≤ 9 }
     ensures { IfOk result (λ p.
         p ≡ unmarked (element_cells (spot_of_name (known_by names.now)) name.now
@@ -766,7 +767,7 @@ pub fn held_place(
 
 fn plain(alloc: Global, e: &Expr, names: &Names, into: u8) -> Result<Piece, NoMemory>
     requires register { Target into }
-    requires room { words_of (expression_of e.now) ≤ 1000 }
+    requires room { words_of (expression_of e.now) ≤ EXPRESSION_WORDS }
     requires few { need_of (expression_of e.now) < 10 }
     ensures { IfOk result (λ p.
         p ≡ unmarked (around (held_cells (spot_of_name (known_by names.now))
@@ -786,7 +787,7 @@ fn plain_read(
 ) -> Result<Piece, NoMemory>
     requires same { expression_of e.now ≡ lvalue_read (lvalue_of place.now) }
     requires register { Target into }
-    requires room { words_of (expression_of e.now) ≤ 1000 }
+    requires room { words_of (expression_of e.now) ≤ EXPRESSION_WORDS }
     requires few { need_of (expression_of e.now) < 10 }
     ensures { IfOk result (λ p.
         p ≡ unmarked (held_value_cells (spot_of_name (known_by names.now))
@@ -809,8 +810,8 @@ fn given(
     into: u8,
 ) -> Result<Piece, NoMemory>
     requires register { Target into }
-    requires left { words_of (expression_of left.now) ≤ 1000 }
-    requires right { words_of (expression_of right.now) ≤ 1000 }
+    requires left { words_of (expression_of left.now) ≤ EXPRESSION_WORDS }
+    requires right { words_of (expression_of right.now) ≤ EXPRESSION_WORDS }
     requires few { need_of (expression_of left.now) + need_of (expression_of right.now) < 9 }
     ensures { IfOk result (λ p.
         p ≡ unmarked (around (before (zero_is (expression_of right.now))
@@ -844,8 +845,8 @@ fn given_joined(
     into: u8,
 ) -> Result<Piece, NoMemory>
     requires register { Target into }
-    requires left { words_of (expression_of left.now) ≤ 1000 }
-    requires right { words_of (expression_of right.now) ≤ 1000 }
+    requires left { words_of (expression_of left.now) ≤ EXPRESSION_WORDS }
+    requires right { words_of (expression_of right.now) ≤ EXPRESSION_WORDS }
     requires few { told_need_of (expression_of left.now) +
         told_need_of (expression_of right.now) < 9 }
     ensures { IfOk result (λ p.
@@ -868,7 +869,7 @@ fn given_joined(
 /// The value of an expression with few parts xored into a register.
 pub fn held_value(alloc: Global, e: &Expr, names: &Names, into: u8) -> Result<Piece, NoMemory>
     requires register { Target into }
-    requires room { words_of (expression_of e.now) ≤ 1000 }
+    requires room { words_of (expression_of e.now) ≤ EXPRESSION_WORDS }
     requires few { need_of (expression_of e.now) < 10 }
     ensures { IfOk result (λ p.
         p ≡ unmarked (held_value_cells (spot_of_name (known_by names.now)) (expression_of e.now)
@@ -895,7 +896,7 @@ pub fn held_value(alloc: Global, e: &Expr, names: &Names, into: u8) -> Result<Pi
 // The truth value of a value, if it is a variable while its word is out.
 fn held_truth(alloc: Global, e: &Expr, names: &Names, into: u8) -> Result<Piece, NoMemory>
     requires register { Target into }
-    requires room { words_of (expression_of e.now) ≤ 1000 }
+    requires room { words_of (expression_of e.now) ≤ EXPRESSION_WORDS }
     requires few { need_of (expression_of e.now) < 10 }
     ensures { IfOk result (λ p.
         p ≡ unmarked (held_truth_cells (spot_of_name (known_by names.now)) (expression_of e.now)
@@ -913,7 +914,7 @@ fn held_truth(alloc: Global, e: &Expr, names: &Names, into: u8) -> Result<Piece,
 /// Whether it is true xored into a register.
 pub fn held_test(alloc: Global, e: &Expr, names: &Names, into: u8) -> Result<Piece, NoMemory>
     requires register { Target into }
-    requires room { words_of (expression_of e.now) ≤ 1000 }
+    requires room { words_of (expression_of e.now) ≤ EXPRESSION_WORDS }
     requires few { need_of (expression_of e.now) < 10 }
     ensures { IfOk result (λ p.
         p ≡ unmarked (held_test_cells (spot_of_name (known_by names.now)) (expression_of e.now)

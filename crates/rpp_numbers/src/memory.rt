@@ -2,7 +2,7 @@
 ghost use Rattle.std.specs.Prelude.{◌≡◌};
 
 use code_conventions::memory::{
-    COUNT_WORD, FIRST_FIELD, FIRST_VARIABLE, LINK_WORD, MAIN_OBJECT, MOST_VARIABLES, OBJECT_WORD,
+    COUNT_WORD, EXPRESSION_WORDS, FIRST_FIELD, FIRST_VARIABLE, LINK_WORD, MAIN_OBJECT, MOST_VARIABLES, OBJECT_WORD,
     PLACE_WORD, TABLE_HEADER,
 };
 use pisa_isa::{END_CELL, HEAP_CELL, LIST_HEADS, ORDER_CELL, STACK_CELL};
@@ -22,4 +22,6 @@ pub fn memory_numbers()
     // The frame of a call.
     ensures frames { (FRAME_WORDS ≡ 512) × (LINK_WORD ≡ 0) × (OBJECT_WORD ≡ 1) × (PLACE_WORD ≡ 2)
         × (FIRST_VARIABLE ≡ 16) × (MOST_VARIABLES ≡ 48) }
+    // The words of expressions.
+    ensures expressions { EXPRESSION_WORDS ≡ 1_000 }
 {}

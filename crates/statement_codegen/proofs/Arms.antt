@@ -42,6 +42,7 @@ use Rattle.statement_codegen.proofs.Stands.{update_stands, swap_stands}
 use Rattle.statement_codegen.specs.Pieces.{StatementStands, InnerPiece, BlockPiece}
 use Rattle.statement_codegen.proofs.ElementCalls.{popped}
 use Rattle.statement_codegen.proofs.Pieces.{tokens_are, place_tokens_are, plain_inner, if_inner, from_inner, local_inner}
+use Rattle.branch_codegen.specs.code_conventions.declared.memory.TheConstants.{EXPRESSION_WORDS}
 
 pub if_ok : {A E : Type 0} {P Q : A → Type 0} (r : Result A E) → ((a : A) → P a → Q a) → IfOk r P → IfOk r Q
 if_ok (Ok a) f h = f a h
@@ -50,7 +51,7 @@ if_ok (Err e) f h = h
 -- ---- space for the subexpressions
 
 pub update_room : (v : Visible) (x : Statement) (at : ℕ) (op : UpdateOp) (target : Lvalue) (value : Expression)
-    → x ≡ Update at op target value → StatementStands v x → place_words target + words value ≤ 1000
+    → x ≡ Update at op target value → StatementStands v x → place_words target + words value ≤ EXPRESSION_WORDS
 update_room v x at op target value is h =
     let n : index_nodes target + nodes value ≤ 64 = (subst (StatementStands v) is h).allowed.few_nodes in
     let a = words_most value in
@@ -58,27 +59,27 @@ update_room v x at op target value is h =
     omega (arith, n, a, b)
 
 pub swap_room : (v : Visible) (x : Statement) (at : ℕ) (left right : Lvalue) → x ≡ Swap at left right
-    → StatementStands v x → place_words left + place_words right ≤ 1000
+    → StatementStands v x → place_words left + place_words right ≤ EXPRESSION_WORDS
 swap_room v x at left right is h =
     let n : index_nodes left + index_nodes right ≤ 64 = (subst (StatementStands v) is h).allowed.few_nodes in
     let a = place_words_most left in
     let b = place_words_most right in
     omega (arith, n, a, b)
 
-few_words : (e f : Expression) → nodes e + nodes f ≤ 64 → (words e ≤ 1000) × (words f ≤ 1000)
+few_words : (e f : Expression) → nodes e + nodes f ≤ 64 → (words e ≤ EXPRESSION_WORDS) × (words f ≤ EXPRESSION_WORDS)
 few_words e f n = let a = words_most e in let b = words_most f in (omega (arith, n, a), omega (arith, n, b))
 
 pub if_room : (v : Visible) (x : Statement) (at : ℕ) (test after : Expression) (taken other : Statements)
-    → x ≡ If at test taken other after → StatementStands v x → (words test ≤ 1000) × (words after ≤ 1000)
+    → x ≡ If at test taken other after → StatementStands v x → (words test ≤ EXPRESSION_WORDS) × (words after ≤ EXPRESSION_WORDS)
 if_room v x at test after taken other is h = few_words test after (subst (StatementStands v) is h).allowed.few_nodes
 
 pub from_room : (v : Visible) (x : Statement) (at : ℕ) (entry exit : Expression) (first again : Statements)
-    → x ≡ From at entry first again exit → StatementStands v x → (words entry ≤ 1000) × (words exit ≤ 1000)
+    → x ≡ From at entry first again exit → StatementStands v x → (words entry ≤ EXPRESSION_WORDS) × (words exit ≤ EXPRESSION_WORDS)
 from_room v x at entry exit first again is h = few_words entry exit (subst (StatementStands v) is h).allowed.few_nodes
 
 pub local_room : (v : Visible) (x : Statement) (at : ℕ) (var : Var) (value : Expression) (body : Statements)
     (end_var : Var) (last : Expression) → x ≡ Local at var value body end_var last → StatementStands v x
-    → (words value ≤ 1000) × (words last ≤ 1000)
+    → (words value ≤ EXPRESSION_WORDS) × (words last ≤ EXPRESSION_WORDS)
 local_room v x at var value body end_var last is h = few_words value last
     (subst (StatementStands v) is h).allowed.few_nodes
 
@@ -121,7 +122,7 @@ some_each (first ∷ second ∷ rest) = let a = some_each (second ∷ rest) in o
 -- ---- space for a call on an element
 
 pub element_room : (v : Visible) (at : ℕ) (back : Bool) (element : Lvalue) (method : Ident) (args : List Ident)
-    → StatementStands v (Call at back (Some element) method args) → place_words element ≤ 1000
+    → StatementStands v (Call at back (Some element) method args) → place_words element ≤ EXPRESSION_WORDS
 element_room v at back element method args h = let n : index_nodes element ≤ 64 = h.allowed.few_nodes in let a =
     place_words_most element in omega (arith, n, a)
 

@@ -26,11 +26,12 @@ use Rattle.statement_codegen.specs.Pieces.{BlockPiece}
 use Rattle.statement_codegen.proofs.Pieces.{tokens_are, place_tokens_are, plain_inner, construct_inner}
 use Rattle.statement_codegen.proofs.ObjectStands.{copy_stands, uncopy_stands, few_creation_words, new_stands, delete_stands}
 use Rattle.statement_codegen.proofs.ObjectStands.{constructed_new}
+use Rattle.branch_codegen.specs.code_conventions.declared.memory.TheConstants.{EXPRESSION_WORDS}
 
 -- ---- copies
 
 pub copy_room : (v : Visible) (x : Statement) (at : ℕ) (kind : VarType) (source target : Lvalue)
-    → x ≡ Copy at kind source target → StatementStands v x → place_words source + place_words target ≤ 1000
+    → x ≡ Copy at kind source target → StatementStands v x → place_words source + place_words target ≤ EXPRESSION_WORDS
 copy_room v x at kind source target is h =
     let n : index_nodes source + index_nodes target ≤ 64 = (subst (StatementStands v) is h).allowed.few_nodes in
     let a = place_words_most source in
@@ -38,7 +39,7 @@ copy_room v x at kind source target is h =
     omega (arith, n, a, b)
 
 pub uncopy_room : (v : Visible) (x : Statement) (at : ℕ) (kind : VarType) (source target : Lvalue)
-    → x ≡ Uncopy at kind source target → StatementStands v x → place_words source + place_words target ≤ 1000
+    → x ≡ Uncopy at kind source target → StatementStands v x → place_words source + place_words target ≤ EXPRESSION_WORDS
 uncopy_room v x at kind source target is h =
     let n : index_nodes source + index_nodes target ≤ 64 = (subst (StatementStands v) is h).allowed.few_nodes in
     let a = place_words_most source in
@@ -79,14 +80,14 @@ uncopy_arm v x at kind source target copy (Ok p) is h law size mirrored =
 -- ---- objects and arrays
 
 pub new_room : (v : Visible) (x : Statement) (at : ℕ) (made : Creation) (target : Lvalue) → x ≡ New at made target
-    → StatementStands v x → creation_words made target ≤ 1000
+    → StatementStands v x → creation_words made target ≤ EXPRESSION_WORDS
 new_room v x at made target is h =
     let n : creation_nodes made + index_nodes target ≤ 64 = (subst (StatementStands v) is h).allowed.few_nodes in
     let few = few_creation_words made target n in
     omega (arith, few)
 
 pub delete_room : (v : Visible) (x : Statement) (at : ℕ) (made : Creation) (target : Lvalue) → x ≡ Delete at made target
-    → StatementStands v x → creation_words made target ≤ 1000
+    → StatementStands v x → creation_words made target ≤ EXPRESSION_WORDS
 delete_room v x at made target is h =
     let n : creation_nodes made + index_nodes target ≤ 64 = (subst (StatementStands v) is h).allowed.few_nodes in
     let few = few_creation_words made target n in

@@ -15,6 +15,7 @@ ghost use Rattle.statement_codegen.specs.Laws.{element_type as type_of_element, 
 use crate::calls::call_code;
 use crate::locals::local_code;
 use branch_codegen::{Scope, swap_code};
+use code_conventions::memory::EXPRESSION_WORDS;
 use paired_code::{Piece, seq};
 use rpp_tree::Text;
 use rpp_tree::tree::{Expr, Ident, Place, Var, VarType};
@@ -63,7 +64,7 @@ fn exchange_code(
     element: &Place,
     scope: &Scope,
 ) -> Result<Piece, NoMemory>
-    requires room { words_of_place (lvalue_of element.now) ≤ 1000 }
+    requires room { words_of_place (lvalue_of element.now) ≤ EXPRESSION_WORDS }
     ensures law { IfOk result (λ p.
         SwapLaw (spot_of_name (known_in scope.now)) (free_of (known_in scope.now)) (Whole name.now)
         (lvalue_of element.now) p.cells) }
@@ -90,7 +91,7 @@ fn exchanged_call(
 ) -> Result<Piece, NoMemory>
     requires named { name.now ≡ element_name at }
     requires few { length args.now ≤ 32 }
-    requires room { words_of_place (lvalue_of element.now) ≤ 1000 }
+    requires room { words_of_place (lvalue_of element.now) ≤ EXPRESSION_WORDS }
     ensures law { IfOk result (λ p.
         ExchangedCall scope.now at back (lvalue_of element.now) method.now args.now p.cells) }
     ensures none { IfOk result (λ p. p.marks ≡ []) }
@@ -120,7 +121,7 @@ pub fn element_call_code(
 ) -> Result<Piece, NoMemory>
     requires few { length args.now ≤ 32 }
     requires free { length scope.old.variables < MOST_VARIABLES }
-    requires room { words_of_place (lvalue_of element.now) ≤ 1000 }
+    requires room { words_of_place (lvalue_of element.now) ≤ EXPRESSION_WORDS }
     ensures law { IfOk result (λ p.
         ElementLaw scope.old at back (lvalue_of element.now) method.now args.now p.cells) }
     ensures none { IfOk result (λ p. p.marks ≡ []) }

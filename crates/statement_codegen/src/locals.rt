@@ -12,6 +12,7 @@ ghost use Rattle.refine_objects.specs.object_codegen.Creations.{NewLaw, creation
 ghost use Rattle.statement_codegen.specs.Laws.{LocalLaw, ConstructLaw};
 
 use branch_codegen::{Scope, value_code};
+use code_conventions::memory::EXPRESSION_WORDS;
 use code_conventions::registers::VALUE;
 use method_calls::local_block;
 use paired_code::{Piece, mirror, seq};
@@ -31,8 +32,8 @@ pub fn local_code(
     last: &Expr,
     scope: &Scope,
 ) -> Result<Piece, NoMemory>
-    requires value_room { words_of (expression_of value.now) ≤ 1000 }
-    requires last_room { words_of (expression_of last.now) ≤ 1000 }
+    requires value_room { words_of (expression_of value.now) ≤ EXPRESSION_WORDS }
+    requires last_room { words_of (expression_of last.now) ≤ EXPRESSION_WORDS }
     ensures law { IfOk result (λ p.
         LocalLaw (known_in scope.now) _var.now (expression_of value.now) (expression_of last.now)
         body.cells p.cells) }
