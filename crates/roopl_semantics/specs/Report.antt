@@ -10,7 +10,7 @@ use Rattle.inverse_rules.specs.rpp_tree.Tree.{Source}
 use Rattle.class_rules.specs.Members.{class_at}
 use Rattle.class_rules.specs.Classes.{class_fields}
 use Rattle.roopl_semantics.specs.Store.{Value, Word, Nil, Name, Head, OfClass, OfInts, OfObjects}
-use Rattle.roopl_semantics.specs.Store.{Store, main_name, object_at}
+use Rattle.roopl_semantics.specs.Store.{Store, main_name, object_at, Object}
 use Rattle.roopl_semantics.specs.Source.{main_fields}
 
 abbrev pub Text : Type 0
@@ -82,15 +82,21 @@ cell_lines program names (OfClass class) cells =
 cell_lines program names (OfInts length) cells = element_lines names 0 cells
 cell_lines program names (OfObjects class length) cells = element_lines names 0 cells
 
--- the head line `#K HEAD count C` of each object, and the lines of its cells
+-- `#K HEAD count C`, after the number
+abbrev pub head_line : (number : Text) → Source → Head → (count : ℕ) → Text
+head_line number program head count =
+    number ++ codes " " ++ head_shown program head ++ codes " count " ++ decimal count ++ line_end
+
+-- the head line of an object, and the lines of its cells
+abbrev pub object_text : Source → List ℕ → ℕ → Object → Text
+object_text program names name object =
+    head_line (number_shown names name) program object.head object.count
+    ++ cell_lines program names object.head object.cells
+
 abbrev pub object_lines : Source → Store → List ℕ → List ℕ → Text
 object_lines program store names [] = []
 object_lines program store names (name ∷ rest) =
-    let object = object_at store name in
-    number_shown names name ++ codes " " ++ head_shown program object.head ++ codes " count "
-    ++ decimal object.count ++ line_end
-    ++ cell_lines program names object.head object.cells
-    ++ object_lines program store names rest
+    object_text program names name (object_at store name) ++ object_lines program store names rest
 
 abbrev pub live_line : ℕ → Text
 live_line live = codes "live " ++ decimal live ++ line_end

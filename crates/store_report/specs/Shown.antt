@@ -1,13 +1,11 @@
 -- The text of what is met, as the code makes it.
 use Rattle.std.specs.Prelude.{ℕ, ◌+◌, List, [], ◌∷◌, ◌++◌, map, length, replicate, codes}
-use Rattle.std.specs.Fmt.{decimal}
-use Rattle.refine_frame.specs.rpp_words.Texts.{line_end}
 use Rattle.rpp_tree.specs.declared.tree.Var.{Var}
 use Rattle.rpp_tree.specs.Tree.{Source}
 use Rattle.refine_frame.specs.class_rules.Table.{Table, fields_in}
 use Rattle.static_layout.specs.roopl_semantics.Store.{Value, Word, Head, OfClass, OfInts, OfObjects}
-use Rattle.static_layout.specs.roopl_semantics.Report.{Text, number_shown, field_lines, element_lines, head_shown}
-use Rattle.static_layout.specs.roopl_semantics.Report.{live_line}
+use Rattle.static_layout.specs.roopl_semantics.Report.{Text, number_shown, field_lines, element_lines}
+use Rattle.static_layout.specs.roopl_semantics.Report.{live_line, head_line}
 use Rattle.pisa_machine.specs.pisa_isa.Loaded.{statics_at}
 use Rattle.pisa_machine.specs.pisa_isa.Machine.{word_at}
 use Rattle.refine_frame.specs.code_conventions.declared.memory.TheConstants.{COUNT_WORD, HEADER_WORDS}
@@ -53,9 +51,8 @@ cells_by table tables cells names at (lead.Objects class) word =
 -- the head line and the lines of what is met at an address
 abbrev pub object_by : Source → Table → List ℕ → List ℕ → List ℕ → ℕ × Lead → Text
 object_by program table tables cells names entry =
-    number_shown names entry.0 ++ codes " "
-    ++ head_shown program (head_by tables entry.1 (word_at cells entry.0))
-    ++ codes " count " ++ decimal (word_at cells (entry.0 + COUNT_WORD)) ++ line_end
+    head_line (number_shown names entry.0) program (head_by tables entry.1 (word_at cells entry.0))
+    (word_at cells (entry.0 + COUNT_WORD))
     ++ cells_by table tables cells names entry.0 entry.1 (word_at cells entry.0)
 
 abbrev pub objects_by : Source → Table → List ℕ → List ℕ → List ℕ → Met → Text

@@ -1,10 +1,8 @@
 -- What the cells of a memory say about the reachable objects, and the report of them. Names are
 -- addresses here.
-use Rattle.std.specs.Prelude.{ℕ, ◌+◌, nat_eq, List, [], ◌∷◌, ◌++◌, length, map, codes}
+use Rattle.std.specs.Prelude.{ℕ, ◌+◌, nat_eq, List, [], ◌∷◌, ◌++◌, length, map}
 use Rattle.std.specs.Prelude.{if◌then◌else◌}
 use Rattle.std.specs.Option.{unwrap_or}
-use Rattle.std.specs.Fmt.{decimal}
-use Rattle.refine_frame.specs.rpp_words.Texts.{line_end}
 use Rattle.rpp_tree.specs.declared.tree.VarType.{VarType}
 use Rattle.rpp_tree.specs.declared.tree.VarType.TheVariants as kind
 use Rattle.rpp_tree.specs.Tree.{Source}
@@ -12,8 +10,8 @@ use Rattle.refine_frame.specs.class_rules.Classes.{class_number}
 use Rattle.static_layout.specs.roopl_semantics.Store.{Value, Word, Nil, Name, Head, OfClass, OfInts, OfObjects}
 use Rattle.static_layout.specs.roopl_semantics.Store.{Object}
 use Rattle.static_layout.specs.roopl_semantics.Source.{main_fields}
-use Rattle.static_layout.specs.roopl_semantics.Report.{Text, number_shown, field_lines, head_shown, cell_lines}
-use Rattle.static_layout.specs.roopl_semantics.Report.{live_line}
+use Rattle.static_layout.specs.roopl_semantics.Report.{Text, field_lines}
+use Rattle.static_layout.specs.roopl_semantics.Report.{live_line, object_text}
 use Rattle.static_layout.specs.roopl_semantics.Walk.{class_with_table, types_of, Reference, types_at}
 use Rattle.static_layout.specs.roopl_semantics.Walk.{reached}
 use Rattle.pisa_machine.specs.pisa_isa.Loaded.{statics_at}
@@ -61,10 +59,7 @@ address_of reference = reference.at
 abbrev pub lines_told : Source → List ℕ → List ℕ → List Reference → Text
 lines_told program cells addresses [] = []
 lines_told program cells addresses (reference ∷ rest) =
-    let object = object_told program cells reference in
-    number_shown addresses reference.at ++ codes " " ++ head_shown program object.head
-    ++ codes " count " ++ decimal object.count ++ line_end
-    ++ cell_lines program addresses object.head object.cells
+    object_text program addresses reference.at (object_told program cells reference)
     ++ lines_told program cells addresses rest
 
 -- the report from the cells of a memory
