@@ -17,7 +17,7 @@ use Rattle.refine_form.specs.roopl_semantics.Store.{State, object_at, class_of_h
 use Rattle.refine_form.specs.roopl_semantics.Layout.{no_placing}
 use Rattle.refine_form.specs.meaning_sound.Plain.{HasWords}
 use Rattle.refine_form.specs.Form.{Scope}
-use Rattle.refine_form.specs.Frames.{Caller, Under, cell_in, address_of}
+use Rattle.refine_form.specs.Frames.{Caller, Under, spare_words, cell_in, address_of}
 use Rattle.refine_form.specs.Stands.{shape_of, spot_in}
 use Rattle.refine_form.specs.Worlds.{Place, world_of}
 use Rattle.method_calls.specs.Facts.{IsNear, Known, Receivers}
@@ -84,7 +84,7 @@ class_named program s x =
 
 -- the frame with a link and a place saved
 abbrev pub put : Under → ℕ → ℕ → Under
-put u link place = record u { put_by = link ∷ slice_index u.put_by 1 ∷ place ∷ replicate 13 0 }
+put u link place = record u { put_by = link ∷ slice_index u.put_by 1 ∷ place ∷ spare_words }
 
 -- the current frame as a frame below
 abbrev pub caller_of : Scope → Under → State → Caller
@@ -115,7 +115,7 @@ deeper_on p s u st name = record {
   class = class_of_head (object_at st.store name).head;
   object = address_of p.setting p.statics
       (unwrap_or (place p.setting.limits.heap st.log) no_placing) name;
-  put_by = 0 ∷ u.object ∷ replicate 14 0;
+  put_by = 0 ∷ u.object ∷ 0 ∷ spare_words;
 }
 
 -- what is known at a place, if this is the routine of a method in a class

@@ -1,7 +1,7 @@
 -- Addresses of a current frame, its class's table, and what is saved in it.
 use Rattle.std.proofs.Common.{◌≡◌, ℕ, ◌+◌, ◌*◌, ◌^◌, ◌<◌, ◌≤◌, Bool, true, false, List, [], ◌∷◌, length, refl, sym}
 use Rattle.std.proofs.Common.{subst, arith}
-use Rattle.std.specs.Prelude.{replicate, nat_eq, slice_index, slice_set, not, nat_lt, if◌then◌else◌}
+use Rattle.std.specs.Prelude.{nat_eq, slice_index, slice_set, not, nat_lt, if◌then◌else◌}
 use Rattle.buddy_pisa.specs.rpp_words.declared.input.TheConstants.{FRAME_WORDS, FIXED_CELLS}
 use Rattle.method_calls.specs.code_conventions.declared.memory.TheConstants.{HEADER_WORDS, OBJECT_WORD, PLACE_WORD}
 use Rattle.buddy_pisa.specs.buddy_book.Place.{Placing, block_of}
@@ -16,7 +16,7 @@ use Rattle.method_calls.proofs.refine_frame_laws.Memory.{base_above}
 use Rattle.method_calls.proofs.refine_frame_laws.Tells.{cells_small}
 use Rattle.method_calls.specs.refine_form.Form.{Scope, Moved}
 use Rattle.method_calls.specs.Facts.{HasEnd, HasWords}
-use Rattle.method_calls.specs.refine_form.Frames.{Under, base, stack_base, address_of, OpenFrame}
+use Rattle.method_calls.specs.refine_form.Frames.{Under, base, stack_base, address_of, OpenFrame, spare_words}
 use Rattle.refine_calls.proofs.FramesFit.{has_end, link_word, place_word, put_opens}
 use Rattle.method_calls.specs.refine_form.Stands.{setup, Kept, Stands}
 use Rattle.method_calls.specs.Names.{put}
@@ -112,10 +112,10 @@ module _ (setting : Setting) (statics : List ℕ) (few : length statics ≤ MOST
   saves s u st cells h f = record {
     words_in = words_inside s u st cells h;
     link_word = link_word setting statics s u [] st cells h.frame 0 (slice_index u.put_by OBJECT_WORD) 0
-        (replicate 13 0) f.is
+        spare_words f.is
         (before_long setting statics s u [] st cells (reads_of h));
     place_word = place_word setting statics s u [] st cells h.frame 0 (slice_index u.put_by OBJECT_WORD) 0
-        (replicate 13 0) f.is
+        spare_words f.is
         (before_long setting statics s u [] st cells (reads_of h));
   }
 
@@ -124,7 +124,7 @@ module _ (setting : Setting) (statics : List ℕ) (few : length statics ≤ MOST
       → Stands setting statics s (put u link place) [] st (slice_set
       (slice_set cells (frame_address setting statics u) link) (frame_address setting statics u + PLACE_WORD) place)
   puts s u st cells link place h f lw pw = record {
-    frame = put_opens setting statics s u [] st cells h.frame 0 (slice_index u.put_by OBJECT_WORD) 0 (replicate 13 0)
+    frame = put_opens setting statics s u [] st cells h.frame 0 (slice_index u.put_by OBJECT_WORD) 0 spare_words
         f.is
         (before_long setting statics s u [] st cells (reads_of h)) link place;
     keeps = kept_put s u st link place h.keeps;
@@ -141,10 +141,10 @@ module _ (setting : Setting) (statics : List ℕ) (few : length statics ≤ MOST
     words_in = words_inside s (put u link place) st cells h;
     link_word = link_word setting statics s (put u link place) [] st cells h.frame link
         (slice_index u.put_by OBJECT_WORD) place
-        (replicate 13 0) refl (before_long setting statics s (put u link place) [] st cells (reads_of h));
+        spare_words refl (before_long setting statics s (put u link place) [] st cells (reads_of h));
     place_word = place_word setting statics s (put u link place) [] st cells h.frame link
         (slice_index u.put_by OBJECT_WORD) place
-        (replicate 13 0) refl (before_long setting statics s (put u link place) [] st cells (reads_of h));
+        spare_words refl (before_long setting statics s (put u link place) [] st cells (reads_of h));
   }
 
   pub puts_back : (s : Scope) (u : Under) (st : State) (cells : List ℕ) (link place : ℕ)
@@ -155,11 +155,11 @@ module _ (setting : Setting) (statics : List ℕ) (few : length statics ≤ MOST
       let F = frame_address setting statics u in
       let o : OpenFrame setting statics s (record u {
         put_by = 0 ∷ slice_index u.put_by OBJECT_WORD ∷ 0
-            ∷ replicate 13 0;
+            ∷ spare_words;
       }) [] st
       (slice_set (slice_set cells F 0) (F + PLACE_WORD) 0) =
       put_opens setting statics s (put u link place) [] st cells h.frame link (slice_index u.put_by OBJECT_WORD) place
-      (replicate 13 0) refl (before_long setting statics s (put u link place) [] st cells (reads_of h)) 0 0 in
+      spare_words refl (before_long setting statics s (put u link place) [] st cells (reads_of h)) 0 0 in
       let c : slice_set (slice_set cells F 0) (F + PLACE_WORD) 0 ≡ slice_set (slice_set cells (F + PLACE_WORD) 0) F 0 =
       set_apart cells F (F + PLACE_WORD) 0 0 (λ e. omega (arith, e)) in
       record {

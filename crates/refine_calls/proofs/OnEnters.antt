@@ -3,7 +3,7 @@
 use Rattle.std.proofs.Common.{◌≡◌, ◌≢◌, ℕ, ◌+◌, ◌<◌, Bool, true, false, List, [], ◌∷◌, length, map, Some, refl, sym, ap}
 use Rattle.std.proofs.Common.{◌∙◌, subst, arith}
 use Rattle.std.proofs.lemmas.Bool.{ltb-true, ltb-false}
-use Rattle.std.specs.Prelude.{replicate, nat_lt, if◌then◌else◌}
+use Rattle.std.specs.Prelude.{nat_lt, if◌then◌else◌}
 use Rattle.method_calls.specs.class_rules.declared.kind.Kind.TheVariants as kind
 use Rattle.method_calls.specs.rpp_tree.declared.tree.Ident.{Ident}
 use Rattle.method_calls.specs.class_rules.declared.kind.Kind.{Kind}
@@ -15,7 +15,7 @@ use Rattle.method_calls.proofs.meaning_sound_laws.Objects.{all_live}
 use Rattle.method_calls.proofs.meaning_sound_laws.Stores.{same_number, other_number}
 use Rattle.method_calls.proofs.meaning_sound_laws.Invocations.{types_of_params, bound_values}
 use Rattle.method_calls.specs.refine_form.Form.{Scope, Moved, pairs}
-use Rattle.method_calls.specs.refine_form.Frames.{Under, cell_in}
+use Rattle.method_calls.specs.refine_form.Frames.{Under, cell_in, spare_words}
 use Rattle.method_calls.specs.refine_form.Stands.{shape_of, extra, receiver_held, Kept}
 use Rattle.method_calls.specs.refine_form.Worlds.{Place}
 use Rattle.method_calls.specs.Names.{deeper_on}
@@ -60,7 +60,7 @@ module _ (place : Place) where
 
   -- the caller's object in word 1 counts the receiver
   pub receiver_once : (u : Under) (n : ℕ) → 0 < u.object → (m : ℕ)
-      → receiver_held m n (0 ∷ u.object ∷ replicate 14 0) ≡ one_if_name m (Name n)
+      → receiver_held m n (0 ∷ u.object ∷ 0 ∷ spare_words) ≡ one_if_name m (Name n)
   receiver_once u n positive m = ap (λ b. if b then 0 else one_if_name m (Name n))
       (other_number u.object 0 (λ e. omega (arith, e, positive)))
 

@@ -2,7 +2,7 @@
 use Rattle.std.proofs.Common.{◌≡◌, ◌≢◌, ℕ, zero, suc, ◌+◌, ◌^◌, ◌<◌, ◌≤◌, Bool, true, false, List, [], ◌∷◌, length, map}
 use Rattle.std.proofs.Common.{Option, Some, None, refl, sym, ap, ◌∙◌, subst, arith}
 use Rattle.std.proofs.lemmas.List.{length-map, length-set, get_or-set_other}
-use Rattle.std.specs.Prelude.{replicate, slice_index, slice_set, nat_eq, if◌then◌else◌}
+use Rattle.std.specs.Prelude.{slice_index, slice_set, nat_eq, if◌then◌else◌}
 use Rattle.std.specs.Option.{unwrap_or, option_map}
 use Rattle.method_calls.specs.code_conventions.declared.memory.TheConstants.{OBJECT_WORD}
 use Rattle.buddy_pisa.specs.rpp_words.declared.input.TheConstants.{FRAME_WORDS, FIXED_CELLS}
@@ -34,7 +34,7 @@ use Rattle.method_calls.proofs.refine_frame_laws.Tells.{IsReference, reference_r
 use Rattle.method_calls.specs.refine_form.Form.{Scope, Moved, Routines, pairs}
 use Rattle.method_calls.specs.refine_form.Frames.{Under, base, stack_base, address_of, value_word, before_stack}
 use Rattle.method_calls.specs.refine_form.Frames.{cell_in}
-use Rattle.method_calls.specs.refine_form.Frames.{OpenFrame}
+use Rattle.method_calls.specs.refine_form.Frames.{OpenFrame, spare_words}
 use Rattle.method_calls.specs.refine_form.Stands.{shape_of, extra, moved_values, spot_in, setup, Kept, Reads, Stands}
 use Rattle.method_calls.specs.refine_form.Worlds.{Place, world_of}
 use Rattle.method_calls.specs.Facts.{ReceiverWords, OnFacts, ReceiverFacts, GoesOn, ComesBack, HasPlace, address}
@@ -394,8 +394,8 @@ module _ (place : Place) (routine : ℕ → Ident → ℕ) (linked : IsLinked pl
     up_same = omega arith
 
     abbrev objected : OpenFrame setting statics s1 (record (deeper s u st1)
-        { put_by = 0 ∷ u.object ∷ 0 ∷ replicate 13 0 }) [] called (slice_set cells1 up_there u.object)
-    objected = put_object setting statics s1 (deeper s u st1) [] called cells1 entered 0 0 0 (replicate 13 0) refl long1
+        { put_by = 0 ∷ u.object ∷ 0 ∷ spare_words }) [] called (slice_set cells1 up_there u.object)
+    objected = put_object setting statics s1 (deeper s u st1) [] called cells1 entered 0 0 0 spare_words refl long1
         u.object
 
     abbrev on_called : State
@@ -472,7 +472,7 @@ module _ (place : Place) (routine : ℕ → Ident → ℕ) (linked : IsLinked pl
     empty1 =
         sym (get_or-set_other cells at1 up1 0 0 (λ q. apart1 (sym q))) ∙ ap (λ z. slice_index z up1) (sym cells1_are)
         ∙ ap (slice_index cells1) (sym up_same)
-        ∙ object_word setting statics s1 (deeper s u st1) [] called cells1 entered 0 0 0 (replicate 13 0) refl long1
+        ∙ object_word setting statics s1 (deeper s u st1) [] called cells1 entered 0 0 0 spare_words refl long1
 
     word1 : slice_index cells at1 ≡ address_of setting statics
         (unwrap_or (placing_of setting.limits.heap st1.log) no_placing) n
@@ -598,8 +598,8 @@ module _ (place : Place) (routine : ℕ → Ident → ℕ) (linked : IsLinked pl
       abbrev cells3 : List ℕ
       cells3 = slice_set cells up_end 0
 
-      abbrev emptied : OpenFrame setting statics s2 (record on2 { put_by = 0 ∷ 0 ∷ 0 ∷ replicate 13 0 }) [] end cells3
-      emptied = put_object setting statics s2 on2 [] end cells o.frame 0 u.object 0 (replicate 13 0) refl long2 0
+      abbrev emptied : OpenFrame setting statics s2 (record on2 { put_by = 0 ∷ 0 ∷ 0 ∷ spare_words }) [] end cells3
+      emptied = put_object setting statics s2 on2 [] end cells o.frame 0 u.object 0 spare_words refl long2 0
 
       own_end : OpenFrame setting statics s2 (deeper s u st2) [] (record end { self = u.self }) cells3
       own_end = record {
@@ -716,7 +716,7 @@ module _ (place : Place) (routine : ℕ → Ident → ℕ) (linked : IsLinked pl
           apart = apart2;
         };
         saved = ap (slice_index cells) (sym up_end_is) ∙ object_word setting statics s2 on2 [] end cells o.frame 0
-            u.object 0 (replicate 13 0) refl long2;
+            u.object 0 spare_words refl long2;
         cell = record {
           touched = λ e z. (let b : FIXED_CELLS + length statics ≤ base setting statics = base_above
               (setup setting statics) in

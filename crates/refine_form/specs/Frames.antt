@@ -8,7 +8,7 @@ use Rattle.refine_frame.specs.class_rules.Classes.{class_fields}
 use Rattle.refine_frame.specs.class_rules.Members.{field_of}
 use Rattle.refine_frame.specs.buddy_book.Place.{Placing, block_of, place}
 use Rattle.refine_frame.specs.pisa_isa.Loaded.{statics_at, heap_base, fixed_cells}
-use Rattle.refine_frame.specs.code_conventions.declared.memory.TheConstants.{MOST_VARIABLES, FIRST_VARIABLE}
+use Rattle.refine_frame.specs.code_conventions.declared.memory.TheConstants.{MOST_VARIABLES, FIRST_VARIABLE, PLACE_WORD}
 use Rattle.refine_frame.specs.rpp_words.declared.input.TheConstants.{FRAME_WORDS}
 use Rattle.refine_frame.specs.roopl_semantics.Store.{Value, Binding, Store, State, main_name, object_at}
 use Rattle.refine_frame.specs.roopl_semantics.Store.{class_of_head}
@@ -20,6 +20,10 @@ use Rattle.refine_form.specs.Form.{Scope}
 -- as many values may move into the frame above as a method may have parameters
 abbrev pub most_moved : ℕ
 most_moved = 32
+
+-- the words of a frame between its place and its first variable
+abbrev pub spare_words : List ℕ
+spare_words = replicate (FIRST_VARIABLE - (PLACE_WORD + 1)) 0
 
 -- an active call below: its frame as the source has it, with its object, the object's class and
 -- address, and what is saved in it

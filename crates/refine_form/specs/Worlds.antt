@@ -1,6 +1,6 @@
 -- The worlds that contracts speak of, from plain data: a program with its limits, an image with its
 -- static cells, its routines.
-use Rattle.std.specs.Prelude.{◌≡◌, ℕ, ◌+◌, ◌*◌, ◌^◌, List, [], ◌∷◌, length, replicate, slice_index}
+use Rattle.std.specs.Prelude.{◌≡◌, ℕ, ◌+◌, ◌*◌, ◌^◌, List, [], ◌∷◌, length, slice_index}
 use Rattle.std.specs.Option.{unwrap_or}
 use Rattle.refine_frame.specs.buddy_book.Place.{place}
 use Rattle.paired_code.specs.Machine.{Image}
@@ -8,7 +8,7 @@ use Rattle.paired_code.specs.Does.{Rates}
 use Rattle.refine_frame.specs.roopl_semantics.Execution.{Setting}
 use Rattle.refine_frame.specs.roopl_semantics.Layout.{no_placing}
 use Rattle.refine_form.specs.Form.{World, Routines}
-use Rattle.refine_form.specs.Frames.{Under, stack_base, value_word}
+use Rattle.refine_form.specs.Frames.{Under, spare_words, stack_base, value_word}
 use Rattle.refine_form.specs.Stands.{Reads, Stands}
 use Rattle.refine_frame.specs.rpp_words.declared.input.TheConstants.{FRAME_WORDS}
 
@@ -20,7 +20,7 @@ pub record Place : Type 0 where
 
 -- nothing but a caller's object is saved in a frame: the words of the link and of the place are 0
 pub record IsFresh (u : Under) : Type 0 where
-  pub is : u.put_by ≡ 0 ∷ slice_index u.put_by 1 ∷ 0 ∷ replicate 13 0
+  pub is : u.put_by ≡ 0 ∷ slice_index u.put_by 1 ∷ 0 ∷ spare_words
 
 -- a step is worth no more cost units than a whole heap has cells, and a cost unit comes with 1000
 -- steps at most
