@@ -17,6 +17,7 @@ use Rattle.paired_code.specs.Code.{Code, AllWithin, EachWithin, shift, bodies, r
 use Rattle.paired_code.specs.Code.{marks_size}
 use Rattle.paired_code.proofs.Fits.{within_append, moved}
 use Rattle.paired_code.proofs.Writing.{code_length}
+use Rattle.code_conventions.specs.pisa_isa.declared.image.TheConstants.{MOST_CELLS}
 
 -- one routine more
 
@@ -57,14 +58,14 @@ marks_next xs i x old new all marks top next l e m n t a =
 
 pub room_next : (xs : List Code) (i : ℕ) (x : Code) (top next : ℕ) → i < length xs → x ≡ get_or xs i x
     → next ≡ top + (length x.cells + 4)
-    → top + routines_size (bodies (drop i xs)) ≤ 8050000 → next + routines_size (bodies (drop (i + 1) xs)) ≤ 8050000
+    → top + routines_size (bodies (drop i xs)) ≤ MOST_CELLS → next + routines_size (bodies (drop (i + 1) xs)) ≤ MOST_CELLS
 room_next xs i x top next l e t room =
     let size : routines_size (bodies (drop i xs)) ≡ length x.cells + 4 + routines_size (bodies (drop (i + 1) xs)) =
     ap (λ z. routines_size (bodies z)) (drop_next xs i x l e) in
     omega arith
 
 pub room_here : (xs : List Code) (i : ℕ) (x : Code) (top : ℕ) → i < length xs → x ≡ get_or xs i x
-    → top + routines_size (bodies (drop i xs)) ≤ 8050000 → top + 3 + length x.cells ≤ 8050000
+    → top + routines_size (bodies (drop i xs)) ≤ MOST_CELLS → top + 3 + length x.cells ≤ MOST_CELLS
 room_here xs i x top l e room =
     let size : routines_size (bodies (drop i xs)) ≡ length x.cells + 4 + routines_size (bodies (drop (i + 1) xs)) =
     ap (λ z. routines_size (bodies z)) (drop_next xs i x l e) in

@@ -81,7 +81,7 @@ fn image_of(
 
 // The places of the SWAPBR cells, if the first routine has its first cell at `first`.
 fn places_of(alloc: Global, routines: &[Piece], first: u32) -> Result<Vec<u32>, NoMemory>
-    requires { first + routines_size (bodies routines.now) ≤ 8050000 }
+    requires { first + routines_size (bodies routines.now) ≤ MOST_CELLS }
     ensures { IfOk result (λ v. v.items ≡ places first (bodies routines.now)) }
 {
     let mut found = Vec::new(alloc);

@@ -18,6 +18,7 @@ use Rattle.pisa_isa.proofs.Facing.{has_cell-from_none, IsCell-faced}
 use Rattle.pisa_isa.proofs.Effect.{state, cell}
 use Rattle.pisa_isa.proofs.Back.{Apart-cell, moved-twice, effect-pc, IsCell-fetch}
 use Rattle.rpp_words.proofs.Ranges.{by_test}
+use Rattle.pisa_isa.specs.declared.image.TheConstants.{MOST_CELLS}
 
 -- the step that led here was made at this cell
 pub record CameBy (code : List Cell) (m : State) : Type 0 where
@@ -52,7 +53,7 @@ pub effect-br : (c : Cell) (m : State) → IsCell c → IsState m → (effect c 
 effect-br c m k s = let d = faced m.back c in row-br d.op d.a d.b d.c d.imm m s
     (a_below d (IsCell-faced m.back c k).in_range)
 
-place_moved_bounds : (b : Bool) (p : ℤ) (br : ℕ) → br < 2 ^ 32 → pos 0 ≤ℤ p → p ≤ℤ pos 8050000
+place_moved_bounds : (b : Bool) (p : ℤ) (br : ℕ) → br < 2 ^ 32 → pos 0 ≤ℤ p → p ≤ℤ pos MOST_CELLS
     → (pos 0 ≤ℤ (place_moved b p br +ℤ pos (2 ^ 32))) × (place_moved b p br ≤ℤ pos (2 ^ 32))
 place_moved_bounds true p br h low high = let s = stride_bounds br h in (omega (arith, ints), omega (arith, ints))
 place_moved_bounds false p br h low high = let s = stride_bounds br h in (omega (arith, ints), omega (arith, ints))
@@ -86,7 +87,7 @@ came_at code m s (Some c) k ok e h n =
     let before : moved (turned m) ≡ turned (effect c s) = ap (λ x. moved (turned x)) is ∙ moved-twice (effect c s) in
     let at = fetch_place code s.pc c e in
     let limit = k.in_limit in
-    let high : s.pc ≤ℤ pos 8050000 = omega (arith, ints) in
+    let high : s.pc ≤ℤ pos MOST_CELLS = omega (arith, ints) in
     let bounds = place_moved_bounds (effect c s).back s.pc (effect c s).br (effect-br c s is_cell ok) at.0 high in
     let pc_is : m.pc ≡ place_moved (effect c s).back s.pc (effect c s).br =
     ap (λ x. x.pc) is ∙ ap (λ p. place_moved (effect c s).back p (effect c s).br) (effect-pc c s) in

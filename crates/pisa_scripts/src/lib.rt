@@ -11,6 +11,6 @@ mod words;
 
 pub use command::Command;
 pub use lines::{MOST_SCRIPT, is_blank, pieces, without_returns};
-pub use numbers::{MOST_DIGITS, number_up_to, short_number};
+pub use numbers::{LAST_POSITION, MOST_DIGITS, number_up_to, short_number};
 pub use stops::add_stop;
 pub use words::{add_cell, add_registers, direction};

@@ -2,6 +2,9 @@
 ghost use Rattle.std.specs.Prelude.{◌≡◌, ◌<◌, ◌≤◌, ◌^◌, IfSome};
 ghost use Rattle.pisa_scripts.specs.Lines.{number_up_to as number_of, short_number as short_number_of};
 
+/// The last position that a debugger moves to.
+pub const LAST_POSITION: u64 = (1 << 63) - 1;
+
 /// The most digits of a number.
 pub const MOST_DIGITS: usize = 18;
 

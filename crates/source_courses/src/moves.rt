@@ -13,7 +13,7 @@ use crate::watching::Watching;
 use source_store::Lack;
 
 /// The last position that a debugger moves to.
-pub const LAST_POSITION: u64 = (1 << 63) - 1;
+pub const LAST_POSITION: u64 = pisa_scripts::LAST_POSITION;
 
 /// How the moves of a command ended.
 #[derive(Clone, Copy, PartialEq, Eq, Debug)]

@@ -7,7 +7,7 @@ use pisa_machine::{Machine, Steps};
 use std::sync::ledger::Ledger;
 
 /// The last position that a debugger moves to.
-pub const LAST_POSITION: u64 = (1 << 63) - 1;
+pub const LAST_POSITION: u64 = pisa_scripts::LAST_POSITION;
 
 /// How the moves of a command ended.
 #[derive(Clone, Copy, PartialEq, Eq, Debug)]

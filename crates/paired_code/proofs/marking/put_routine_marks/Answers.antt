@@ -2,11 +2,12 @@ use Rattle.std.proofs.Common.{◌≡◌, ◌+◌, ap, arith, length, refl}
 use Rattle.paired_code.proofs.Shifted.{marks_next, room_next, room_here, within_next}
 use Rattle.paired_code.proofs.Fits.{moved, room_at}
 use Rattle.paired_code.proofs.marking.put_routine_marks.Goals as goal
+use Rattle.code_conventions.specs.pisa_isa.declared.image.TheConstants.{MOST_CELLS}
 
 pub put_marks-requires : goal.put_marks-requires
 put_marks-requires c =
     let x = c.piece-item.result in
-    room_at _ _ _ _ _ refl c.marks_in.ensures.marks (moved (c.loop-piece.top + 3) (length x.cells) 8050000 x.marks
+    room_at _ _ _ _ _ refl c.marks_in.ensures.marks (moved (c.loop-piece.top + 3) (length x.cells) MOST_CELLS x.marks
     (room_here c.args.routines.now c.loop-piece.piece-index x c.loop-piece.top c.loop-piece-test.true c.piece-item.is
     c.loop-piece.invariant.room) c.marks_in.ensures.within)
 
