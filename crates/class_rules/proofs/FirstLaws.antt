@@ -1,7 +1,8 @@
 -- The first refusal of a list is the first.
 use Rattle.std.proofs.Common.{◌≡◌, ◌∙◌, sym, ap, ℕ, zero, suc, ◌<◌, List, [], ◌∷◌, Option, Some, None, refl, slice_get}
 use Rattle.std.proofs.Common.{arith}
-use Rattle.class_rules.specs.First.{first_of, first_in}
+use Rattle.std.specs.Option.{option_or}
+use Rattle.class_rules.specs.First.{first_in}
 use Rattle.class_rules.specs.Laws.{IsRefusedFirst}
 
 later : {A E : Type 0} (rule : A → Option E) (x : A) (xs : List A) (error : E) → rule x ≡ None
@@ -20,7 +21,7 @@ later {A} rule x xs error none first = record {
 
 split : {A E : Type 0} (rule : A → Option E) (x : A) (xs : List A) (error : E)
     → (first_in rule xs ≡ Some error → IsRefusedFirst rule xs error) → (r : Option E) → rule x ≡ r
-    → first_of r (first_in rule xs) ≡ Some error → IsRefusedFirst rule (x ∷ xs) error
+    → option_or r (first_in rule xs) ≡ Some error → IsRefusedFirst rule (x ∷ xs) error
 split rule x xs error rest None none h = later rule x xs error none (rest h)
 split rule x xs error rest (Some e) some h = record {
   number = 0;

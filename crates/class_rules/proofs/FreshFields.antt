@@ -3,18 +3,18 @@ use Rattle.std.proofs.Common.{◌≡◌, ◌∙◌, sym, ap, subst, ℕ, zero, s
 use Rattle.std.proofs.Common.{take, Option, Some, None, refl, slice_get, add-zero, zero-add, arith, append_assoc}
 use Rattle.std.proofs.lemmas.List.{append-nil, length-map}
 use Rattle.std.proofs.lemmas.Grind.{common_steps}
-use Rattle.std.specs.Option.{unwrap_or}
+use Rattle.std.specs.Option.{option_or, unwrap_or}
 use Rattle.rpp_tree.specs.declared.tree.Var.{Var}
 use Rattle.rpp_tree.specs.declared.tree.Program.{Program}
 use Rattle.rpp_tree.specs.Views.{source_of}
 use Rattle.rpp_tree.specs.Tree.{ClassText, Source}
-use Rattle.class_rules.specs.First.{first_of, first_at}
+use Rattle.class_rules.specs.First.{first_at}
 use Rattle.class_rules.specs.Chains.{parents, chain, chain_of, line_of}
 use Rattle.class_rules.specs.Members.{no_class, class_at, field_name, field_taken, taken_field, fields_along, fields_of}
 use Rattle.class_rules.specs.Members.{inherited, duplicate_field_at, duplicate_field}
 use Rattle.class_rules.proofs.ChainEnds.{parent, pushed_from, nothing_on, parents_in, chain_ends}
 
-pub neither : {E : Type 0} (first last : Option E) → first_of first last ≡ None → (first ≡ None) × (last ≡ None)
+pub neither : {E : Type 0} (first last : Option E) → option_or first last ≡ None → (first ≡ None) × (last ≡ None)
 neither None last h = (refl, h)
 neither (Some error) last h = absurd (cc)
 

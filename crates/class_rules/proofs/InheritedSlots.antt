@@ -6,15 +6,15 @@ use Rattle.std.proofs.Common.{append-nil, append_assoc, length-append}
 use Rattle.std.proofs.lemmas.Bool.{eqb-true}
 use Rattle.std.proofs.lemmas.List.{length-map}
 use Rattle.std.specs.Prelude.{nat_eq, position, ◌||◌, if◌then◌else◌}
-use Rattle.std.specs.Option.{unwrap_or, option_map}
+use Rattle.std.specs.Option.{option_or, unwrap_or, option_map}
 use Rattle.std.specs.Str.{bytes_eq}
 use Rattle.indexmap.specs.IndexMap.{insert_entry}
 use Rattle.rpp_tree.specs.declared.tree.Var.{Var}
 use Rattle.rpp_tree.specs.Tree.{Procedure, ClassText, Source}
 use Rattle.class_rules.specs.declared.kind.Kind.{Kind}
 use Rattle.class_rules.specs.declared.method.MethodId.{MethodId}
-use Rattle.class_rules.specs.declared.error.ClassError.TheVariants.{OverrideDiffers}
-use Rattle.class_rules.specs.First.{refused_if, first_of, first_in, first_at}
+use Rattle.class_rules.specs.Refusal.{refused}
+use Rattle.class_rules.specs.First.{refused_if, first_in, first_at}
 use Rattle.class_rules.specs.Rules.{duplicate_class, unknown_class}
 use Rattle.class_rules.specs.Chains.{parents, chain, line_of, inheritance_cycle}
 use Rattle.class_rules.specs.Members.{Slots, class_at, no_class, no_procedure, with_methods, slots_along, slots_of}
@@ -33,7 +33,7 @@ use Rattle.class_rules.proofs.ClassLines.{on, line_is, front_of, inherits_parts,
 
 -- ---- rules that refuse nothing
 
-pub none_of : {E : Type 0} (a b : Option E) → first_of a b ≡ None → (a ≡ None) × (b ≡ None)
+pub none_of : {E : Type 0} (a b : Option E) → option_or a b ≡ None → (a ≡ None) × (b ≡ None)
 none_of None b h = (refl, h)
 none_of (Some e) b h = absurd (cc)
 
@@ -293,7 +293,7 @@ module _ (program : Source) where
           ∙ at) in
           let same : same_types (parameters_of program (run_at base p)) method.params ≡ true =
           not_refused (same_types (parameters_of program (run_at base p)) method.params)
-          (OverrideDiffers method.name.at) (sym (ap (override_in_slot program base method) front) ∙ fits) in
+          (refused 10 method.name.at) (sym (ap (override_in_slot program base method) front) ∙ fits) in
           ap (λ z. types (parameters_of program z)) (run_is (insert_entry bytes_eq slots method.name.text id) p x g
           ∙ ap (λ (z : List ℕ × MethodId). z.1) i)
           ∙ ap types params_are

@@ -4,8 +4,7 @@ use Rattle.std.specs.Prelude.{Some, None, slice_get, position}
 use Rattle.std.specs.Str.{bytes_eq}
 use Rattle.rpp_tree.specs.declared.tree.Ident.{Ident}
 use Rattle.rpp_tree.specs.Tree.{ClassText, Source}
-use Rattle.class_rules.specs.declared.error.ClassError.{ClassError}
-use Rattle.class_rules.specs.declared.error.ClassError.TheVariants.{InheritanceCycle}
+use Rattle.class_rules.specs.Refusal.{Refusal, refused}
 use Rattle.class_rules.specs.First.{refused_if, first_at, each_below}
 use Rattle.std.specs.Option.{unwrap_or}
 use Rattle.class_rules.specs.Rules.{class_names}
@@ -38,11 +37,11 @@ abbrev pub chain_of : Source → ℕ → Option (List ℕ)
 chain_of program class = chain (length program.classes) (parents program) (Some class)
 
 -- 7: the chain of parents from this class does not end
-abbrev pub endless_chain : Source → ℕ → ClassText → Option ClassError
+abbrev pub endless_chain : Source → ℕ → ClassText → Option Refusal
 endless_chain program number class =
-    refused_if (not (is_some (chain_of program number))) (InheritanceCycle class.name.at)
+    refused_if (not (is_some (chain_of program number))) (refused 7 class.name.at)
 
-abbrev pub inheritance_cycle : Source → Option ClassError
+abbrev pub inheritance_cycle : Source → Option Refusal
 inheritance_cycle program = first_at (endless_chain program) 0 program.classes
 
 -- the ancestors of a class and the class last, if there is no cycle

@@ -1,7 +1,7 @@
 -- What the definitions mean.
 use Rattle.std.specs.Prelude.{◌≡◌, ℕ, ◌<◌, List, length, Option, Some, None, slice_get}
 use Rattle.rpp_tree.specs.Tree.{ClassText, Source}
-use Rattle.class_rules.specs.declared.error.ClassError.{ClassError}
+use Rattle.class_rules.specs.Refusal.{Refusal}
 use Rattle.class_rules.specs.First.{first_in}
 use Rattle.class_rules.specs.Chains.{parents, chain, chain_of}
 use Rattle.class_rules.specs.Table.{table_of, fields_in, slots_in, inherits_in}
@@ -18,8 +18,8 @@ pub record IsRefusedFirst {A E : Type 0} (rule : A → Option E) (xs : List A) (
 
 -- what `first_in` names is refused first
 abbrev pub FirstIsFirst : Type 0
-FirstIsFirst = (rule : ClassText → Option ClassError) (classes : List ClassText)
-    (error : ClassError) → first_in rule classes ≡ Some error → IsRefusedFirst rule classes error
+FirstIsFirst = (rule : ClassText → Option Refusal) (classes : List ClassText)
+    (error : Refusal) → first_in rule classes ≡ Some error → IsRefusedFirst rule classes error
 
 -- a chain of parents that ends at all ends within as many steps as there are classes
 abbrev pub ChainEndsWithin : Type 0

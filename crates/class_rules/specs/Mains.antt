@@ -6,8 +6,7 @@ use Rattle.rpp_tree.specs.declared.tree.Var.{Var}
 use Rattle.rpp_tree.specs.Tree.{Procedure, ClassText, Source}
 use Rattle.class_rules.specs.declared.method.MethodId.{MethodId}
 use Rattle.class_rules.specs.declared.mains.Main.{Main}
-use Rattle.class_rules.specs.declared.error.ClassError.{ClassError}
-use Rattle.class_rules.specs.declared.error.ClassError.TheVariants.{NoMain, TwoMains}
+use Rattle.class_rules.specs.Refusal.{Refusal, refused}
 use Rattle.class_rules.specs.Overrides.{no_method}
 
 abbrev pub has_none : List Var → Bool
@@ -35,10 +34,10 @@ abbrev pub mains : Source → List Main
 mains program = mains_from 0 program.classes
 
 -- 11: there is none; 12: there are two
-abbrev pub main_refusal : ℕ → List Main → Option ClassError
-main_refusal end [] = Some (NoMain end)
+abbrev pub main_refusal : ℕ → List Main → Option Refusal
+main_refusal end [] = Some (refused 11 end)
 main_refusal end (main ∷ []) = None
-main_refusal end (main ∷ (second ∷ more)) = Some (TwoMains second.at)
+main_refusal end (main ∷ (second ∷ more)) = Some (refused 12 second.at)
 
 abbrev pub first_main : List Main → MethodId
 first_main [] = no_method

@@ -1,17 +1,15 @@
 -- Fields and method slots, by the chain of parents.
 use Rattle.std.specs.Prelude.{ℕ, ◌+◌, ◌-◌, Bool, nat_lt, List, [], ◌∷◌, ◌++◌, map, length, take}
 use Rattle.std.specs.Prelude.{Option, None, slice_get, position}
-use Rattle.std.specs.Option.{unwrap_or}
+use Rattle.std.specs.Option.{option_or, unwrap_or}
 use Rattle.std.specs.Str.{bytes_eq}
 use Rattle.indexmap.specs.IndexMap.{insert_entry}
 use Rattle.rpp_tree.specs.declared.tree.Var.{Var}
 use Rattle.rpp_tree.specs.Tree.{End, Procedure, ClassText, Source}
 use Rattle.class_rules.specs.declared.method.MethodId.{MethodId}
-use Rattle.class_rules.specs.declared.error.ClassError.{ClassError}
-use Rattle.class_rules.specs.declared.error.ClassError.TheVariants.{DuplicateField, Limit}
-use Rattle.rpp_tree.specs.declared.limits.LimitKind.TheVariants as kind
+use Rattle.class_rules.specs.Refusal.{Refusal, refused}
 use Rattle.rpp_tree.specs.declared.limits.TheConstants.{MOST_FIELDS, MOST_METHODS}
-use Rattle.class_rules.specs.First.{refused_if, first_of, first_at, each_below}
+use Rattle.class_rules.specs.First.{refused_if, first_at, each_below}
 use Rattle.class_rules.specs.Names.{has_name, with_names}
 use Rattle.class_rules.specs.Chains.{line_of}
 
@@ -58,29 +56,29 @@ names_along program names (class ∷ below) =
     names_along program (with_names names (map field_name (class_at program class).fields)) below
 
 -- 8: an earlier field of the class or an inherited field has the name
-abbrev pub field_taken : List (List ℕ) → Var → Option ClassError
-field_taken names var = refused_if (has_name names var.name.text) (DuplicateField var.name.at)
+abbrev pub field_taken : List (List ℕ) → Var → Option Refusal
+field_taken names var = refused_if (has_name names var.name.text) (refused 8 var.name.at)
 
 -- the first field whose name is among these or those of earlier fields
-abbrev pub taken_field : List (List ℕ) → List Var → Option ClassError
+abbrev pub taken_field : List (List ℕ) → List Var → Option Refusal
 taken_field names [] = None
 taken_field names (var ∷ vars) =
-    first_of (field_taken names var) (taken_field (names ++ var.name.text ∷ []) vars)
+    option_or (field_taken names var) (taken_field (names ++ var.name.text ∷ []) vars)
 
-abbrev pub duplicate_field_at : Source → ℕ → ClassText → Option ClassError
+abbrev pub duplicate_field_at : Source → ℕ → ClassText → Option Refusal
 duplicate_field_at program number class =
     taken_field (map field_name (inherited program number)) class.fields
 
-abbrev pub duplicate_field : Source → Option ClassError
+abbrev pub duplicate_field : Source → Option Refusal
 duplicate_field program = first_at (duplicate_field_at program) 0 program.classes
 
 -- 4: the class has more fields than the limit
-abbrev pub too_many_fields_at : Source → ℕ → ClassText → Option ClassError
+abbrev pub too_many_fields_at : Source → ℕ → ClassText → Option Refusal
 too_many_fields_at program number class =
     refused_if (nat_lt MOST_FIELDS (length (fields_of program number)))
-    (Limit kind.Fields class.name.at)
+    (refused 4 class.name.at)
 
-abbrev pub too_many_fields : Source → Option ClassError
+abbrev pub too_many_fields : Source → Option Refusal
 too_many_fields program = first_at (too_many_fields_at program) 0 program.classes
 
 -- the name of each slot with the method that runs
@@ -107,10 +105,10 @@ abbrev pub slots : Source → List Slots
 slots program = each_below (slots_of program) (length program.classes)
 
 -- 4: the class has more method slots than the limit
-abbrev pub too_many_slots_at : Source → ℕ → ClassText → Option ClassError
+abbrev pub too_many_slots_at : Source → ℕ → ClassText → Option Refusal
 too_many_slots_at program number class =
     refused_if (nat_lt MOST_METHODS (length (slots_of program number)))
-    (Limit kind.Methods class.name.at)
+    (refused 4 class.name.at)
 
-abbrev pub too_many_slots : Source → Option ClassError
+abbrev pub too_many_slots : Source → Option Refusal
 too_many_slots program = first_at (too_many_slots_at program) 0 program.classes

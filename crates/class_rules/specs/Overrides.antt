@@ -8,9 +8,7 @@ use Rattle.rpp_tree.specs.declared.tree.VarType.{VarType}
 use Rattle.rpp_tree.specs.declared.tree.VarType.TheVariants as type
 use Rattle.rpp_tree.specs.Tree.{Procedure, ClassText, Source}
 use Rattle.class_rules.specs.declared.method.MethodId.{MethodId}
-use Rattle.class_rules.specs.declared.error.ClassError.{ClassError}
-use Rattle.class_rules.specs.declared.error.ClassError.TheVariants.{DuplicateMethod}
-use Rattle.class_rules.specs.declared.error.ClassError.TheVariants.{OverrideDiffers}
+use Rattle.class_rules.specs.Refusal.{Refusal, refused}
 use Rattle.class_rules.specs.First.{refused_if, first_in, first_after, first_at}
 use Rattle.class_rules.specs.Names.{has_name}
 use Rattle.class_rules.specs.Chains.{line_of}
@@ -20,14 +18,14 @@ use Rattle.class_rules.specs.Members.{Slots, slots_along, class_at, no_procedure
 abbrev pub method_name : Procedure → List ℕ
 method_name method = method.name.text
 
-abbrev pub method_taken : List Procedure → Procedure → Option ClassError
+abbrev pub method_taken : List Procedure → Procedure → Option Refusal
 method_taken before method = refused_if (has_name (map method_name before) method.name.text)
-    (DuplicateMethod method.name.at)
+    (refused 9 method.name.at)
 
-abbrev pub duplicate_method_in : ClassText → Option ClassError
+abbrev pub duplicate_method_in : ClassText → Option Refusal
 duplicate_method_in class = first_after method_taken [] class.methods
 
-abbrev pub duplicate_method : Source → Option ClassError
+abbrev pub duplicate_method : Source → Option Refusal
 duplicate_method program = first_in duplicate_method_in program.classes
 
 abbrev pub is_type_int : VarType → Bool
@@ -72,13 +70,13 @@ abbrev pub run_at : Slots → ℕ → MethodId
 run_at slots slot = unwrap_or (option_map (λ entry. entry.1) (slice_get slots slot)) no_method
 
 -- 10: the inherited method of the name has another list of parameter types
-abbrev pub override_in_slot : Source → Slots → Procedure → Option ℕ → Option ClassError
+abbrev pub override_in_slot : Source → Slots → Procedure → Option ℕ → Option Refusal
 override_in_slot program slots method None = None
 override_in_slot program slots method (Some slot) =
     refused_if (not (same_types (parameters_of program (run_at slots slot)) method.params))
-    (OverrideDiffers method.name.at)
+    (refused 10 method.name.at)
 
-abbrev pub override_differs : Source → Slots → Procedure → Option ClassError
+abbrev pub override_differs : Source → Slots → Procedure → Option Refusal
 override_differs program slots method =
     override_in_slot program slots method
     (position (bytes_eq method.name.text) (map (λ slot. slot.0) slots))
@@ -88,9 +86,9 @@ abbrev pub inherited_slots : Source → ℕ → Slots
 inherited_slots program class =
     slots_along program [] (take (length (line_of program class) - 1) (line_of program class))
 
-abbrev pub override_differs_at : Source → ℕ → ClassText → Option ClassError
+abbrev pub override_differs_at : Source → ℕ → ClassText → Option Refusal
 override_differs_at program number class =
     first_in (override_differs program (inherited_slots program number)) class.methods
 
-abbrev pub differing_override : Source → Option ClassError
+abbrev pub differing_override : Source → Option Refusal
 differing_override program = first_at (override_differs_at program) 0 program.classes

@@ -1,5 +1,6 @@
 -- The rules of the class table, in their order.
 use Rattle.std.specs.Prelude.{◌≡◌, ℕ, not, List, [], map, Option, Some, None}
+use Rattle.std.specs.Option.{option_or}
 use Rattle.std.specs.List.{list_any}
 use Rattle.std.specs.Str.{bytes_eq}
 use Rattle.rpp_tree.specs.declared.tree.Ident.{Ident}
@@ -8,9 +9,9 @@ use Rattle.rpp_tree.specs.declared.tree.VarType.{VarType}
 use Rattle.rpp_tree.specs.declared.tree.VarType.TheVariants as kind
 use Rattle.rpp_tree.specs.Tree.{Procedure, ClassText, Source}
 use Rattle.class_rules.specs.declared.error.ClassError.{ClassError}
-use Rattle.class_rules.specs.declared.error.ClassError.TheVariants.{DuplicateClass, UnknownClass}
 use Rattle.class_rules.specs.declared.error.ClassError.TheVariants.{NoMemory}
-use Rattle.class_rules.specs.First.{refused_if, first_of, first_in, first_after}
+use Rattle.class_rules.specs.Refusal.{Refusal, refused, class_refusal}
+use Rattle.class_rules.specs.First.{refused_if, first_in, first_after}
 
 abbrev pub name_of : ClassText → List ℕ
 name_of class = class.name.text
@@ -20,44 +21,44 @@ abbrev pub class_names : Source → List (List ℕ)
 class_names program = map name_of program.classes
 
 -- 5: an earlier class has the name
-abbrev pub name_taken : List ClassText → ClassText → Option ClassError
+abbrev pub name_taken : List ClassText → ClassText → Option Refusal
 name_taken before class = refused_if (list_any (bytes_eq class.name.text) (map name_of before))
-    (DuplicateClass class.name.at)
+    (refused 5 class.name.at)
 
-abbrev pub duplicate_class : Source → Option ClassError
+abbrev pub duplicate_class : Source → Option Refusal
 duplicate_class program = first_after name_taken [] program.classes
 
 -- 6: a name is used as a class, and is none
-abbrev pub unknown_name : List (List ℕ) → Ident → Option ClassError
+abbrev pub unknown_name : List (List ℕ) → Ident → Option Refusal
 unknown_name names name = refused_if (not (list_any (bytes_eq name.text) names))
-    (UnknownClass name.at)
+    (refused 6 name.at)
 
-abbrev pub unknown_parent : List (List ℕ) → Option Ident → Option ClassError
+abbrev pub unknown_parent : List (List ℕ) → Option Ident → Option Refusal
 unknown_parent names None = None
 unknown_parent names (Some name) = unknown_name names name
 
-abbrev pub unknown_type : List (List ℕ) → VarType → Option ClassError
+abbrev pub unknown_type : List (List ℕ) → VarType → Option Refusal
 unknown_type names kind.Int = None
 unknown_type names (kind.Class name) = unknown_name names name
 unknown_type names kind.IntArray = None
 unknown_type names (kind.ClassArray name) = unknown_name names name
 
-abbrev pub unknown_var : List (List ℕ) → Var → Option ClassError
+abbrev pub unknown_var : List (List ℕ) → Var → Option Refusal
 unknown_var names var = unknown_type names var.kind
 
-abbrev pub unknown_params : List (List ℕ) → Procedure → Option ClassError
+abbrev pub unknown_params : List (List ℕ) → Procedure → Option Refusal
 unknown_params names method = first_in (unknown_var names) method.params
 
-abbrev pub unknown_in_class : List (List ℕ) → ClassText → Option ClassError
+abbrev pub unknown_in_class : List (List ℕ) → ClassText → Option Refusal
 unknown_in_class names class =
-    first_of (unknown_parent names class.parent)
-    (first_of (first_in (unknown_var names) class.fields)
+    option_or (unknown_parent names class.parent)
+    (option_or (first_in (unknown_var names) class.fields)
     (first_in (unknown_params names) class.methods))
 
-abbrev pub unknown_class : Source → Option ClassError
+abbrev pub unknown_class : Source → Option Refusal
 unknown_class program = first_in (unknown_in_class (class_names program)) program.classes
 
 -- no memory, or just this refusal
-abbrev pub IsFirst : Option ClassError → ClassError → Type 0
+abbrev pub IsFirst : Option Refusal → ClassError → Type 0
 IsFirst first NoMemory = Unit {0}
-IsFirst first error = first ≡ Some error
+IsFirst first error = first ≡ class_refusal error

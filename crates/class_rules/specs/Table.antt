@@ -2,18 +2,18 @@
 use Rattle.std.specs.Prelude.{◌≡◌, ℕ, Bool, None, List, [], ◌-◌, map, length, take, Option}
 use Rattle.std.specs.Prelude.{slice_get, position, nat_eq}
 use Rattle.std.specs.List.{list_any}
-use Rattle.std.specs.Option.{unwrap_or}
+use Rattle.std.specs.Option.{option_or, unwrap_or}
 use Rattle.std.specs.Str.{bytes_eq}
 use Rattle.rpp_tree.specs.declared.tree.Var.{Var}
 use Rattle.rpp_tree.specs.Tree.{Source}
 use Rattle.class_rules.specs.declared.method.MethodId.{MethodId}
-use Rattle.class_rules.specs.declared.error.ClassError.{ClassError}
-use Rattle.class_rules.specs.First.{first_of}
-use Rattle.class_rules.specs.Rules.{class_names, duplicate_class, unknown_class}
-use Rattle.class_rules.specs.Chains.{lines, inheritance_cycle}
-use Rattle.class_rules.specs.Overrides.{duplicate_method, differing_override, run_at}
-use Rattle.class_rules.specs.Members.{Slots, field_name, fields, slots, duplicate_field}
-use Rattle.class_rules.specs.Members.{too_many_fields, too_many_slots}
+use Rattle.class_rules.specs.Refusal.{Refusal}
+use Rattle.class_rules.specs.First.{first_in, first_after, first_at}
+use Rattle.class_rules.specs.Rules.{class_names, name_taken, unknown_in_class}
+use Rattle.class_rules.specs.Chains.{lines, endless_chain}
+use Rattle.class_rules.specs.Overrides.{duplicate_method_in, override_differs_at, run_at}
+use Rattle.class_rules.specs.Members.{Slots, field_name, fields, slots}
+use Rattle.class_rules.specs.Members.{duplicate_field_at, too_many_fields_at, too_many_slots_at}
 use Rattle.class_rules.specs.Mains.{mains, main_refusal, first_main}
 
 pub record Table : Type 0 where
@@ -33,16 +33,17 @@ table_of program = record {
 }
 
 -- the phases in their order, for a text of so many bytes
-abbrev pub first_class_refusal : Source → ℕ → Option ClassError
+abbrev pub first_class_refusal : Source → ℕ → Option Refusal
 first_class_refusal program end =
-    first_of (duplicate_class program)
-    (first_of (unknown_class program)
-    (first_of (inheritance_cycle program)
-    (first_of (duplicate_field program)
-    (first_of (duplicate_method program)
-    (first_of (differing_override program)
-    (first_of (too_many_fields program)
-    (first_of (too_many_slots program) (main_refusal end (mains program)))))))))
+    option_or (first_after name_taken [] program.classes)
+    (option_or (first_in (unknown_in_class (class_names program)) program.classes)
+    (option_or (first_at (endless_chain program) 0 program.classes)
+    (option_or (first_at (duplicate_field_at program) 0 program.classes)
+    (option_or (first_in duplicate_method_in program.classes)
+    (option_or (first_at (override_differs_at program) 0 program.classes)
+    (option_or (first_at (too_many_fields_at program) 0 program.classes)
+    (option_or (first_at (too_many_slots_at program) 0 program.classes)
+    (main_refusal end (mains program)))))))))
 
 -- no rule of the class table refuses the program, wherever its text ends
 pub record HasClassTable (program : Source) : Type 0 where

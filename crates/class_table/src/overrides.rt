@@ -1,7 +1,9 @@
 // Methods that a class declares twice, or overrides with other parameters.
 ghost use Rattle.std.specs.Prelude.{◌≡◌, ◌<◌, ◌≤◌, MatchResult, None, [], map, length, take};
+ghost use Rattle.std.specs.Option.{option_map};
 ghost use Rattle.rpp_tree.specs.Views.{source_of, class_text_of, procedure_of};
 ghost use Rattle.class_rules.specs.Rules.{IsFirst};
+ghost use Rattle.class_rules.specs.Refusal.{refused};
 ghost use Rattle.class_rules.specs.First.{first_in, first_after};
 ghost use Rattle.class_rules.specs.Chains.{lines as lines_of};
 ghost use Rattle.class_rules.specs.Overrides.{method_name, method_taken, duplicate_method_in, duplicate_method, same_type, same_types as equal_types, parameters_of, override_differs, inherited_slots, override_differs_at, differing_override};
@@ -77,12 +79,13 @@ fn parameters(program: &Program, runs: MethodId) -> &[Var]
     }
 }
 
+// The place of a method that overrides one with other parameter types.
 fn overrides(
     program: &Program,
     slots: &IndexMap<Text, MethodId>,
     method: &Method,
-) -> Option<ClassError>
-    ensures { result ≡ override_differs (source_of program.now) slots.now.entries
+) -> Option<u32>
+    ensures { option_map (refused 10) result ≡ override_differs (source_of program.now) slots.now.entries
         (procedure_of method.now) }
 {
     let Some(slot) = slots.get_index_of(&method.name.text) else {
@@ -91,7 +94,7 @@ fn overrides(
     if same_types(parameters(program, runs_at(slots, slot)), &method.params) {
         None
     } else {
-        Some(ClassError::OverrideDiffers { at: method.name.at })
+        Some(method.name.at)
     }
 }
 
@@ -99,8 +102,8 @@ fn method_overrides(
     program: &Program,
     slots: &IndexMap<Text, MethodId>,
     methods: &[Method],
-) -> Option<ClassError>
-    ensures { result ≡ first_in (override_differs (source_of program.now) slots.now.entries)
+) -> Option<u32>
+    ensures { option_map (refused 10) result ≡ first_in (override_differs (source_of program.now) slots.now.entries)
         (map procedure_of methods.now) }
 {
     for method in methods {
@@ -140,8 +143,8 @@ pub fn check_overrides(
 {
     for (number, class) in program.classes.iter().enumerate() {
         let slots = slots_above(alloc, program, lines, number)?;
-        if let Some(error) = method_overrides(program, &slots, &class.methods) {
-            return Err(error);
+        if let Some(at) = method_overrides(program, &slots, &class.methods) {
+            return Err(ClassError::OverrideDiffers { at });
         }
     }
     Ok(())

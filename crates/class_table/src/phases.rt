@@ -1,7 +1,9 @@
 // The phases in which a class table is refused.
 ghost use Rattle.std.specs.Prelude.{◌≡◌, MatchResult, None, map};
+ghost use Rattle.std.specs.Option.{option_map};
 ghost use Rattle.rpp_tree.specs.Views.{source_of, class_text_of, procedure_of};
 ghost use Rattle.class_rules.specs.Rules.{IsFirst, class_names, duplicate_class, unknown_class, unknown_in_class, unknown_params, unknown_var, unknown_type, unknown_name, unknown_parent};
+ghost use Rattle.class_rules.specs.Refusal.{refused};
 ghost use Rattle.class_rules.specs.First.{first_in};
 
 use crate::names::add_name;
@@ -26,18 +28,19 @@ pub fn name_classes(alloc: Global, program: &Program) -> Result<IndexSet<Text>, 
     Ok(names)
 }
 
-fn know_name(names: &IndexSet<Text>, name: &Ident) -> Option<ClassError>
-    ensures { result ≡ unknown_name names.now.keys name.now }
+// The place of a name that is no class.
+fn know_name(names: &IndexSet<Text>, name: &Ident) -> Option<u32>
+    ensures { option_map (refused 6) result ≡ unknown_name names.now.keys name.now }
 {
     if names.contains(&name.text) {
         None
     } else {
-        Some(ClassError::UnknownClass { at: name.at })
+        Some(name.at)
     }
 }
 
-fn know_type(names: &IndexSet<Text>, kind: &VarType) -> Option<ClassError>
-    ensures { result ≡ unknown_type names.now.keys kind.now }
+fn know_type(names: &IndexSet<Text>, kind: &VarType) -> Option<u32>
+    ensures { option_map (refused 6) result ≡ unknown_type names.now.keys kind.now }
 {
     match kind {
         VarType::Int => None,
@@ -47,8 +50,9 @@ fn know_type(names: &IndexSet<Text>, kind: &VarType) -> Option<ClassError>
     }
 }
 
-fn know_vars(names: &IndexSet<Text>, vars: &[Var]) -> Option<ClassError>
-    ensures { result ≡ first_in (unknown_var names.now.keys) vars.now }
+fn know_vars(names: &IndexSet<Text>, vars: &[Var]) -> Option<u32>
+    ensures { option_map (refused 6) result
+        ≡ first_in (unknown_var names.now.keys) vars.now }
 {
     for var in vars {
         let refused = know_type(names, &var.kind);
@@ -59,8 +63,9 @@ fn know_vars(names: &IndexSet<Text>, vars: &[Var]) -> Option<ClassError>
     None
 }
 
-fn know_methods(names: &IndexSet<Text>, methods: &[Method]) -> Option<ClassError>
-    ensures { result ≡ first_in (unknown_params names.now.keys) (map procedure_of methods.now) }
+fn know_methods(names: &IndexSet<Text>, methods: &[Method]) -> Option<u32>
+    ensures { option_map (refused 6) result
+        ≡ first_in (unknown_params names.now.keys) (map procedure_of methods.now) }
 {
     for method in methods {
         let refused = know_vars(names, &method.params);
@@ -71,8 +76,8 @@ fn know_methods(names: &IndexSet<Text>, methods: &[Method]) -> Option<ClassError
     None
 }
 
-fn know_parent(names: &IndexSet<Text>, parent: &Option<Ident>) -> Option<ClassError>
-    ensures { result ≡ unknown_parent names.now.keys parent.now }
+fn know_parent(names: &IndexSet<Text>, parent: &Option<Ident>) -> Option<u32>
+    ensures { option_map (refused 6) result ≡ unknown_parent names.now.keys parent.now }
 {
     match parent {
         None => None,
@@ -80,8 +85,9 @@ fn know_parent(names: &IndexSet<Text>, parent: &Option<Ident>) -> Option<ClassEr
     }
 }
 
-fn know_class(names: &IndexSet<Text>, class: &Class) -> Option<ClassError>
-    ensures { result ≡ unknown_in_class names.now.keys (class_text_of class.now) }
+fn know_class(names: &IndexSet<Text>, class: &Class) -> Option<u32>
+    ensures { option_map (refused 6) result
+        ≡ unknown_in_class names.now.keys (class_text_of class.now) }
 {
     let refused = know_parent(names, &class.parent);
     if refused.is_some() {
@@ -94,10 +100,10 @@ fn know_class(names: &IndexSet<Text>, class: &Class) -> Option<ClassError>
     know_methods(names, &class.methods)
 }
 
-/// The first name that is used as a class and is none.
-pub fn know_classes(names: &IndexSet<Text>, program: &Program) -> Option<ClassError>
+/// The place of the first name that is used as a class and is none.
+pub fn know_classes(names: &IndexSet<Text>, program: &Program) -> Option<u32>
     requires { names.now.keys ≡ class_names (source_of program.now) }
-    ensures { result ≡ unknown_class (source_of program.now) }
+    ensures { option_map (refused 6) result ≡ unknown_class (source_of program.now) }
 {
     for class in &program.classes {
         let refused = know_class(names, class);

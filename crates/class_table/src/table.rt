@@ -60,8 +60,8 @@ impl ClassTable {
         ensures refused { IfErr result (IsFirst (first_class_refusal (source_of program.now) end)) }
     {
         let names = name_classes(alloc, program)?;
-        if let Some(error) = know_classes(&names, program) {
-            return Err(error);
+        if let Some(at) = know_classes(&names, program) {
+            return Err(ClassError::UnknownClass { at });
         }
         let parents = parents(alloc, &names, program)?;
         let lines = lines(alloc, &parents, program)?;

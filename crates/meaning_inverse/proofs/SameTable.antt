@@ -6,16 +6,15 @@ use Rattle.std.proofs.lemmas.List.{length-map}
 use Rattle.std.proofs.lemmas.Option.{slice_get-map}
 use Rattle.std.proofs.Math.Path.{fun_ext}
 use Rattle.std.specs.Prelude.{is_some}
+use Rattle.std.specs.Option.{option_or}
 use Rattle.std.specs.List.{list_any}
 use Rattle.std.specs.Str.{bytes_eq}
 use Rattle.indexmap.specs.IndexMap.{insert_entry}
 use Rattle.meaning_reached.specs.rpp_tree.Tree.{Procedure, ClassText, Source}
 use Rattle.meaning_reached.specs.class_rules.declared.method.MethodId.{MethodId}
-use Rattle.meaning_reached.specs.class_rules.declared.error.ClassError.TheVariants.{DuplicateClass, InheritanceCycle, DuplicateMethod}
-use Rattle.meaning_reached.specs.class_rules.declared.error.ClassError.TheVariants.{OverrideDiffers, Limit}
-use Rattle.meaning_reached.specs.rpp_tree.declared.limits.LimitKind.TheVariants as limit
+use Rattle.meaning_reached.specs.class_rules.Refusal.{refused}
 use Rattle.meaning_reached.specs.rpp_tree.declared.limits.TheConstants.{MOST_FIELDS, MOST_METHODS}
-use Rattle.meaning_reached.specs.class_rules.First.{refused_if, first_of, first_in, first_after, first_at, each_below}
+use Rattle.meaning_reached.specs.class_rules.First.{refused_if, first_in, first_after, first_at, each_below}
 use Rattle.meaning_reached.specs.class_rules.Names.{has_name}
 use Rattle.meaning_reached.specs.class_rules.Rules.{name_of, class_names, name_taken, duplicate_class, unknown_parent, unknown_var}
 use Rattle.meaning_reached.specs.class_rules.Rules.{unknown_params, unknown_in_class, unknown_class}
@@ -48,24 +47,24 @@ mapped_joined g (x ∷ xs) ys = ap (λ l. g x ∷ l) (mapped_joined g xs ys)
 first_in_after : {A B E : Type 0} (rule : B → Option E) (g : A → B) (other : A → Option E)
     → ((x : A) → rule (g x) ≡ other x) → (xs : List A) → first_in rule (map g xs) ≡ first_in other xs
 first_in_after rule g other h [] = refl
-first_in_after rule g other h (x ∷ xs) = ap (λ r. first_of r (first_in rule (map g xs))) (h x)
-    ∙ ap (first_of (other x)) (first_in_after rule g other h xs)
+first_in_after rule g other h (x ∷ xs) = ap (λ r. option_or r (first_in rule (map g xs))) (h x)
+    ∙ ap (option_or (other x)) (first_in_after rule g other h xs)
 
 first_at_after : {A B E : Type 0} (rule : ℕ → B → Option E) (g : A → B) (other : ℕ → A → Option E)
     → ((n : ℕ) (x : A) → rule n (g x) ≡ other n x) → (n : ℕ) (xs : List A)
     → first_at rule n (map g xs) ≡ first_at other n xs
 first_at_after rule g other h n [] = refl
-first_at_after rule g other h n (x ∷ xs) = ap (λ r. first_of r (first_at rule (n + 1) (map g xs))) (h n x)
-    ∙ ap (first_of (other n x)) (first_at_after rule g other h (n + 1) xs)
+first_at_after rule g other h n (x ∷ xs) = ap (λ r. option_or r (first_at rule (n + 1) (map g xs))) (h n x)
+    ∙ ap (option_or (other n x)) (first_at_after rule g other h (n + 1) xs)
 
 first_after_after : {A B E : Type 0} (rule : List B → B → Option E) (g : A → B) (other : List A → A → Option E)
     → ((before : List A) (x : A) → rule (map g before) (g x) ≡ other before x) → (before xs : List A)
     → first_after rule (map g before) (map g xs) ≡ first_after other before xs
 first_after_after rule g other h before [] = refl
 first_after_after rule g other h before (x ∷ xs) =
-    ap (λ r. first_of r (first_after rule (map g before ++ g x ∷ []) (map g xs))) (h before x)
-    ∙ ap (λ l. first_of (other before x) (first_after rule l (map g xs))) (sym (mapped_joined g before (x ∷ [])))
-    ∙ ap (first_of (other before x)) (first_after_after rule g other h (before ++ x ∷ []) xs)
+    ap (λ r. option_or r (first_after rule (map g before ++ g x ∷ []) (map g xs))) (h before x)
+    ∙ ap (λ l. option_or (other before x) (first_after rule l (map g xs))) (sym (mapped_joined g before (x ∷ [])))
+    ∙ ap (option_or (other before x)) (first_after_after rule g other h (before ++ x ∷ []) xs)
 
 unwrapped : {A B : Type 0} (g : A → B) (o : Option A) (d : A) → unwrap_or (option_map g o) (g d) ≡ g (unwrap_or o d)
 unwrapped g None d = refl
@@ -223,13 +222,13 @@ module _ (program : Source) where
 
   same_duplicate_class : duplicate_class other ≡ duplicate_class program
   same_duplicate_class = first_after_after name_taken inverse_class name_taken
-      (λ before c. ap (λ l. refused_if (list_any (bytes_eq c.name.text) l) (DuplicateClass c.name.at))
+      (λ before c. ap (λ l. refused_if (list_any (bytes_eq c.name.text) l) (refused 5 c.name.at))
       (map_after name_of inverse_class name_of (λ x. refl) before)) [] program.classes
 
   same_unknown_in : (names : List (List ℕ)) (c : ClassText)
       → unknown_in_class names (inverse_class c) ≡ unknown_in_class names c
   same_unknown_in names c =
-      ap (λ r. first_of (unknown_parent names c.parent) (first_of (first_in (unknown_var names) c.fields) r))
+      ap (λ r. option_or (unknown_parent names c.parent) (option_or (first_in (unknown_var names) c.fields) r))
       (first_in_after (unknown_params names) inverse_procedure (unknown_params names) (λ m. refl) c.methods)
 
   same_unknown : unknown_class other ≡ unknown_class program
@@ -239,7 +238,7 @@ module _ (program : Source) where
 
   same_cycle : inheritance_cycle other ≡ inheritance_cycle program
   same_cycle = first_at_after (endless_chain other) inverse_class (endless_chain program)
-      (λ n c. ap (λ o. refused_if (not (is_some o)) (InheritanceCycle c.name.at)) (chains_kept n)) 0 program.classes
+      (λ n c. ap (λ o. refused_if (not (is_some o)) (refused 7 c.name.at)) (chains_kept n)) 0 program.classes
 
   same_duplicate_field : duplicate_field other ≡ duplicate_field program
   same_duplicate_field = first_at_after (duplicate_field_at other) inverse_class (duplicate_field_at program)
@@ -249,7 +248,7 @@ module _ (program : Source) where
   same_duplicate_method =
       first_in_after duplicate_method_in inverse_class duplicate_method_in
       (λ c. first_after_after method_taken inverse_procedure method_taken
-      (λ before m. ap (λ l. refused_if (has_name l m.name.text) (DuplicateMethod m.name.at))
+      (λ before m. ap (λ l. refused_if (has_name l m.name.text) (refused 9 m.name.at))
       (map_after method_name inverse_procedure method_name (λ x. refl) before)) [] c.methods) program.classes
 
   same_override : (found : Slots) (method : Procedure) → override_differs other found (inverse_procedure method)
@@ -260,7 +259,7 @@ module _ (program : Source) where
           ≡ override_in_slot program found method o
       by None = refl
       by (Some slot) = ap (λ params. refused_if (not (same_types params method.params))
-          (OverrideDiffers method.name.at)) (parameters_kept (run_at found slot))
+          (refused 10 method.name.at)) (parameters_kept (run_at found slot))
 
   same_overrides : differing_override other ≡ differing_override program
   same_overrides =
@@ -272,58 +271,58 @@ module _ (program : Source) where
 
   same_many_fields : too_many_fields other ≡ too_many_fields program
   same_many_fields = first_at_after (too_many_fields_at other) inverse_class (too_many_fields_at program)
-      (λ n c. ap (λ l. refused_if (nat_lt MOST_FIELDS (length l)) (Limit limit.Fields c.name.at)) (fields_kept n)) 0
+      (λ n c. ap (λ l. refused_if (nat_lt MOST_FIELDS (length l)) (refused 4 c.name.at)) (fields_kept n)) 0
       program.classes
 
   same_many_slots : too_many_slots other ≡ too_many_slots program
   same_many_slots = first_at_after (too_many_slots_at other) inverse_class (too_many_slots_at program)
-      (λ n c. ap (λ l. refused_if (nat_lt MOST_METHODS (length l)) (Limit limit.Methods c.name.at)) (slots_kept n)) 0
+      (λ n c. ap (λ l. refused_if (nat_lt MOST_METHODS (length l)) (refused 4 c.name.at)) (slots_kept n)) 0
       program.classes
 
   same_refusal : (end : ℕ) → first_class_refusal other end ≡ first_class_refusal program end
   same_refusal end =
-      ap (λ r. first_of r (first_of (unknown_class other) (first_of (inheritance_cycle other)
-      (first_of (duplicate_field other) (first_of (duplicate_method other)
-      (first_of (differing_override other) (first_of (too_many_fields other)
-      (first_of (too_many_slots other) (main_refusal end (mains other)))))))))) same_duplicate_class
-      ∙ ap (λ r. first_of (duplicate_class program) (first_of r
-      (first_of (inheritance_cycle other) (first_of (duplicate_field other)
-      (first_of (duplicate_method other) (first_of (differing_override other)
-      (first_of (too_many_fields other) (first_of (too_many_slots other)
+      ap (λ r. option_or r (option_or (unknown_class other) (option_or (inheritance_cycle other)
+      (option_or (duplicate_field other) (option_or (duplicate_method other)
+      (option_or (differing_override other) (option_or (too_many_fields other)
+      (option_or (too_many_slots other) (main_refusal end (mains other)))))))))) same_duplicate_class
+      ∙ ap (λ r. option_or (duplicate_class program) (option_or r
+      (option_or (inheritance_cycle other) (option_or (duplicate_field other)
+      (option_or (duplicate_method other) (option_or (differing_override other)
+      (option_or (too_many_fields other) (option_or (too_many_slots other)
       (main_refusal end (mains other)))))))))) same_unknown
-      ∙ ap (λ r. first_of (duplicate_class program) (first_of (unknown_class program)
-      (first_of r (first_of (duplicate_field other) (first_of (duplicate_method other)
-      (first_of (differing_override other) (first_of (too_many_fields other)
-      (first_of (too_many_slots other) (main_refusal end (mains other)))))))))) same_cycle
-      ∙ ap (λ r. first_of (duplicate_class program) (first_of (unknown_class program)
-      (first_of (inheritance_cycle program) (first_of r
-      (first_of (duplicate_method other) (first_of (differing_override other)
-      (first_of (too_many_fields other) (first_of (too_many_slots other)
+      ∙ ap (λ r. option_or (duplicate_class program) (option_or (unknown_class program)
+      (option_or r (option_or (duplicate_field other) (option_or (duplicate_method other)
+      (option_or (differing_override other) (option_or (too_many_fields other)
+      (option_or (too_many_slots other) (main_refusal end (mains other)))))))))) same_cycle
+      ∙ ap (λ r. option_or (duplicate_class program) (option_or (unknown_class program)
+      (option_or (inheritance_cycle program) (option_or r
+      (option_or (duplicate_method other) (option_or (differing_override other)
+      (option_or (too_many_fields other) (option_or (too_many_slots other)
       (main_refusal end (mains other)))))))))) same_duplicate_field
-      ∙ ap (λ r. first_of (duplicate_class program) (first_of (unknown_class program)
-      (first_of (inheritance_cycle program) (first_of (duplicate_field program)
-      (first_of r (first_of (differing_override other)
-      (first_of (too_many_fields other) (first_of (too_many_slots other)
+      ∙ ap (λ r. option_or (duplicate_class program) (option_or (unknown_class program)
+      (option_or (inheritance_cycle program) (option_or (duplicate_field program)
+      (option_or r (option_or (differing_override other)
+      (option_or (too_many_fields other) (option_or (too_many_slots other)
       (main_refusal end (mains other)))))))))) same_duplicate_method
-      ∙ ap (λ r. first_of (duplicate_class program) (first_of (unknown_class program)
-      (first_of (inheritance_cycle program) (first_of (duplicate_field program)
-      (first_of (duplicate_method program) (first_of r
-      (first_of (too_many_fields other) (first_of (too_many_slots other)
+      ∙ ap (λ r. option_or (duplicate_class program) (option_or (unknown_class program)
+      (option_or (inheritance_cycle program) (option_or (duplicate_field program)
+      (option_or (duplicate_method program) (option_or r
+      (option_or (too_many_fields other) (option_or (too_many_slots other)
       (main_refusal end (mains other)))))))))) same_overrides
-      ∙ ap (λ r. first_of (duplicate_class program) (first_of (unknown_class program)
-      (first_of (inheritance_cycle program) (first_of (duplicate_field program)
-      (first_of (duplicate_method program) (first_of (differing_override program)
-      (first_of r (first_of (too_many_slots other) (main_refusal end (mains other))))))))))
+      ∙ ap (λ r. option_or (duplicate_class program) (option_or (unknown_class program)
+      (option_or (inheritance_cycle program) (option_or (duplicate_field program)
+      (option_or (duplicate_method program) (option_or (differing_override program)
+      (option_or r (option_or (too_many_slots other) (main_refusal end (mains other))))))))))
       same_many_fields
-      ∙ ap (λ r. first_of (duplicate_class program) (first_of (unknown_class program)
-      (first_of (inheritance_cycle program) (first_of (duplicate_field program)
-      (first_of (duplicate_method program) (first_of (differing_override program)
-      (first_of (too_many_fields program) (first_of r (main_refusal end (mains other))))))))))
+      ∙ ap (λ r. option_or (duplicate_class program) (option_or (unknown_class program)
+      (option_or (inheritance_cycle program) (option_or (duplicate_field program)
+      (option_or (duplicate_method program) (option_or (differing_override program)
+      (option_or (too_many_fields program) (option_or r (main_refusal end (mains other))))))))))
       same_many_slots
-      ∙ ap (λ l. first_of (duplicate_class program) (first_of (unknown_class program)
-      (first_of (inheritance_cycle program) (first_of (duplicate_field program)
-      (first_of (duplicate_method program) (first_of (differing_override program)
-      (first_of (too_many_fields program) (first_of (too_many_slots program)
+      ∙ ap (λ l. option_or (duplicate_class program) (option_or (unknown_class program)
+      (option_or (inheritance_cycle program) (option_or (duplicate_field program)
+      (option_or (duplicate_method program) (option_or (differing_override program)
+      (option_or (too_many_fields program) (option_or (too_many_slots program)
       (main_refusal end l))))))))) mains_kept
 
   pub has_table : HasClassTable program → HasClassTable other

@@ -14,9 +14,9 @@ use Rattle.token_limits.proofs.Limited.{wrong_limit, limit_begun, none_for}
 use Rattle.class_table.specs.class_rules.declared.error.ClassError.{ClassError}
 use Rattle.class_table.specs.class_rules.Rules.{IsFirst}
 use Rattle.class_table.specs.class_rules.Program.{check_program}
-use Rattle.class_table.specs.class_rules.Refusal.{Refusal, refused}
+use Rattle.class_table.specs.class_rules.Refusal.{Refusal, refused, class_refusal}
 use Rattle.class_table.specs.class_rules.Table.{HasClassTable, first_class_refusal}
-use Rattle.roopl_judge.specs.Errors.{lex_refusal, parse_refusal, class_refusal, error_of, IfRefused}
+use Rattle.roopl_judge.specs.Errors.{lex_refusal, parse_refusal, error_of, IfRefused}
 use Rattle.roopl_judge.specs.Judged.{IsTree, IsJudged, bad_byte, too_large, wrong_token, limit_passed, no_table, no_types}
 use Rattle.roopl_lexer.specs.declared.error.LexError.TheVariants as lex
 use Rattle.token_limits.specs.roopl_parser.declared.error.ParseError.TheVariants as parse
@@ -52,23 +52,23 @@ pub by_class_table : (text : List ℕ) (program : Source) (error : ClassError) �
     → IsFirst (first_class_refusal program (length text)) error
     → IfRefused (IsRefusal text) (error_of (class_refusal error))
 by_class_table text program (class.Limit which at) is first =
-    no_table is.tokens program (class.Limit which at) (refused 4 at) is.tree first refl
+    no_table is.tokens program (refused 4 at) is.tree first
 by_class_table text program (class.DuplicateClass at) is first =
-    no_table is.tokens program (class.DuplicateClass at) (refused 5 at) is.tree first refl
+    no_table is.tokens program (refused 5 at) is.tree first
 by_class_table text program (class.UnknownClass at) is first =
-    no_table is.tokens program (class.UnknownClass at) (refused 6 at) is.tree first refl
+    no_table is.tokens program (refused 6 at) is.tree first
 by_class_table text program (class.InheritanceCycle at) is first =
-    no_table is.tokens program (class.InheritanceCycle at) (refused 7 at) is.tree first refl
+    no_table is.tokens program (refused 7 at) is.tree first
 by_class_table text program (class.DuplicateField at) is first =
-    no_table is.tokens program (class.DuplicateField at) (refused 8 at) is.tree first refl
+    no_table is.tokens program (refused 8 at) is.tree first
 by_class_table text program (class.DuplicateMethod at) is first =
-    no_table is.tokens program (class.DuplicateMethod at) (refused 9 at) is.tree first refl
+    no_table is.tokens program (refused 9 at) is.tree first
 by_class_table text program (class.OverrideDiffers at) is first =
-    no_table is.tokens program (class.OverrideDiffers at) (refused 10 at) is.tree first refl
+    no_table is.tokens program (refused 10 at) is.tree first
 by_class_table text program (class.NoMain at) is first =
-    no_table is.tokens program (class.NoMain at) (refused 11 at) is.tree first refl
+    no_table is.tokens program (refused 11 at) is.tree first
 by_class_table text program (class.TwoMains at) is first =
-    no_table is.tokens program (class.TwoMains at) (refused 12 at) is.tree first refl
+    no_table is.tokens program (refused 12 at) is.tree first
 by_class_table text program class.NoMemory is first = tt
 
 pub by_types : (text : List ℕ) (program : Source) (refusal : Refusal) → IsTree text program → HasClassTable program

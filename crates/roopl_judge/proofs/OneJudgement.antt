@@ -15,12 +15,11 @@ use Rattle.token_limits.specs.roopl_parser.Viable.{first_limit as limit_read}
 use Rattle.token_limits.specs.Limits.{first_limit}
 use Rattle.token_limits.proofs.Limited.{derived_limit, wrong_limit, begun_limit, none_by}
 use Rattle.token_limits.proofs.roopl_parser_laws.Exact.{one_tree, read_all, wrong_read, passed_read}
-use Rattle.class_table.specs.class_rules.declared.error.ClassError.{ClassError}
 use Rattle.class_table.specs.class_rules.Program.{check_program}
 use Rattle.class_table.specs.class_rules.Refusal.{Refusal, refused}
 use Rattle.class_table.specs.class_rules.Statements.{passed}
 use Rattle.class_table.specs.class_rules.Table.{HasClassTable, first_class_refusal}
-use Rattle.roopl_judge.specs.Errors.{lex_refusal, class_refusal}
+use Rattle.roopl_judge.specs.Errors.{lex_refusal}
 use Rattle.roopl_judge.specs.Judged.{HasTree, IsJudged, bad_byte, too_large, wrong_token, limit_passed}
 use Rattle.roopl_judge.specs.Judged.{no_table, no_types, accepted}
 
@@ -33,8 +32,8 @@ data IsRead (tokens : List Token) (end : ℕ) : Refusal → Type 0 where
 -- ---- the check in layers
 
 data OfTable (text : List ℕ) (program : Source) : Result Source Refusal → Type 0 where
-  table_refused : (error : ClassError) (refusal : Refusal) → first_class_refusal program (length text) ≡ Some error
-      → class_refusal error ≡ Some refusal → OfTable text program (Err refusal)
+  table_refused : (refusal : Refusal) → first_class_refusal program (length text) ≡ Some refusal
+      → OfTable text program (Err refusal)
   types_refused : (refusal : Refusal) → HasClassTable program → check_program program ≡ Err refusal
       → OfTable text program (Err refusal)
   taken : HasClassTable program → check_program program ≡ passed → OfTable text program (Ok program)
@@ -42,24 +41,20 @@ data OfTable (text : List ℕ) (program : Source) : Result Source Refusal → Ty
 some_same : {A : Type 0} (a b : A) → Some a ≡ Some b → a ≡ b
 some_same a b e = cc
 
-table_errors : (r r' : Refusal) (e e' : ClassError) → e ≡ e' → class_refusal e ≡ Some r → class_refusal e' ≡ Some r'
-    → r ≡ r'
-table_errors r r' e e' same is is' = some_same r r' (sym is ∙ ap class_refusal same ∙ is')
-
 one_table : (text : List ℕ) (program : Source) (a b : Result Source Refusal) → OfTable text program a
     → OfTable text program b → a ≡ b
-one_table text program _ _ (table_refused e r first is) (table_refused e' r' first' is') =
-    ap (λ x. Err x) (table_errors r r' e e' (some_same e e' (sym first ∙ first')) is is')
-one_table text program _ _ (table_refused e r first is) (types_refused r' has bad) = let none =
+one_table text program _ _ (table_refused r first) (table_refused r' first') =
+    ap (λ x. Err x) (some_same r r' (sym first ∙ first'))
+one_table text program _ _ (table_refused r first) (types_refused r' has bad) = let none =
     has.none (length text) in absurd (cc)
-one_table text program _ _ (table_refused e r first is) (taken has good) = let none = has.none (length text) in
+one_table text program _ _ (table_refused r first) (taken has good) = let none = has.none (length text) in
     absurd (cc)
-one_table text program _ _ (types_refused r has bad) (table_refused e' r' first' is') = let none =
+one_table text program _ _ (types_refused r has bad) (table_refused r' first') = let none =
     has.none (length text) in absurd (cc)
 one_table text program _ _ (types_refused r has bad) (types_refused r' has' bad') = let same : r ≡ r' = cc in
     ap (λ x. Err x) same
 one_table text program _ _ (types_refused r has bad) (taken has' good) = absurd (cc)
-one_table text program _ _ (taken has good) (table_refused e' r' first' is') = let none = has.none (length text) in
+one_table text program _ _ (taken has good) (table_refused r' first') = let none = has.none (length text) in
     absurd (cc)
 one_table text program _ _ (taken has good) (types_refused r' has' bad) = absurd (cc)
 one_table text program _ _ (taken has good) (taken has' good') = refl
@@ -129,9 +124,9 @@ layered text _ (limit_passed tokens at cutting begun full) =
     let read = begun_limit tokens begun at full in
     cut tokens (Err (refused 4 at)) cutting (tree_refused (refused 4 at) (as_passed read.0 at
     (passed_read (length text) tokens (Limit read.0 at) read.1)))
-layered text _ (no_table tokens program error refusal has first is) =
+layered text _ (no_table tokens program refusal has first) =
     cut tokens (Err refusal) has.cutting (tree program (Err refusal) has.derives (passes_none text tokens program has)
-    (table_refused error refusal first is))
+    (table_refused refusal first))
 layered text _ (no_types tokens program refusal has classes bad) =
     cut tokens (Err refusal) has.cutting (tree program (Err refusal) has.derives (passes_none text tokens program has)
     (types_refused refusal classes bad))

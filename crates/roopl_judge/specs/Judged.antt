@@ -9,12 +9,10 @@ use Rattle.roopl_lexer.specs.Tokens.{Cut, IsCutting}
 use Rattle.token_limits.specs.roopl_parser.Grammar.{Derives}
 use Rattle.token_limits.specs.roopl_parser.Viable.{IsWrongAt}
 use Rattle.token_limits.specs.Limits.{Begins, first_limit}
-use Rattle.class_table.specs.class_rules.declared.error.ClassError.{ClassError}
 use Rattle.class_table.specs.class_rules.Program.{check_program}
 use Rattle.class_table.specs.class_rules.Refusal.{Refusal, refused}
 use Rattle.class_table.specs.class_rules.Statements.{passed}
 use Rattle.class_table.specs.class_rules.Table.{HasClassTable, first_class_refusal}
-use Rattle.roopl_judge.specs.Errors.{class_refusal}
 
 -- the syntax tree of a text within the limits
 pub record HasTree (text : List ℕ) (tokens : List Token) (program : Source) : Type 0 where
@@ -46,10 +44,9 @@ pub data IsJudged (text : List ℕ) : Result Source Refusal → Type 0 where
       → (begun : Begins tokens)
       → first_limit tokens begun.front ≡ Some at
       → IsJudged text (Err (refused 4 at))
-  no_table : (tokens : List Token) (program : Source) (error : ClassError) (refusal : Refusal)
+  no_table : (tokens : List Token) (program : Source) (refusal : Refusal)
       → HasTree text tokens program
-      → first_class_refusal program (length text) ≡ Some error
-      → class_refusal error ≡ Some refusal
+      → first_class_refusal program (length text) ≡ Some refusal
       → IsJudged text (Err refusal)
   no_types : (tokens : List Token) (program : Source) (refusal : Refusal)
       → HasTree text tokens program

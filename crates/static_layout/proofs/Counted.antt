@@ -4,9 +4,8 @@ use Rattle.std.proofs.Common.{add-one, nat_lt}
 use Rattle.std.proofs.lemmas.Bool.{ltb-false}
 use Rattle.std.proofs.lemmas.List.{length-map}
 use Rattle.roopl_semantics.specs.rpp_tree.declared.limits.TheConstants.{MOST_FIELDS, MOST_METHODS}
-use Rattle.roopl_semantics.specs.rpp_tree.declared.limits.LimitKind.TheVariants as limit
 use Rattle.roopl_semantics.specs.rpp_tree.Tree.{Source}
-use Rattle.roopl_semantics.specs.class_rules.declared.error.ClassError.TheVariants.{Limit}
+use Rattle.roopl_semantics.specs.class_rules.Refusal.{refused}
 use Rattle.roopl_semantics.specs.class_rules.First.{refused_if}
 use Rattle.roopl_semantics.specs.class_rules.Rules.{name_of}
 use Rattle.roopl_semantics.specs.class_rules.Members.{Slots, class_at, fields_of, slots_of, too_many_fields_at, too_many_slots_at}
@@ -41,7 +40,7 @@ pub fields_few : (program : Source) → IsAccepted program → (class : ℕ) →
 fields_few program accepted class inside =
     let own = class_at program class in
     let here : 0 + class ≡ class = omega arith in
-    not_refused MOST_FIELDS (length (fields_of program class)) (Limit limit.Fields own.name.at)
+    not_refused MOST_FIELDS (length (fields_of program class)) (refused 4 own.name.at)
     (ap (λ i. too_many_fields_at program i own) (sym here)
     ∙ passed_at (too_many_fields_at program) 0 class program.classes
     (table_rules program accepted.classes).fields_few inside)
@@ -51,7 +50,7 @@ pub slots_few : (program : Source) → IsAccepted program → (class : ℕ) → 
 slots_few program accepted class inside =
     let own = class_at program class in
     let here : 0 + class ≡ class = omega arith in
-    not_refused MOST_METHODS (length (slots_of program class)) (Limit limit.Methods own.name.at)
+    not_refused MOST_METHODS (length (slots_of program class)) (refused 4 own.name.at)
     (ap (λ i. too_many_slots_at program i own) (sym here)
     ∙ passed_at (too_many_slots_at program) 0 class program.classes
     (table_rules program accepted.classes).slots_few inside)
