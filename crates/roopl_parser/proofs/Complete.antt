@@ -28,7 +28,7 @@ use Rattle.roopl_lexer.specs.declared.token.Keyword.TheVariants as word
 use Rattle.roopl_lexer.specs.declared.token.Symbol.{Symbol}
 use Rattle.roopl_lexer.specs.declared.token.Symbol.TheVariants as sign
 use Rattle.roopl_parser.specs.declared.error.ParseError.{ParseError}
-use Rattle.roopl_parser.specs.Operators.{Span, tok, ident, binary_operator, level_of, at_level, operator_at}
+use Rattle.roopl_parser.specs.Operators.{Span, tok, ident, binary_operator, at_level, operator_at}
 use Rattle.roopl_parser.specs.Operators.{update_operator}
 use Rattle.roopl_parser.specs.Grammar.{lvalue_read, IsExpr, number, null, read, parens, weaker, binary, IsIndexed, whole}
 use Rattle.roopl_parser.specs.Grammar.{item, IsPlace, place, IsBracketed, plain, array, IsType, ints, objects, IsVar}
@@ -118,9 +118,9 @@ level_differs : (k j m : ℕ) (o op : BinOp) → cond (nat_eq k m) (Some o) None
     → cond (nat_eq j m) (Some o) None ≡ None
 level_differs k j m o op h l = grind (arith, nat_tests)
 
-level_below : (k j : ℕ) (o : Option BinOp) (op : BinOp) → at_level k o ≡ Some op → j < k → at_level j o ≡ None
+level_below : (k j : ℕ) (o : Option (ℕ × BinOp)) (op : BinOp) → at_level k o ≡ Some op → j < k → at_level j o ≡ None
 level_below k j None op h l = refl
-level_below k j (Some o) op h l = level_differs k j (level_of o) o op h l
+level_below k j (Some (binds, o)) op h l = level_differs k j binds o op h l
 
 operator_no_bracket : (k : ℕ) (kind : TokenKind) (op : BinOp) → operator_at k kind ≡ Some op
     → is_sign sign.LeftBracket kind ≡ false

@@ -1,5 +1,5 @@
 -- What may come for a stack, by the grammar; and that each step keeps to it.
-use Rattle.std.specs.Prelude.{◌≡◌, Ok, ℕ, suc, Bool, List, [], ◌∷◌, ◌++◌, Option, Some, None, cond, nat_eq, ◌⊎◌, refl}
+use Rattle.std.specs.Prelude.{◌≡◌, Ok, ℕ, suc, Bool, List, [], ◌∷◌, ◌++◌, Option, Some, None, ◌⊎◌, refl}
 use Rattle.std.proofs.Common.{zero, subst, sym, inl, inr, append_assoc, ap, ◌∙◌}
 use Rattle.rpp_tree.specs.declared.tree.Ident.{Ident}
 use Rattle.rpp_tree.specs.declared.tree.Var.{Var}
@@ -20,7 +20,7 @@ use Rattle.roopl_lexer.specs.declared.token.Keyword.{Keyword}
 use Rattle.roopl_lexer.specs.declared.token.Keyword.TheVariants as word
 use Rattle.roopl_lexer.specs.declared.token.Symbol.{Symbol}
 use Rattle.roopl_lexer.specs.declared.token.Symbol.TheVariants as sign
-use Rattle.roopl_parser.specs.Operators.{Span, tok, ident, binary_operator, level_of, at_level, operator_at}
+use Rattle.roopl_parser.specs.Operators.{Span, tok, ident, operator_at}
 use Rattle.roopl_parser.specs.Operators.{update_operator}
 use Rattle.roopl_parser.specs.Grammar.{lvalue_read, array_of, IsExpr, number, null, read, parens, weaker, binary}
 use Rattle.roopl_parser.specs.Grammar.{IsIndexed, whole, item, IsPlace, place, IsBracketed, plain, array, IsType, ints}
@@ -169,27 +169,24 @@ operand_sound k p i s n vs a (token.Sign sign.LeftParen) ts q g = let h = g.3 in
 operand_sound k p i s n vs a _ ts q g = absurd g
 
 -- every operator has a level of its own, from 1 on
-level_zero : (op : BinOp) (found : BinOp) → cond (nat_eq 0 (level_of op)) (Some op) None ≡ Some found → ⊥
-level_zero op.Mul found h = cc
-level_zero op.Div found h = cc
-level_zero op.Rem found h = cc
-level_zero op.Add found h = cc
-level_zero op.Sub found h = cc
-level_zero op.Less found h = cc
-level_zero op.Greater found h = cc
-level_zero op.AtMost found h = cc
-level_zero op.AtLeast found h = cc
-level_zero op.Equal found h = cc
-level_zero op.NotEqual found h = cc
-level_zero op.And found h = cc
-level_zero op.Xor found h = cc
-level_zero op.Or found h = cc
-level_zero op.AndAlso found h = cc
-level_zero op.OrElse found h = cc
-
-operator_zero : (o : Option BinOp) (found : BinOp) → at_level 0 o ≡ Some found → ⊥
-operator_zero None found h = cc
-operator_zero (Some op) found h = level_zero op found h
+operator_zero : (kind : TokenKind) (found : BinOp) → operator_at 0 kind ≡ Some found → ⊥
+operator_zero (token.Sign sign.Star) found h = cc
+operator_zero (token.Sign sign.Slash) found h = cc
+operator_zero (token.Sign sign.Percent) found h = cc
+operator_zero (token.Sign sign.Plus) found h = cc
+operator_zero (token.Sign sign.Minus) found h = cc
+operator_zero (token.Sign sign.Less) found h = cc
+operator_zero (token.Sign sign.Greater) found h = cc
+operator_zero (token.Sign sign.AtMost) found h = cc
+operator_zero (token.Sign sign.AtLeast) found h = cc
+operator_zero (token.Sign sign.Equal) found h = cc
+operator_zero (token.Sign sign.NotEqual) found h = cc
+operator_zero (token.Sign sign.Amp) found h = cc
+operator_zero (token.Sign sign.Caret) found h = cc
+operator_zero (token.Sign sign.Bar) found h = cc
+operator_zero (token.Sign sign.AmpAmp) found h = cc
+operator_zero (token.Sign sign.BarBar) found h = cc
+operator_zero _ found h = cc
 
 more_step : (k p i : ℕ) (a : Span) (kind : TokenKind) (op : BinOp) (s : List Part) (vs : List Value)
     (ts rest : List Token) (r : Expression) (q : Value) → operator_at (suc k) kind ≡ Some op → IsExpr k ts rest r
@@ -204,7 +201,7 @@ more_sound : (k p i : ℕ) (s : List Part) (n : ℕ) (vs : List Value) (a : Span
     → (Then_gen other ts q → Gen s vs (tok a kind ∷ ts) q) → Then_gen (more k p i s n vs a.at other op) ts q
     → Gen (More k p i ∷ s) vs (tok a kind ∷ ts) q
 more_sound k p i s n vs a kind other None ts q e below g = inl (below g)
-more_sound zero p i s n vs a kind other (Some op) ts q e below g = absurd (operator_zero (binary_operator kind) op e)
+more_sound zero p i s n vs a kind other (Some op) ts q e below g = absurd (operator_zero kind op e)
 more_sound (suc k) p i s n vs a kind other (Some op) ts q e below g =
     more_step k p i a kind op s vs ts g.0 g.1 q e g.2 g.3
 

@@ -23,48 +23,29 @@ tok span kind = record { kind = kind; at = span.at; len = span.len }
 abbrev pub ident : Span → List ℕ → Ident
 ident span text = record { at = span.at; text = text }
 
--- the binary operator that a token is
-abbrev pub binary_operator : TokenKind → Option BinOp
-binary_operator (Sign sign.Star) = Some op.Mul
-binary_operator (Sign sign.Slash) = Some op.Div
-binary_operator (Sign sign.Percent) = Some op.Rem
-binary_operator (Sign sign.Plus) = Some op.Add
-binary_operator (Sign sign.Minus) = Some op.Sub
-binary_operator (Sign sign.Less) = Some op.Less
-binary_operator (Sign sign.Greater) = Some op.Greater
-binary_operator (Sign sign.AtMost) = Some op.AtMost
-binary_operator (Sign sign.AtLeast) = Some op.AtLeast
-binary_operator (Sign sign.Equal) = Some op.Equal
-binary_operator (Sign sign.NotEqual) = Some op.NotEqual
-binary_operator (Sign sign.Amp) = Some op.And
-binary_operator (Sign sign.Caret) = Some op.Xor
-binary_operator (Sign sign.Bar) = Some op.Or
-binary_operator (Sign sign.AmpAmp) = Some op.AndAlso
-binary_operator (Sign sign.BarBar) = Some op.OrElse
+-- the binary operator that a token is, with its level: those at level 1 bind strongest
+abbrev pub binary_operator : TokenKind → Option (ℕ × BinOp)
+binary_operator (Sign sign.Star) = Some (1, op.Mul)
+binary_operator (Sign sign.Slash) = Some (1, op.Div)
+binary_operator (Sign sign.Percent) = Some (1, op.Rem)
+binary_operator (Sign sign.Plus) = Some (2, op.Add)
+binary_operator (Sign sign.Minus) = Some (2, op.Sub)
+binary_operator (Sign sign.Less) = Some (3, op.Less)
+binary_operator (Sign sign.Greater) = Some (3, op.Greater)
+binary_operator (Sign sign.AtMost) = Some (3, op.AtMost)
+binary_operator (Sign sign.AtLeast) = Some (3, op.AtLeast)
+binary_operator (Sign sign.Equal) = Some (4, op.Equal)
+binary_operator (Sign sign.NotEqual) = Some (4, op.NotEqual)
+binary_operator (Sign sign.Amp) = Some (5, op.And)
+binary_operator (Sign sign.Caret) = Some (6, op.Xor)
+binary_operator (Sign sign.Bar) = Some (7, op.Or)
+binary_operator (Sign sign.AmpAmp) = Some (8, op.AndAlso)
+binary_operator (Sign sign.BarBar) = Some (9, op.OrElse)
 binary_operator _ = None
 
--- how an operator binds: the strongest bind at level 1, the weakest at level 9
-abbrev pub level_of : BinOp → ℕ
-level_of op.Mul = 1
-level_of op.Div = 1
-level_of op.Rem = 1
-level_of op.Add = 2
-level_of op.Sub = 2
-level_of op.Less = 3
-level_of op.Greater = 3
-level_of op.AtMost = 3
-level_of op.AtLeast = 3
-level_of op.Equal = 4
-level_of op.NotEqual = 4
-level_of op.And = 5
-level_of op.Xor = 6
-level_of op.Or = 7
-level_of op.AndAlso = 8
-level_of op.OrElse = 9
-
-abbrev pub at_level : ℕ → Option BinOp → Option BinOp
+abbrev pub at_level : ℕ → Option (ℕ × BinOp) → Option BinOp
 at_level level None = None
-at_level level (Some op) = cond (nat_eq level (level_of op)) (Some op) None
+at_level level (Some (binds, op)) = cond (nat_eq level binds) (Some op) None
 
 -- the operator of this level that a token is
 abbrev pub operator_at : ℕ → TokenKind → Option BinOp

@@ -2,7 +2,7 @@
 ghost use Rattle.std.specs.Prelude.{◌≡◌, ◌<◌, ◌∷◌, ℕ, length, IfOk, MatchOption, [], true, false};
 ghost use Rattle.roopl_lexer.specs.declared.token.TokenKind.TheVariants.{Sign};
 ghost use Rattle.roopl_lexer.specs.declared.token.Symbol.TheVariants as sign;
-ghost use Rattle.roopl_parser.specs.Operators.{operator_at, binary_operator, level_of, update_operator};
+ghost use Rattle.roopl_parser.specs.Operators.{operator_at, binary_operator, update_operator};
 ghost use Rattle.roopl_parser.specs.Reader.{Gives, scan, ASign, AWord, AName, AnIdent, is_sign, is_word, here, starts, types};
 ghost use Rattle.roopl_parser.specs.Viable.{place_of};
 
@@ -111,7 +111,7 @@ pub fn operator_at(level: u32, kind: &TokenKind) -> Option<BinOp>
 {
     match binary_operator(kind) {
         None => None,
-        Some(op) => if level == level_of(op) {
+        Some((binds, op)) => if level == binds {
             Some(op)
         } else {
             None
@@ -119,7 +119,8 @@ pub fn operator_at(level: u32, kind: &TokenKind) -> Option<BinOp>
     }
 }
 
-fn binary_operator(kind: &TokenKind) -> Option<BinOp>
+/// The binary operator that a token is, with its level: the strongest bind at level 1.
+fn binary_operator(kind: &TokenKind) -> Option<(u32, BinOp)>
     ensures { result ≡ binary_operator kind.now }
 {
     match kind {
@@ -128,44 +129,27 @@ fn binary_operator(kind: &TokenKind) -> Option<BinOp>
     }
 }
 
-fn sign_operator(sign: Symbol) -> Option<BinOp>
+fn sign_operator(sign: Symbol) -> Option<(u32, BinOp)>
     ensures { result ≡ binary_operator (Sign sign) }
 {
     match sign {
-        Symbol::Star => Some(BinOp::Mul),
-        Symbol::Slash => Some(BinOp::Div),
-        Symbol::Percent => Some(BinOp::Rem),
-        Symbol::Plus => Some(BinOp::Add),
-        Symbol::Minus => Some(BinOp::Sub),
-        Symbol::Less => Some(BinOp::Less),
-        Symbol::Greater => Some(BinOp::Greater),
-        Symbol::AtMost => Some(BinOp::AtMost),
-        Symbol::AtLeast => Some(BinOp::AtLeast),
-        Symbol::Equal => Some(BinOp::Equal),
-        Symbol::NotEqual => Some(BinOp::NotEqual),
-        Symbol::Amp => Some(BinOp::And),
-        Symbol::Caret => Some(BinOp::Xor),
-        Symbol::Bar => Some(BinOp::Or),
-        Symbol::AmpAmp => Some(BinOp::AndAlso),
-        Symbol::BarBar => Some(BinOp::OrElse),
+        Symbol::Star => Some((1, BinOp::Mul)),
+        Symbol::Slash => Some((1, BinOp::Div)),
+        Symbol::Percent => Some((1, BinOp::Rem)),
+        Symbol::Plus => Some((2, BinOp::Add)),
+        Symbol::Minus => Some((2, BinOp::Sub)),
+        Symbol::Less => Some((3, BinOp::Less)),
+        Symbol::Greater => Some((3, BinOp::Greater)),
+        Symbol::AtMost => Some((3, BinOp::AtMost)),
+        Symbol::AtLeast => Some((3, BinOp::AtLeast)),
+        Symbol::Equal => Some((4, BinOp::Equal)),
+        Symbol::NotEqual => Some((4, BinOp::NotEqual)),
+        Symbol::Amp => Some((5, BinOp::And)),
+        Symbol::Caret => Some((6, BinOp::Xor)),
+        Symbol::Bar => Some((7, BinOp::Or)),
+        Symbol::AmpAmp => Some((8, BinOp::AndAlso)),
+        Symbol::BarBar => Some((9, BinOp::OrElse)),
         _ => None,
-    }
-}
-
-/// How an operator binds: the strongest bind at level 1.
-fn level_of(op: BinOp) -> u32
-    ensures { result ≡ level_of op }
-{
-    match op {
-        BinOp::Mul | BinOp::Div | BinOp::Rem => 1,
-        BinOp::Add | BinOp::Sub => 2,
-        BinOp::Less | BinOp::Greater | BinOp::AtMost | BinOp::AtLeast => 3,
-        BinOp::Equal | BinOp::NotEqual => 4,
-        BinOp::And => 5,
-        BinOp::Xor => 6,
-        BinOp::Or => 7,
-        BinOp::AndAlso => 8,
-        BinOp::OrElse => 9,
     }
 }
 
