@@ -48,10 +48,8 @@ pub record IsLongest (kind : TokenKind) (len : ℕ) (rest : List ℕ) : Type 0 w
       → Spells other (take more rest) → ⊥
 
 abbrev pub is_too_large : TokenKind → Bool
-is_too_large (Word keyword) = false
-is_too_large (Name text) = false
 is_too_large (Number n) = nat_lt MOST_NUMBER n
-is_too_large (Sign sign) = false
+is_too_large _ = false
 
 -- bytes follow, and no front of them is white space, a comment or a token
 pub record NothingBegins (rest : List ℕ) : Type 0 where

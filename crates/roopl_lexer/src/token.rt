@@ -25,112 +25,62 @@ pub enum TokenKind {
     Sign(Symbol),
 }
 
-/// The words of the language that are no names.
+/// The words of the language that are no names. `keyword_bytes` of specs/Signs.antt has their bytes.
 #[derive(Clone, Copy, Debug, PartialEq, Eq)]
 pub enum Keyword {
-    /// `class`
     Class,
-    /// `inherits`
     Inherits,
-    /// `method`
     Method,
-    /// `int`
     Int,
-    /// `nil`
     Nil,
-    /// `skip`
     Skip,
-    /// `if`
     If,
-    /// `then`
     Then,
-    /// `else`
     Else,
-    /// `fi`
     Fi,
-    /// `from`
     From,
-    /// `do`
     Do,
-    /// `loop`
     Loop,
-    /// `until`
     Until,
-    /// `local`
     Local,
-    /// `delocal`
     Delocal,
-    /// `construct`
     Construct,
-    /// `destruct`
     Destruct,
-    /// `new`
     New,
-    /// `delete`
     Delete,
-    /// `copy`
     Copy,
-    /// `uncopy`
     Uncopy,
-    /// `call`
     Call,
-    /// `uncall`
     Uncall,
 }
 
-/// The symbols of the language.
+/// The symbols of the language. `sign_bytes` of specs/Signs.antt has their bytes.
 #[derive(Clone, Copy, Debug, PartialEq, Eq)]
 pub enum Symbol {
-    /// `+=`
     AddTo,
-    /// `-=`
     SubFrom,
-    /// `^=`
     XorInto,
-    /// `<=>`
     Swap,
-    /// `+`
     Plus,
-    /// `-`
     Minus,
-    /// `^`
     Caret,
-    /// `&`
     Amp,
-    /// `|`
     Bar,
-    /// `&&`
     AmpAmp,
-    /// `||`
     BarBar,
-    /// `<`
     Less,
-    /// `>`
     Greater,
-    /// `<=`
     AtMost,
-    /// `>=`
     AtLeast,
-    /// `=`
     Equal,
-    /// `!=`
     NotEqual,
-    /// `*`
     Star,
-    /// `/`
     Slash,
-    /// `%`
     Percent,
-    /// `(`
     LeftParen,
-    /// `)`
     RightParen,
-    /// `[`
     LeftBracket,
-    /// `]`
     RightBracket,
-    /// `,`
     Comma,
-    /// `::`
     DoubleColon,
 }

@@ -1,6 +1,6 @@
 -- What may come for a stack, by the grammar; and that each step keeps to it.
 use Rattle.std.specs.Prelude.{◌≡◌, Ok, ℕ, suc, Bool, List, [], ◌∷◌, ◌++◌, Option, Some, None, ◌⊎◌, refl}
-use Rattle.std.proofs.Common.{zero, subst, sym, inl, inr, append_assoc, ap, ◌∙◌}
+use Rattle.std.proofs.Common.{zero, subst, sym, inl, inr, append_assoc, ap, ◌∙◌, cond}
 use Rattle.rpp_tree.specs.declared.tree.Ident.{Ident}
 use Rattle.rpp_tree.specs.declared.tree.Var.{Var}
 use Rattle.rpp_tree.specs.declared.tree.VarType.{VarType}
