@@ -108,48 +108,29 @@ pub enum Expr {
 /// A binary operator.
 #[derive(Clone, Copy, Debug, PartialEq, Eq)]
 pub enum BinOp {
-    /// `+`
     Add,
-    /// `-`
     Sub,
-    /// `^`
     Xor,
-    /// `&`
     And,
-    /// `|`
     Or,
-    /// `&&`
     AndAlso,
-    /// `||`
     OrElse,
-    /// `<`
     Less,
-    /// `>`
     Greater,
-    /// `<=`
     AtMost,
-    /// `>=`
     AtLeast,
-    /// `=`
     Equal,
-    /// `!=`
     NotEqual,
-    /// `*`
     Mul,
-    /// `/`
     Div,
-    /// `%`
     Rem,
 }
 
 /// How a place is updated.
 #[derive(Clone, Copy, Debug, PartialEq, Eq)]
 pub enum UpdateOp {
-    /// `+=`
     Add,
-    /// `-=`
     Sub,
-    /// `^=`
     Xor,
 }
 
