@@ -5,7 +5,7 @@ use Rattle.rpp_tree.specs.declared.limits.LimitKind.{LimitKind}
 use Rattle.rpp_tree.specs.Tree.{Source}
 use Rattle.roopl_lexer.specs.declared.token.Token.{Token}
 use Rattle.roopl_lexer.specs.declared.error.LexError.{LexError}
-use Rattle.roopl_lexer.specs.Tokens.{IsCutting, IsFirstRefusal}
+use Rattle.roopl_lexer.specs.Tokens.{IsCutting, IsFirstRefusal, lex_refusal}
 use Rattle.token_limits.specs.roopl_parser.declared.error.ParseError.{ParseError}
 use Rattle.token_limits.specs.roopl_parser.Viable.{IsWrongAt}
 use Rattle.token_limits.specs.roopl_parser.Viable.{first_limit as limit_read}
@@ -16,8 +16,8 @@ use Rattle.class_table.specs.class_rules.Rules.{IsFirst}
 use Rattle.class_table.specs.class_rules.Program.{check_program}
 use Rattle.class_table.specs.class_rules.Refusal.{Refusal, refused, class_refusal}
 use Rattle.class_table.specs.class_rules.Table.{HasClassTable, first_class_refusal}
-use Rattle.roopl_judge.specs.Errors.{lex_refusal, parse_refusal, error_of, IfRefused}
-use Rattle.roopl_judge.specs.Judged.{IsTree, IsJudged, bad_byte, too_large, wrong_token, limit_passed, no_table, no_types}
+use Rattle.roopl_judge.specs.Errors.{parse_refusal, error_of, IfRefused}
+use Rattle.roopl_judge.specs.Judged.{IsTree, IsJudged, not_cut, wrong_token, limit_passed, no_table, no_types}
 use Rattle.roopl_lexer.specs.declared.error.LexError.TheVariants as lex
 use Rattle.token_limits.specs.roopl_parser.declared.error.ParseError.TheVariants as parse
 use Rattle.class_table.specs.class_rules.declared.error.ClassError.TheVariants as class
@@ -28,9 +28,9 @@ IsRefusal text refusal = IsJudged text (Err refusal)
 pub by_lexer : (text : List ℕ) (error : LexError) → (error ≢ lex.NoMemory → IsFirstRefusal text error)
     → IfRefused (IsRefusal text) (error_of (lex_refusal error))
 by_lexer text (lex.BadByte at) first = let cut = first (λ e. cc) in
-    bad_byte cut.0 at cut.1
+    not_cut cut.0 (refused 1 at) cut.1
 by_lexer text (lex.NumberTooLarge at) first = let cut = first (λ e. cc) in
-    too_large cut.0 at cut.1
+    not_cut cut.0 (refused 2 at) cut.1
 by_lexer text lex.NoMemory first = tt
 
 pub by_parser : (text : List ℕ) (tokens : List Token) (error : ParseError) → IsCutting text tokens

@@ -3,8 +3,6 @@ use Rattle.std.proofs.Common.{◌≡◌, ◌∙◌, sym, ap, subst, ℕ, List, l
 use Rattle.std.specs.Prelude.{Result}
 use Rattle.rpp_tree.specs.Tree.{Source}
 use Rattle.roopl_lexer.specs.declared.token.Token.{Token}
-use Rattle.roopl_lexer.specs.declared.error.LexError.{LexError}
-use Rattle.roopl_lexer.specs.declared.error.LexError.TheVariants.{BadByte, NumberTooLarge}
 use Rattle.roopl_lexer.specs.Tokens.{Cut}
 use Rattle.roopl_lexer.proofs.Unique.{one_cut}
 use Rattle.rpp_tree.specs.declared.limits.LimitKind.{LimitKind}
@@ -19,8 +17,7 @@ use Rattle.class_table.specs.class_rules.Program.{check_program}
 use Rattle.class_table.specs.class_rules.Refusal.{Refusal, refused}
 use Rattle.class_table.specs.class_rules.Statements.{passed}
 use Rattle.class_table.specs.class_rules.Table.{HasClassTable, first_class_refusal}
-use Rattle.roopl_judge.specs.Errors.{lex_refusal}
-use Rattle.roopl_judge.specs.Judged.{HasTree, IsJudged, bad_byte, too_large, wrong_token, limit_passed}
+use Rattle.roopl_judge.specs.Judged.{HasTree, IsJudged, not_cut, wrong_token, limit_passed}
 use Rattle.roopl_judge.specs.Judged.{no_table, no_types, accepted}
 
 -- what reading the tokens gives, if they are refused
@@ -91,19 +88,18 @@ one_of_tokens text tokens a b (tree program _ derives none of) (tree program' _ 
     of'
 
 data OfText (text : List ℕ) : Result Source Refusal → Type 0 where
-  tokens_refused : (tokens : List Token) (error : LexError) (refusal : Refusal) → Cut 0 text tokens (Some error)
-      → lex_refusal error ≡ Some refusal → OfText text (Err refusal)
+  tokens_refused : (tokens : List Token) (refusal : Refusal) → Cut 0 text tokens (Some refusal)
+      → OfText text (Err refusal)
   cut : (tokens : List Token) (a : Result Source Refusal) → Cut 0 text tokens None → OfTokens text tokens a
       → OfText text a
 
 one_of_text : (text : List ℕ) (a b : Result Source Refusal) → OfText text a → OfText text b → a ≡ b
-one_of_text text _ _ (tokens_refused ts e r c is) (tokens_refused ts' e' r' c' is') =
-    let same : e ≡ e' = some_same e e' (one_cut 0 text ts (Some e) ts' (Some e') c c').1 in
-    ap (λ x. Err x) (some_same r r' (sym is ∙ ap lex_refusal same ∙ is'))
-one_of_text text _ b (tokens_refused ts e r c is) (cut ts' _ c' of) = let same =
-    (one_cut 0 text ts (Some e) ts' None c c').1 in absurd (cc)
-one_of_text text a _ (cut ts _ c of) (tokens_refused ts' e r c' is) = let same =
-    (one_cut 0 text ts None ts' (Some e) c c').1 in absurd (cc)
+one_of_text text _ _ (tokens_refused ts r c) (tokens_refused ts' r' c') =
+    ap (λ x. Err x) (some_same r r' (one_cut 0 text ts (Some r) ts' (Some r') c c').1)
+one_of_text text _ b (tokens_refused ts r c) (cut ts' _ c' of) = let same =
+    (one_cut 0 text ts (Some r) ts' None c c').1 in absurd (cc)
+one_of_text text a _ (cut ts _ c of) (tokens_refused ts' r c') = let same =
+    (one_cut 0 text ts None ts' (Some r) c c').1 in absurd (cc)
 one_of_text text a b (cut ts _ c of) (cut ts' _ c' of') =
     one_of_tokens text ts' a b (subst (λ tokens. OfTokens text tokens a) (one_cut 0 text ts None ts' None c c').0 of)
     of'
@@ -114,8 +110,7 @@ passes_none text tokens program has =
     none_by (limit_read tokens) (first_limit tokens tokens) (derived_limit tokens program has.derives) has.no_limit
 
 layered : (text : List ℕ) (a : Result Source Refusal) → IsJudged text a → OfText text a
-layered text _ (bad_byte tokens at c) = tokens_refused tokens (BadByte at) (refused 1 at) c refl
-layered text _ (too_large tokens at c) = tokens_refused tokens (NumberTooLarge at) (refused 2 at) c refl
+layered text _ (not_cut tokens refusal c) = tokens_refused tokens refusal c
 layered text _ (wrong_token tokens at cutting wrong none) =
     cut tokens (Err (refused 3 at)) cutting (tree_refused (refused 3 at) (as_wrong at
     (wrong_read (length text) tokens at wrong (none_by (limit_read tokens) (first_limit tokens wrong.front)

@@ -3,17 +3,10 @@ use Rattle.std.specs.Prelude.{⊤, Option, Some, None}
 use Rattle.class_table.specs.class_rules.Refusal.{Refusal, refused}
 use Rattle.roopl_judge.specs.declared.error.SourceError.{SourceError}
 use Rattle.roopl_judge.specs.declared.error.SourceError.TheVariants.{Refused, NoMemory}
-use Rattle.roopl_lexer.specs.declared.error.LexError.{LexError}
 use Rattle.token_limits.specs.roopl_parser.declared.error.ParseError.{ParseError}
-use Rattle.roopl_lexer.specs.declared.error.LexError.TheVariants as lex
 use Rattle.token_limits.specs.roopl_parser.declared.error.ParseError.TheVariants as parse
 
 -- the refusal that an error is; `NoMemory` is none
-abbrev pub lex_refusal : LexError → Option Refusal
-lex_refusal (lex.BadByte at) = Some (refused 1 at)
-lex_refusal (lex.NumberTooLarge at) = Some (refused 2 at)
-lex_refusal lex.NoMemory = None
-
 abbrev pub parse_refusal : ParseError → Option Refusal
 parse_refusal (parse.Syntax at) = Some (refused 3 at)
 parse_refusal (parse.Limit which at) = Some (refused 4 at)

@@ -3,9 +3,7 @@ use Rattle.std.specs.Prelude.{◌≡◌, ℕ, List, length, Some, None, Result, 
 use Rattle.rpp_tree.specs.Limits.{IsWithinLimits}
 use Rattle.rpp_tree.specs.Tree.{Source}
 use Rattle.roopl_lexer.specs.declared.token.Token.{Token}
-use Rattle.roopl_lexer.specs.declared.error.LexError.TheVariants.{BadByte}
-use Rattle.roopl_lexer.specs.declared.error.LexError.TheVariants.{NumberTooLarge}
-use Rattle.roopl_lexer.specs.Tokens.{Cut, IsCutting}
+use Rattle.roopl_lexer.specs.Tokens.{Cut}
 use Rattle.token_limits.specs.roopl_parser.Grammar.{Derives}
 use Rattle.token_limits.specs.roopl_parser.Viable.{IsWrongAt}
 use Rattle.token_limits.specs.Limits.{Begins, first_limit}
@@ -16,7 +14,7 @@ use Rattle.class_table.specs.class_rules.Table.{HasClassTable, first_class_refus
 
 -- the syntax tree of a text within the limits
 pub record HasTree (text : List ℕ) (tokens : List Token) (program : Source) : Type 0 where
-  pub cutting : IsCutting text tokens
+  pub cutting : Cut 0 text tokens None
   pub derives : Derives tokens program
   pub no_limit : first_limit tokens tokens ≡ None
 
@@ -28,19 +26,16 @@ pub record IsTree (text : List ℕ) (program : Source) : Type 0 where
 
 -- the lexer comes first, then the grammar with its limits, then the class table, then the types
 pub data IsJudged (text : List ℕ) : Result Source Refusal → Type 0 where
-  bad_byte : (tokens : List Token) (at : ℕ)
-      → Cut 0 text tokens (Some (BadByte at))
-      → IsJudged text (Err (refused 1 at))
-  too_large : (tokens : List Token) (at : ℕ)
-      → Cut 0 text tokens (Some (NumberTooLarge at))
-      → IsJudged text (Err (refused 2 at))
+  not_cut : (tokens : List Token) (refusal : Refusal)
+      → Cut 0 text tokens (Some refusal)
+      → IsJudged text (Err refusal)
   wrong_token : (tokens : List Token) (at : ℕ)
-      → IsCutting text tokens
+      → Cut 0 text tokens None
       → (wrong : IsWrongAt (length text) tokens at)
       → first_limit tokens wrong.front ≡ None
       → IsJudged text (Err (refused 3 at))
   limit_passed : (tokens : List Token) (at : ℕ)
-      → IsCutting text tokens
+      → Cut 0 text tokens None
       → (begun : Begins tokens)
       → first_limit tokens begun.front ≡ Some at
       → IsJudged text (Err (refused 4 at))

@@ -2,7 +2,8 @@
 ghost use Rattle.std.specs.Prelude.{◌≡◌};
 ghost use Rattle.reversible_types.specs.Verdicts.{refusal_of};
 ghost use Rattle.class_table.specs.class_rules.Refusal.{class_refusal};
-ghost use Rattle.roopl_judge.specs.Errors.{lex_refusal, parse_refusal, error_of};
+ghost use Rattle.roopl_lexer.specs.Tokens.{lex_refusal};
+ghost use Rattle.roopl_judge.specs.Errors.{parse_refusal, error_of};
 ghost use Rattle.roopl_judge.specs.declared.error.SourceError.TheVariants.{NoMemory};
 
 use class_table::ClassError;

@@ -6,7 +6,9 @@ use Rattle.std.proofs.lemmas.List.{append-nil, drop_all}
 use Rattle.roopl_lexer.specs.declared.token.Token.{Token}
 use Rattle.roopl_lexer.specs.declared.error.LexError.{LexError}
 use Rattle.roopl_lexer.specs.declared.error.LexError.TheVariants.{BadByte, NumberTooLarge, NoMemory}
+use Rattle.rpp_tree.specs.Refusal.{Refusal, refused}
 use Rattle.roopl_lexer.specs.Tokens.{is_white, begins_comment, Cut, finish, white, comment, token, bad_byte, too_large}
+use Rattle.roopl_lexer.specs.Tokens.{lex_refusal, IsFirstRefusal}
 use Rattle.roopl_lexer.specs.Begins.{IsBlank, IsTokenAt, IsRefusedAt}
 
 -- neither white space nor a comment is at the beginning
@@ -25,7 +27,7 @@ pub blank_within : (rest : List ℕ) (n : ℕ) → IsBlank rest n → 0 < length
 blank_within rest n blank some =
     ⊎_elim (λ one. omega (arith, one.0)) (λ more. ⊎_elim (λ long. long.2) (λ none. omega (arith, none.0)) more) blank
 
-pub blank_cut : (at n : ℕ) (rest : List ℕ) (after : List Token) (refusal : Option LexError) → IsBlank rest n → 0 < n
+pub blank_cut : (at n : ℕ) (rest : List ℕ) (after : List Token) (refusal : Option Refusal) → IsBlank rest n → 0 < n
     → Cut (at + n) (drop n rest) after refusal → Cut at rest after refusal
 blank_cut at n rest after refusal blank some cut =
     ⊎_elim
@@ -36,7 +38,7 @@ blank_cut at n rest after refusal blank some cut =
     more)
     blank
 
-pub token_cut : (at : ℕ) (rest : List ℕ) (found : Token) (after : List Token) (refusal : Option LexError) → NoBlank rest
+pub token_cut : (at : ℕ) (rest : List ℕ) (found : Token) (after : List Token) (refusal : Option Refusal) → NoBlank rest
     → IsTokenAt at rest found → Cut (at + found.len) (drop found.len rest) after refusal
     → Cut at rest (found ∷ after) refusal
 token_cut at rest found after refusal none is_token cut =
@@ -45,23 +47,29 @@ token_cut at rest found after refusal none is_token cut =
     (token at rest found.kind found.len after refusal none.no_comment is_token.is_longest is_token.in_range cut)
 
 pub refusal_cut : (at : ℕ) (rest : List ℕ) (error : LexError) → 0 < length rest → NoBlank rest
-    → IsRefusedAt at rest error → (error ≡ NoMemory → ⊥) → Cut at rest [] (Some error)
-refusal_cut at rest (BadByte place) some none refused other =
-    subst (λ p. Cut at rest [] (Some (BadByte p))) (sym refused.0)
+    → IsRefusedAt at rest error → (error ≡ NoMemory → ⊥) → Cut at rest [] (lex_refusal error)
+refusal_cut at rest (BadByte place) some none why other =
+    subst (λ p. Cut at rest [] (Some (refused 1 p))) (sym why.0)
     (bad_byte at rest (record {
       more = some;
       no_white = none.no_white;
       no_comment = none.no_comment;
-      no_token = refused.1;
+      no_token = why.1;
     }))
-refusal_cut at rest (NumberTooLarge place) some none refused other =
-    subst (λ p. Cut at rest [] (Some (NumberTooLarge p))) (sym refused.0)
-    (too_large at rest refused.1.kind refused.1.len none.no_comment refused.1.is_longest refused.1.too_large)
-refusal_cut at rest NoMemory some none refused other = absurd (other refl)
+refusal_cut at rest (NumberTooLarge place) some none why other =
+    subst (λ p. Cut at rest [] (Some (refused 2 p))) (sym why.0)
+    (too_large at rest why.1.kind why.1.len none.no_comment why.1.is_longest why.1.too_large)
+refusal_cut at rest NoMemory some none why other = absurd (other refl)
+
+first_refusal : (text : List ℕ) (error : LexError) → (error ≡ NoMemory → ⊥)
+    → (front : List Token) × Cut 0 text front (lex_refusal error) → IsFirstRefusal text error
+first_refusal text (BadByte at) other first = first
+first_refusal text (NumberTooLarge at) other first = first
+first_refusal text NoMemory other first = absurd (other refl)
 
 -- the tokens so far and the tokenization of the rest are the tokenization of the text
 abbrev pub CutUpTo : List ℕ → List Token → ℕ → Type 0
-CutUpTo text tokens at = (after : List Token) (refusal : Option LexError) → Cut at (drop at text) after refusal
+CutUpTo text tokens at = (after : List Token) (refusal : Option Refusal) → Cut at (drop at text) after refusal
     → Cut 0 text (tokens ++ after) refusal
 
 -- the slice of a text from a place on
@@ -105,13 +113,13 @@ module _ (text : List ℕ) (tokens : List Token) (at : ℕ) (so_far : CutUpTo te
       (none_here n blank none) here (rw drop-drop cut)))
 
   pub up_to_refusal : (n : ℕ) (error : LexError) → at < length text → IsBlank (slice_from at text) n → n ≤ 0
-      → IsRefusedAt at (slice_from at text) error → (error ≡ NoMemory → ⊥)
-      → (front : List Token) × Cut 0 text front (Some error)
-  up_to_refusal n error more blank none refused other =
+      → IsRefusedAt at (slice_from at text) error → (error ≡ NoMemory → ⊥) → IsFirstRefusal text error
+  up_to_refusal n error more blank none why other =
       let left = length-drop at text in
-      let here = subst (λ rest. IsRefusedAt at rest error) (slice_from-drop at text) refused in (
+      let here = subst (λ rest. IsRefusedAt at rest error) (slice_from-drop at text) why in
+      first_refusal text error other (
         tokens ++ [],
-        so_far [] (Some error) (refusal_cut at (drop at text) error (omega arith) (none_here n blank none)
+        so_far [] (lex_refusal error) (refusal_cut at (drop at text) error (omega arith) (none_here n blank none)
             here other),
       )
 

@@ -9,7 +9,7 @@ use Rattle.rpp_tree.specs.declared.limits.TheConstants.{MOST_BYTES}
 use Rattle.roopl_lexer.specs.declared.token.Token.{Token}
 use Rattle.roopl_lexer.specs.declared.token.TokenKind.{TokenKind}
 use Rattle.roopl_lexer.specs.declared.token.TokenKind.TheVariants.{Word, Name, Number, Sign}
-use Rattle.roopl_lexer.specs.declared.error.LexError.{LexError}
+use Rattle.rpp_tree.specs.Refusal.{Refusal}
 use Rattle.roopl_lexer.specs.Tokens.{is_white, comment_length, Spells, Cut, finish, white, comment, token, bad_byte}
 use Rattle.roopl_lexer.specs.Tokens.{too_large}
 use Rattle.roopl_lexer.specs.Readable.{IsNamed, name_length, AreReadable, AreInOrder}
@@ -34,7 +34,7 @@ comment_rest rest =
 token_rest : (len : ℕ) (rest : List ℕ) → len ≤ length rest → len + length (drop len rest) ≡ length rest
 token_rest len rest within = let left = length-drop len rest in omega arith
 
-pub in_order : (at : ℕ) (rest : List ℕ) (tokens : List Token) (refusal : Option LexError) → Cut at rest tokens refusal
+pub in_order : (at : ℕ) (rest : List ℕ) (tokens : List Token) (refusal : Option Refusal) → Cut at rest tokens refusal
     → AreInOrder at tokens (at + length rest)
 in_order _ _ _ _ (finish at) = omega arith
 in_order _ _ _ _ (white at rest tokens refusal blank cut) =
@@ -89,7 +89,7 @@ spelled_length (Name text) bytes spelled = let same = ap length spelled.0 in ome
 spelled_length (Number n) bytes spelled = omega arith
 spelled_length (Sign sign) bytes spelled = omega arith
 
-names_each : (at : ℕ) (rest : List ℕ) (tokens : List Token) (refusal : Option LexError) → Cut at rest tokens refusal
+names_each : (at : ℕ) (rest : List ℕ) (tokens : List Token) (refusal : Option Refusal) → Cut at rest tokens refusal
     → AllByRecursion (λ found. IsNamed found.kind) tokens
 names_each _ _ _ _ (finish at) = tt
 names_each _ _ _ _ (white at rest tokens refusal blank cut) = names_each (at + 1) (drop 1 rest) tokens refusal cut
@@ -100,7 +100,7 @@ names_each _ _ _ _ (token at rest kind len tokens refusal none long small cut) =
 names_each _ _ _ _ (bad_byte at rest nothing) = tt
 names_each _ _ _ _ (too_large at rest kind len none long large) = tt
 
-name_sum : (at : ℕ) (rest : List ℕ) (tokens : List Token) (refusal : Option LexError) → Cut at rest tokens refusal
+name_sum : (at : ℕ) (rest : List ℕ) (tokens : List Token) (refusal : Option Refusal) → Cut at rest tokens refusal
     → sum_by (λ found. name_length found.kind) tokens ≤ length rest
 name_sum _ _ _ _ (finish at) = omega arith
 name_sum _ _ _ _ (white at rest tokens refusal blank cut) =
@@ -119,14 +119,14 @@ name_sum _ _ _ _ (token at rest kind len tokens refusal none long small cut) =
 name_sum _ _ _ _ (bad_byte at rest nothing) = omega arith
 name_sum _ _ _ _ (too_large at rest kind len none long large) = omega arith
 
-pub all_within : (text : List ℕ) (tokens : List Token) (refusal : Option LexError) → Cut 0 text tokens refusal
+pub all_within : (text : List ℕ) (tokens : List Token) (refusal : Option Refusal) → Cut 0 text tokens refusal
     → All (λ found. found.at + found.len ≤ length text) tokens
 all_within text tokens refusal cut =
     let ordered = in_order 0 text tokens refusal cut in
     All-from_recursion (λ found. found.at + found.len ≤ length text) tokens
     (within_each 0 (length text) tokens (subst (λ end. AreInOrder 0 tokens end) (zero-add (length text)) ordered))
 
-pub readable : (text : List ℕ) (tokens : List Token) (refusal : Option LexError) → length text ≤ MOST_BYTES
+pub readable : (text : List ℕ) (tokens : List Token) (refusal : Option Refusal) → length text ≤ MOST_BYTES
     → Cut 0 text tokens refusal → AreReadable tokens
 readable text tokens refusal small cut = record {
   places = All-from_recursion (λ found. found.at < MOST_BYTES) tokens

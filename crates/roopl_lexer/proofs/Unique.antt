@@ -20,7 +20,7 @@ use Rattle.roopl_lexer.specs.declared.token.Token.{Token}
 use Rattle.roopl_lexer.specs.declared.token.TokenKind.{TokenKind}
 use Rattle.roopl_lexer.specs.declared.token.TokenKind.TheVariants.{Word, Name, Number, Sign}
 use Rattle.roopl_lexer.specs.declared.word.TheConstants.{KEYWORDS}
-use Rattle.roopl_lexer.specs.declared.error.LexError.{LexError}
+use Rattle.rpp_tree.specs.Refusal.{Refusal}
 use Rattle.roopl_lexer.specs.Signs.{keyword_bytes, sign_bytes}
 use Rattle.roopl_lexer.specs.Tokens.{is_white, begins_comment, comment_length, Spells, IsLongest, is_too_large, Cut}
 use Rattle.roopl_lexer.specs.Tokens.{finish, white, comment, token, bad_byte, too_large}
@@ -181,7 +181,7 @@ comment_no_white (a ∷ b ∷ rest) starts blank = grind (arith, nat_tests)
 
 -- ---- one tokenization
 
-pub one_cut : (at : ℕ) (rest : List ℕ) (a : List Token) (x : Option LexError) (b : List Token) (y : Option LexError)
+pub one_cut : (at : ℕ) (rest : List ℕ) (a : List Token) (x : Option Refusal) (b : List Token) (y : Option Refusal)
     → Cut at rest a x → Cut at rest b y → (a ≡ b) × (x ≡ y)
 one_cut _ _ _ _ _ _ (finish at) (finish _) = (refl, refl)
 one_cut _ _ _ _ _ _ (finish at) (white _ _ tokens refusal blank cut) = cc

@@ -6,11 +6,12 @@ use Rattle.std.specs.List.{AllPass, position_or_len}
 use Rattle.std.specs.Char.{is_ascii_digit}
 use Rattle.rpp_tree.specs.rpp_words.Texts.{decimal_from}
 use Rattle.rpp_tree.specs.Names.{IsName}
+use Rattle.rpp_tree.specs.Refusal.{Refusal, refused}
 use Rattle.roopl_lexer.specs.declared.token.Token.{Token}
 use Rattle.roopl_lexer.specs.declared.token.TokenKind.{TokenKind}
 use Rattle.roopl_lexer.specs.declared.token.TokenKind.TheVariants.{Word, Name, Number, Sign}
 use Rattle.roopl_lexer.specs.declared.error.LexError.{LexError}
-use Rattle.roopl_lexer.specs.declared.error.LexError.TheVariants.{BadByte, NumberTooLarge}
+use Rattle.roopl_lexer.specs.declared.error.LexError.TheVariants.{BadByte, NumberTooLarge, NoMemory}
 use Rattle.rpp_tree.specs.declared.limits.TheConstants.{MOST_NUMBER}
 use Rattle.roopl_lexer.specs.Signs.{keyword_bytes, sign_bytes}
 
@@ -60,35 +61,42 @@ pub record NothingBegins (rest : List ℕ) : Type 0 where
 
 -- the rest of a text, from a place on, is cut into these tokens, up to the first refusal if
 -- there is one
-pub data Cut : (at : ℕ) (rest : List ℕ) (tokens : List Token) (refusal : Option LexError)
+pub data Cut : (at : ℕ) (rest : List ℕ) (tokens : List Token) (refusal : Option Refusal)
     → Type 0 where
   finish : (at : ℕ) → Cut at [] [] None
-  white : (at : ℕ) (rest : List ℕ) (tokens : List Token) (refusal : Option LexError)
+  white : (at : ℕ) (rest : List ℕ) (tokens : List Token) (refusal : Option Refusal)
       → is_white (slice_index rest 0) ≡ true
       → Cut (at + 1) (drop 1 rest) tokens refusal
       → Cut at rest tokens refusal
-  comment : (at : ℕ) (rest : List ℕ) (tokens : List Token) (refusal : Option LexError)
+  comment : (at : ℕ) (rest : List ℕ) (tokens : List Token) (refusal : Option Refusal)
       → begins_comment rest ≡ true
       → Cut (at + comment_length rest) (drop (comment_length rest) rest) tokens refusal
       → Cut at rest tokens refusal
   token : (at : ℕ) (rest : List ℕ) (kind : TokenKind) (len : ℕ) (tokens : List Token)
-      (refusal : Option LexError)
+      (refusal : Option Refusal)
       → begins_comment rest ≡ false
       → IsLongest kind len rest
       → is_too_large kind ≡ false
       → Cut (at + len) (drop len rest) tokens refusal
       → Cut at rest (record { kind = kind; at = at; len = len } ∷ tokens) refusal
-  bad_byte : (at : ℕ) (rest : List ℕ) → NothingBegins rest → Cut at rest [] (Some (BadByte at))
+  bad_byte : (at : ℕ) (rest : List ℕ) → NothingBegins rest → Cut at rest [] (Some (refused 1 at))
   too_large : (at : ℕ) (rest : List ℕ) (kind : TokenKind) (len : ℕ)
       → begins_comment rest ≡ false
       → IsLongest kind len rest
       → is_too_large kind ≡ true
-      → Cut at rest [] (Some (NumberTooLarge at))
+      → Cut at rest [] (Some (refused 2 at))
 
 -- the tokens of a text
 abbrev pub IsCutting : List ℕ → List Token → Type 0
 IsCutting text tokens = Cut 0 text tokens None
 
+-- the refusal that an error is; `NoMemory` is none
+abbrev pub lex_refusal : LexError → Option Refusal
+lex_refusal (BadByte at) = Some (refused 1 at)
+lex_refusal (NumberTooLarge at) = Some (refused 2 at)
+lex_refusal NoMemory = None
+
 -- the first refusal of a text, with the tokens before it
 abbrev pub IsFirstRefusal : List ℕ → LexError → Type 0
-IsFirstRefusal text refusal = (tokens : List Token) × Cut 0 text tokens (Some refusal)
+IsFirstRefusal text NoMemory = ⊥
+IsFirstRefusal text error = (tokens : List Token) × Cut 0 text tokens (lex_refusal error)

@@ -31,7 +31,7 @@ use Rattle.roopl_lexer.specs.declared.token.Keyword.{Keyword}
 use Rattle.roopl_lexer.specs.Readable.{IsNamed, name_length}
 use Rattle.roopl_lexer.specs.Tokens.{is_too_large, comment_length, IsCutting, Cut, finish, white, comment, token}
 use Rattle.roopl_lexer.specs.Tokens.{bad_byte, too_large}
-use Rattle.roopl_lexer.specs.declared.error.LexError.{LexError}
+use Rattle.rpp_tree.specs.Refusal.{Refusal}
 use Rattle.rpp_tree.specs.declared.limits.TheConstants.{MOST_NUMBER}
 use Rattle.roopl_parser.specs.Operators.{Span, tok, ident, operator_at, update_operator}
 use Rattle.roopl_parser.specs.Grammar as grammar
@@ -496,7 +496,7 @@ within_limits tokens source bytes derives small few readable numbers =
       numbers = small_numbers tokens source derives numbers;
     }
 
-small_each : (at : ℕ) (rest : List ℕ) (tokens : List Token) (refusal : Option LexError) → Cut at rest tokens refusal
+small_each : (at : ℕ) (rest : List ℕ) (tokens : List Token) (refusal : Option Refusal) → Cut at rest tokens refusal
     → AllByRecursion (λ (t : Token). is_too_large t.kind ≡ false) tokens
 small_each _ _ _ _ (finish at) = tt
 small_each _ _ _ _ (white at rest tokens refusal blank cut) = small_each (at + 1) (drop 1 rest) tokens refusal cut

@@ -7,3 +7,4 @@ pub mod Places
 pub mod Parts
 pub mod Numbers
 pub mod Limits
+pub mod Refusal
