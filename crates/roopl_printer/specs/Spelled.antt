@@ -53,18 +53,12 @@ in_brackets tokens = a_sign sign.LeftBracket ∷ tokens ++ a_sign sign.RightBrac
 
 -- the parentheses round an operand: only a binary expression has them
 abbrev pub opening : Expression → List Printed
-opening (Number at n) = []
-opening (Null at) = []
-opening (Variable name) = []
-opening (Element name index) = []
 opening (Binary at op left right) = a_sign sign.LeftParen ∷ []
+opening _ = []
 
 abbrev pub closing : Expression → List Printed
-closing (Number at n) = []
-closing (Null at) = []
-closing (Variable name) = []
-closing (Element name index) = []
 closing (Binary at op left right) = a_sign sign.RightParen ∷ []
+closing _ = []
 
 -- the tokens of an operand
 abbrev pub operand : Expression → List Printed → List Printed

@@ -3,7 +3,7 @@ use Rattle.std.proofs.lemmas.Result.{err_from_is_err_and}
 use Rattle.debugger_scripts.specs.Scripts.{with_line, commands_from}
 use Rattle.pisa_scripts.specs.Lines.{pieces}
 use Rattle.debugger_scripts.proofs.Reading.{fails_with, goes_on, stops, is_done}
-use Rattle.pisa_scripts.proofs.Pieces.{few_lines}
+use Rattle.pisa_scripts.proofs.FewLines.{few_lines}
 use Rattle.debugger_scripts.proofs.script.read_lines.Goals as goal
 
 abbrev text_of : Bor (List ℕ) → List ℕ
