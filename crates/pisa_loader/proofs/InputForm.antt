@@ -4,13 +4,14 @@ use Rattle.std.proofs.Common.{List, [], ◌∷◌, ◌++◌, length, Option, Som
 use Rattle.std.specs.Prelude.{nat_eq, ◌⊎◌}
 use Rattle.std.specs.List.{prefix_len, take_while, list_all}
 use Rattle.std.specs.Option.{option_and_then}
+use Rattle.std.specs.Char.{is_ascii_alphabetic, is_ascii_digit}
+use Rattle.rpp_words.specs.Names.{is_name_byte}
 use Rattle.std.proofs.lemmas.Bool.{eqb-true, false_from_ne_true, true_from_ne_false, and_parts}
 use Rattle.std.proofs.lemmas.Bool.Decides.{nat_tests}
 use Rattle.std.proofs.lemmas.Option.{cond_some}
 use Rattle.std.proofs.lemmas.List.{take_at, drop_at, take-append-drop}
 use Rattle.std.proofs.lemmas.List.Sums.{take_while-cons}
-use Rattle.pisa_loader.specs.declared.lines.Kind.TheVariants.{Blank, Letter, InName, Digit}
-use Rattle.pisa_loader.specs.InputLines.{is_of, behind, after, word_up_to, digits_word, number_word, entry_in, Entry}
+use Rattle.pisa_loader.specs.InputLines.{is_blank, behind, after, word_up_to, digits_word, number_word, entry_in, Entry}
 use Rattle.pisa_loader.specs.InputLines.{entry}
 use Rattle.rpp_words.specs.Texts.{decimal_from}
 use Rattle.pisa_loader.specs.InputGrammar.{are_blanks, is_name, is_numeral, sign, Parts, line_of, AreParts, Sets}
@@ -55,52 +56,52 @@ front_passes p (x ∷ xs) = ap (list_all p) (take_while-cons p x xs) ∙ by_test
 
 -- the kinds of bytes apart
 
-blank_is : (b : ℕ) → is_of Blank b ≡ true → (b ≡ 32) ⊎ (b ≡ 9)
+blank_is : (b : ℕ) → is_blank b ≡ true → (b ≡ 32) ⊎ (b ≡ 9)
 blank_is b e = elim (either (nat_eq b 32) (nat_eq b 9) e)
     [ inl s ↦ inl (eqb-true b 32 s) | inr t ↦ inr (eqb-true b 9 t) ]
 
-not_blank : (p : ℕ → Bool) (b : ℕ) → p 32 ≡ false → p 9 ≡ false → p b ≡ true → is_of Blank b ≡ false
-not_blank p b s t e = false_from_ne_true (is_of Blank b)
+not_blank : (p : ℕ → Bool) (b : ℕ) → p 32 ≡ false → p 9 ≡ false → p b ≡ true → is_blank b ≡ false
+not_blank p b s t e = false_from_ne_true (is_blank b)
     (λ h. elim (blank_is b h) [ inl x ↦ clash (sym e ∙ ap p x ∙ s) | inr y ↦ clash (sym e ∙ ap p y ∙ t) ])
   where
     clash : true ≡ false → ⊥
     clash h = cc
 
-blank_not : (p : ℕ → Bool) (b : ℕ) → p 32 ≡ false → p 9 ≡ false → is_of Blank b ≡ true → p b ≡ false
+blank_not : (p : ℕ → Bool) (b : ℕ) → p 32 ≡ false → p 9 ≡ false → is_blank b ≡ true → p b ≡ false
 blank_not p b s t h = elim (blank_is b h) [ inl x ↦ ap p x ∙ s | inr y ↦ ap p y ∙ t ]
 
 -- blanks, or blanks and a byte, stop other kinds
 blanks_stop : (p : ℕ → Bool) (xs ys : List ℕ) → p 32 ≡ false → p 9 ≡ false → are_blanks xs ≡ true → Stops p ys
     → Stops p (xs ++ ys)
 blanks_stop p [] ys s t all h = h
-blanks_stop p (x ∷ xs) ys s t all h = blank_not p x s t (and_parts (is_of Blank x) (list_all (is_of Blank) xs) all).0
+blanks_stop p (x ∷ xs) ys s t all h = blank_not p x s t (and_parts (is_blank x) (list_all is_blank xs) all).0
 
 -- a line of the form
 
-letter_in_name : (b : ℕ) → is_of Letter b ≡ true → is_of InName b ≡ true
+letter_in_name : (b : ℕ) → is_ascii_alphabetic b ≡ true → is_name_byte b ≡ true
 letter_in_name b e = rw e refl
 
-name_passes : (name : List ℕ) → is_name name ≡ true → list_all (is_of InName) name ≡ true
+name_passes : (name : List ℕ) → is_name name ≡ true → list_all is_name_byte name ≡ true
 name_passes [] e = refl
-name_passes (b ∷ rest) e = let g = and_parts (is_of Letter b) (list_all (is_of InName) rest) e in
+name_passes (b ∷ rest) e = let g = and_parts (is_ascii_alphabetic b) (list_all is_name_byte rest) e in
     rw (letter_in_name b g.0, g.1) refl
 
-name_stops_blanks : (name rest : List ℕ) → is_name name ≡ true → Stops (is_of Blank) (name ++ rest)
+name_stops_blanks : (name rest : List ℕ) → is_name name ≡ true → Stops is_blank (name ++ rest)
 name_stops_blanks [] rest e = absurd cc
-name_stops_blanks (b ∷ name) rest e = not_blank (is_of Letter) b refl refl
-    (and_parts (is_of Letter b) (list_all (is_of InName) name) e).0
+name_stops_blanks (b ∷ name) rest e = not_blank is_ascii_alphabetic b refl refl
+    (and_parts (is_ascii_alphabetic b) (list_all is_name_byte name) e).0
 
 begins_with_letter : (name rest : List ℕ) → is_name name ≡ true
-    → nat_eq (prefix_len (is_of Letter) (name ++ rest)) 0 ≡ false
+    → nat_eq (prefix_len is_ascii_alphabetic (name ++ rest)) 0 ≡ false
 begins_with_letter [] rest e = absurd cc
 begins_with_letter (b ∷ name) rest e =
-    let g = and_parts (is_of Letter b) (list_all (is_of InName) name) e in
-    rw g.0 (not_zero (prefix_len (is_of Letter) (name ++ rest)))
+    let g = and_parts (is_ascii_alphabetic b) (list_all is_name_byte name) e in
+    rw g.0 (not_zero (prefix_len is_ascii_alphabetic (name ++ rest)))
   where
     not_zero : (n : ℕ) → nat_eq (1 + n) 0 ≡ false
     not_zero n = grind (arith, nat_tests)
 
-numeral_passes : (digits : List ℕ) → is_numeral digits ≡ true → list_all (is_of Digit) digits ≡ true
+numeral_passes : (digits : List ℕ) → is_numeral digits ≡ true → list_all is_ascii_digit digits ≡ true
 numeral_passes [] e = refl
 numeral_passes (b ∷ rest) e = e
 
@@ -110,24 +111,24 @@ unfolding digits_word
 digits_read minus [] rest e all = absurd cc
 digits_read minus (d ∷ ds) rest e all =
     let digits : List ℕ = d ∷ ds in
-    let stop : Stops (is_of Digit) rest = stops_at rest all in
+    let stop : Stops is_ascii_digit rest = stops_at rest all in
     let passes = numeral_passes digits e in
-    let len : prefix_len (is_of Digit) (digits ++ rest) ≡ length digits =
-    front_is (is_of Digit) digits rest passes stop in
-    let some : nat_eq (prefix_len (is_of Digit) (digits ++ rest)) 0 ≡ false =
-    more (prefix_len (is_of Digit) (digits ++ rest)) (length ds) len in
-    let ends : list_all (is_of Blank) (behind (is_of Digit) (digits ++ rest)) ≡ true =
-    ap (list_all (is_of Blank)) (behind_is (is_of Digit) digits rest passes stop) ∙ all in
-    let text : take_while (is_of Digit) (digits ++ rest) ≡ digits = front_text (is_of Digit) digits rest passes stop in
-    ap (λ b. cond (b || not (list_all (is_of Blank) (behind (is_of Digit) (digits ++ rest)))) None
-    (word_up_to minus (decimal_from 0 (take_while (is_of Digit) (digits ++ rest))))) some
-    ∙ ap (λ b. cond (not b) None (word_up_to minus (decimal_from 0 (take_while (is_of Digit) (digits ++ rest))))) ends
+    let len : prefix_len is_ascii_digit (digits ++ rest) ≡ length digits =
+    front_is is_ascii_digit digits rest passes stop in
+    let some : nat_eq (prefix_len is_ascii_digit (digits ++ rest)) 0 ≡ false =
+    more (prefix_len is_ascii_digit (digits ++ rest)) (length ds) len in
+    let ends : list_all is_blank (behind is_ascii_digit (digits ++ rest)) ≡ true =
+    ap (list_all is_blank) (behind_is is_ascii_digit digits rest passes stop) ∙ all in
+    let text : take_while is_ascii_digit (digits ++ rest) ≡ digits =
+        front_text is_ascii_digit digits rest passes stop in
+    ap (λ b. cond (b || not (list_all is_blank (behind is_ascii_digit (digits ++ rest)))) None
+    (word_up_to minus (decimal_from 0 (take_while is_ascii_digit (digits ++ rest))))) some
+    ∙ ap (λ b. cond (not b) None (word_up_to minus (decimal_from 0 (take_while is_ascii_digit (digits ++ rest))))) ends
     ∙ ap (λ xs. word_up_to minus (decimal_from 0 xs)) text
   where
-    stops_at : (rest : List ℕ) → are_blanks rest ≡ true → Stops (is_of Digit) rest
+    stops_at : (rest : List ℕ) → are_blanks rest ≡ true → Stops is_ascii_digit rest
     stops_at [] all = tt
-    stops_at (b ∷ bs) all =
-        blank_not (is_of Digit) b refl refl (and_parts (is_of Blank b) (list_all (is_of Blank) bs) all).0
+    stops_at (b ∷ bs) all = blank_not is_ascii_digit b refl refl (and_parts (is_blank b) (list_all is_blank bs) all).0
 
     more : (n k : ℕ) → n ≡ suc k → nat_eq n 0 ≡ false
     more n k e = grind (arith, nat_tests)
@@ -138,20 +139,20 @@ number_read true digits rest e all = digits_read true digits rest e all
 number_read false [] rest e all = absurd cc
 number_read false (d ∷ ds) rest e all =
     let no_minus : nat_eq d 45 ≡ false = false_from_ne_true (nat_eq d 45)
-    (λ h. clash (sym (and_parts (is_of Digit d) (list_all (is_of Digit) ds) e).0 ∙ ap (is_of Digit) (eqb-true d 45 h)))
+    (λ h. clash (sym (and_parts (is_ascii_digit d) (list_all is_ascii_digit ds) e).0 ∙ ap is_ascii_digit (eqb-true d 45 h)))
     in
     ap (λ b. cond b (digits_word true (ds ++ rest)) (digits_word false (d ∷ (ds ++ rest)))) no_minus
     ∙ digits_read false (d ∷ ds) rest e all
   where
-    clash : true ≡ is_of Digit 45 → ⊥
+    clash : true ≡ is_ascii_digit 45 → ⊥
     clash h = cc
 
 sign_stops_blanks : (minus : Bool) (digits rest : List ℕ) → is_numeral digits ≡ true
-    → Stops (is_of Blank) (sign minus ++ (digits ++ rest))
+    → Stops is_blank (sign minus ++ (digits ++ rest))
 sign_stops_blanks true digits rest e = refl
 sign_stops_blanks false [] rest e = absurd cc
-sign_stops_blanks false (d ∷ ds) rest e = not_blank (is_of Digit) d refl refl
-    (and_parts (is_of Digit d) (list_all (is_of Digit) ds) e).0
+sign_stops_blanks false (d ∷ ds) rest e = not_blank is_ascii_digit d refl refl
+    (and_parts (is_ascii_digit d) (list_all is_ascii_digit ds) e).0
 
 abbrev value_part : Parts → List ℕ
 value_part p = p.behind_sign ++ (sign p.minus ++ (p.digits ++ p.after))
@@ -160,40 +161,40 @@ abbrev name_part : Parts → List ℕ
 name_part p = p.name ++ (p.between ++ (61 ∷ value_part p))
 
 abbrev read_value : List ℕ → List ℕ → Option Entry
-read_value name value = option_and_then (λ word. Some (entry name word)) (number_word (behind (is_of Blank) value))
+read_value name value = option_and_then (λ word. Some (entry name word)) (number_word (behind is_blank value))
 
 abbrev read_text : List ℕ → Option Entry
 read_text text =
-    cond (nat_eq (prefix_len (is_of Letter) text) 0) None
-    (option_and_then (read_value (take_while (is_of InName) text))
-    (after 61 (behind (is_of Blank) (behind (is_of InName) text))))
+    cond (nat_eq (prefix_len is_ascii_alphabetic text) 0) None
+    (option_and_then (read_value (take_while is_name_byte text))
+    (after 61 (behind is_blank (behind is_name_byte text))))
 
 pub line_read : (p : Parts) (word : ℕ) → AreParts p → word_up_to p.minus (decimal_from 0 p.digits) ≡ Some word
     → entry_in (line_of p) ≡ Some (entry p.name word)
 unfolding entry_in
 line_read p word a w =
     let tail : List ℕ = p.between ++ (61 ∷ value_part p) in
-    let text : behind (is_of Blank) (line_of p) ≡ name_part p =
-    behind_is (is_of Blank) p.before (name_part p) a.blank_before (name_stops_blanks p.name tail a.named) in
-    let stop : Stops (is_of InName) tail = blanks_stop (is_of InName) p.between (61 ∷ value_part p) refl refl
+    let text : behind is_blank (line_of p) ≡ name_part p =
+    behind_is is_blank p.before (name_part p) a.blank_before (name_stops_blanks p.name tail a.named) in
+    let stop : Stops is_name_byte tail = blanks_stop is_name_byte p.between (61 ∷ value_part p) refl refl
     a.blank_between refl in
     let passes = name_passes p.name a.named in
-    let name : take_while (is_of InName) (name_part p) ≡ p.name = front_text (is_of InName) p.name tail passes stop in
-    let rest : behind (is_of InName) (name_part p) ≡ tail = behind_is (is_of InName) p.name tail passes stop in
-    let equals : behind (is_of Blank) tail ≡ 61 ∷ value_part p =
-    behind_is (is_of Blank) p.between (61 ∷ value_part p) a.blank_between refl in
-    let number : behind (is_of Blank) (value_part p) ≡ sign p.minus ++ (p.digits ++ p.after) =
-    behind_is (is_of Blank) p.behind_sign (sign p.minus ++ (p.digits ++ p.after)) a.blank_behind_sign
+    let name : take_while is_name_byte (name_part p) ≡ p.name = front_text is_name_byte p.name tail passes stop in
+    let rest : behind is_name_byte (name_part p) ≡ tail = behind_is is_name_byte p.name tail passes stop in
+    let equals : behind is_blank tail ≡ 61 ∷ value_part p =
+    behind_is is_blank p.between (61 ∷ value_part p) a.blank_between refl in
+    let number : behind is_blank (value_part p) ≡ sign p.minus ++ (p.digits ++ p.after) =
+    behind_is is_blank p.behind_sign (sign p.minus ++ (p.digits ++ p.after)) a.blank_behind_sign
     (sign_stops_blanks p.minus p.digits p.after a.numeral) in
-    let value : number_word (behind (is_of Blank) (value_part p)) ≡ Some word = ap number_word number
+    let value : number_word (behind is_blank (value_part p)) ≡ Some word = ap number_word number
     ∙ number_read p.minus p.digits p.after a.numeral a.blank_after ∙ w in
     ap read_text text
-    ∙ ap (λ b. cond b None (option_and_then (read_value (take_while (is_of InName) (name_part p)))
-    (after 61 (behind (is_of Blank) (behind (is_of InName) (name_part p))))))
+    ∙ ap (λ b. cond b None (option_and_then (read_value (take_while is_name_byte (name_part p)))
+    (after 61 (behind is_blank (behind is_name_byte (name_part p))))))
     (begins_with_letter p.name tail a.named)
-    ∙ ap (λ t. option_and_then (read_value (take_while (is_of InName) (name_part p)))
-    (after 61 (behind (is_of Blank) t))) rest
-    ∙ ap (λ t. option_and_then (read_value (take_while (is_of InName) (name_part p))) (after 61 t)) equals
+    ∙ ap (λ t. option_and_then (read_value (take_while is_name_byte (name_part p)))
+    (after 61 (behind is_blank t))) rest
+    ∙ ap (λ t. option_and_then (read_value (take_while is_name_byte (name_part p))) (after 61 t)) equals
     ∙ ap (λ n. read_value n (value_part p)) name
     ∙ ap (option_and_then (λ word. Some (entry p.name word))) value
 
@@ -230,20 +231,20 @@ front_begins_so : (p : ℕ → Bool) (x : ℕ) (xs : List ℕ) → nat_eq (prefi
 front_begins_so p x xs e = true_from_ne_false (p x) (λ h. zero_is (prefix_len p (x ∷ xs))
     (ap (λ b. cond b (1 + prefix_len p xs) 0) h) e)
 
-numeral_here : (text : List ℕ) → nat_eq (prefix_len (is_of Digit) text) 0 ≡ false
-    → is_numeral (take_while (is_of Digit) text) ≡ true
+numeral_here : (text : List ℕ) → nat_eq (prefix_len is_ascii_digit text) 0 ≡ false
+    → is_numeral (take_while is_ascii_digit text) ≡ true
 numeral_here [] e = absurd cc
 numeral_here (x ∷ xs) e =
-    let digit = front_begins_so (is_of Digit) x xs e in
-    ap is_numeral (front_begins (is_of Digit) x xs digit) ∙ rw (digit, front_passes (is_of Digit) xs) refl
+    let digit = front_begins_so is_ascii_digit x xs e in
+    ap is_numeral (front_begins is_ascii_digit x xs digit) ∙ rw (digit, front_passes is_ascii_digit xs) refl
 
-name_here : (text : List ℕ) → nat_eq (prefix_len (is_of Letter) text) 0 ≡ false
-    → is_name (take_while (is_of InName) text) ≡ true
+name_here : (text : List ℕ) → nat_eq (prefix_len is_ascii_alphabetic text) 0 ≡ false
+    → is_name (take_while is_name_byte text) ≡ true
 name_here [] e = absurd cc
 name_here (x ∷ xs) e =
-    let letter = front_begins_so (is_of Letter) x xs e in
-    ap is_name (front_begins (is_of InName) x xs (letter_in_name x letter))
-    ∙ rw (letter, front_passes (is_of InName) xs) refl
+    let letter = front_begins_so is_ascii_alphabetic x xs e in
+    ap is_name (front_begins is_name_byte x xs (letter_in_name x letter))
+    ∙ rw (letter, front_passes is_name_byte xs) refl
 
 record HasNumber (text : List ℕ) (word : ℕ) : Type 0 where
   minus : Bool
@@ -258,16 +259,16 @@ digits_found : (minus : Bool) (whole text : List ℕ) (word : ℕ) → whole ≡
     → digits_word minus text ≡ Some word → HasNumber whole word
 unfolding digits_word
 digits_found minus whole text word same e =
-    let digits : List ℕ = take_while (is_of Digit) text in
-    let g = none_not (nat_eq (prefix_len (is_of Digit) text) 0 || not
-    (list_all (is_of Blank) (behind (is_of Digit) text))) (word_up_to minus (decimal_from 0 digits)) word e in
-    let h = neither (nat_eq (prefix_len (is_of Digit) text) 0) (list_all (is_of Blank) (behind (is_of Digit) text)) g.0
+    let digits : List ℕ = take_while is_ascii_digit text in
+    let g = none_not (nat_eq (prefix_len is_ascii_digit text) 0 || not
+    (list_all is_blank (behind is_ascii_digit text))) (word_up_to minus (decimal_from 0 digits)) word e in
+    let h = neither (nat_eq (prefix_len is_ascii_digit text) 0) (list_all is_blank (behind is_ascii_digit text)) g.0
     in
     record {
       minus = minus;
       digits = digits;
-      rest = behind (is_of Digit) text;
-      spelled = same ∙ ap (λ xs. sign minus ++ xs) (cut_here (is_of Digit) text);
+      rest = behind is_ascii_digit text;
+      spelled = same ∙ ap (λ xs. sign minus ++ xs) (cut_here is_ascii_digit text);
       numeral = numeral_here text h.0;
       blank = h.1;
       in_range = g.1;
@@ -293,39 +294,39 @@ the_some x = Some x
 pub line_found : (line : List ℕ) (e : Entry) → entry_in line ≡ Some e → Sets line e.name e.word
 unfolding entry_in
 line_found line e read =
-    let text : List ℕ = behind (is_of Blank) line in
-    let name : List ℕ = take_while (is_of InName) text in
-    let rest : List ℕ = behind (is_of InName) text in
-    let g = none_not (nat_eq (prefix_len (is_of Letter) text) 0)
-    (option_and_then (read_value name) (after 61 (behind (is_of Blank) rest))) e read in
-    let v = value_is (read_value name) (after 61 (behind (is_of Blank) rest)) e g.1 in
-    let w = value_is (λ word. Some (entry name word)) (number_word (behind (is_of Blank) v.0)) e v.2 in
-    let n = number_found (behind (is_of Blank) v.0) w.0 w.1 in
+    let text : List ℕ = behind is_blank line in
+    let name : List ℕ = take_while is_name_byte text in
+    let rest : List ℕ = behind is_name_byte text in
+    let g = none_not (nat_eq (prefix_len is_ascii_alphabetic text) 0)
+    (option_and_then (read_value name) (after 61 (behind is_blank rest))) e read in
+    let v = value_is (read_value name) (after 61 (behind is_blank rest)) e g.1 in
+    let w = value_is (λ word. Some (entry name word)) (number_word (behind is_blank v.0)) e v.2 in
+    let n = number_found (behind is_blank v.0) w.0 w.1 in
     let same : entry name w.0 ≡ e = some_is (entry name w.0) e w.2 in
     let parts : Parts = record {
-      before = take_while (is_of Blank) line;
+      before = take_while is_blank line;
       name = name;
-      between = take_while (is_of Blank) rest;
-      behind_sign = take_while (is_of Blank) v.0;
+      between = take_while is_blank rest;
+      behind_sign = take_while is_blank v.0;
       minus = n.minus;
       digits = n.digits;
       after = n.rest;
     } in
-    let value : v.0 ≡ value_part parts = cut_here (is_of Blank) v.0
-    ∙ ap (λ xs. take_while (is_of Blank) v.0 ++ xs) n.spelled in
-    let tail : rest ≡ take_while (is_of Blank) rest ++ (61 ∷ value_part parts) =
-    cut_here (is_of Blank) rest ∙ ap (λ xs. take_while (is_of Blank) rest ++ xs)
-    (after_is 61 (behind (is_of Blank) rest) v.0 v.1 ∙ ap (λ xs. 61 ∷ xs) value) in
+    let value : v.0 ≡ value_part parts = cut_here is_blank v.0
+    ∙ ap (λ xs. take_while is_blank v.0 ++ xs) n.spelled in
+    let tail : rest ≡ take_while is_blank rest ++ (61 ∷ value_part parts) =
+    cut_here is_blank rest ∙ ap (λ xs. take_while is_blank rest ++ xs)
+    (after_is 61 (behind is_blank rest) v.0 v.1 ∙ ap (λ xs. 61 ∷ xs) value) in
     let whole : line ≡ line_of parts =
-    cut_here (is_of Blank) line ∙ ap (λ xs. take_while (is_of Blank) line ++ xs)
-    (cut_here (is_of InName) text ∙ ap (λ xs. name ++ xs) tail) in
+    cut_here is_blank line ∙ ap (λ xs. take_while is_blank line ++ xs)
+    (cut_here is_name_byte text ∙ ap (λ xs. name ++ xs) tail) in
     subst (λ (x : Entry). Sets line x.name x.word) same (record {
       parts = parts;
       are_parts = record {
-        blank_before = front_passes (is_of Blank) line;
+        blank_before = front_passes is_blank line;
         named = name_here text g.0;
-        blank_between = front_passes (is_of Blank) rest;
-        blank_behind_sign = front_passes (is_of Blank) v.0;
+        blank_between = front_passes is_blank rest;
+        blank_behind_sign = front_passes is_blank v.0;
         numeral = n.numeral;
         blank_after = n.blank;
       };

@@ -15,9 +15,8 @@ use Rattle.pisa_image.proofs.Many.{bind_ok}
 use Rattle.pisa_loader.specs.declared.error.LoadError.{LoadError}
 use Rattle.pisa_loader.specs.declared.error.LoadError.TheVariants.{UnknownField}
 use Rattle.pisa_loader.specs.declared.input.InputField.{InputField}
-use Rattle.pisa_loader.specs.declared.lines.Kind.TheVariants.{Blank}
 use Rattle.pisa_loader.specs.States.{Gives}
-use Rattle.pisa_loader.specs.InputLines.{is_of, word_up_to, entry_in, Entry, field_named, is_set, new_word, entry_word}
+use Rattle.pisa_loader.specs.InputLines.{is_blank, word_up_to, entry_in, Entry, field_named, is_set, new_word, entry_word}
 use Rattle.pisa_loader.specs.InputLines.{line_word, with_word, words_from, input_of, is_field, set_none_twice, AreInput}
 use Rattle.rpp_words.specs.Texts.{decimal_from}
 use Rattle.pisa_loader.proofs.InputForm.{line_found}
@@ -88,7 +87,7 @@ none_adds fields words (Some r) h = absurd cc
 
 line_adds : (fields : List InputField) (line : ℕ) (words : List FieldWord) (text : List ℕ) (o : Option FieldWord)
     → line_word fields line words text ≡ Ok o → Adds fields words o
-line_adds fields line words text o e = by_test (list_all (is_of Blank) text) e
+line_adds fields line words text o e = by_test (list_all is_blank text) e
   where
     by_test : (b : Bool) → cond b (Ok None) (entry_word fields line words (entry_in text)) ≡ Ok o → Adds fields words o
     by_test true h = none_adds fields words o h

@@ -1,23 +1,24 @@
 -- The form of a line that sets a field.
 use Rattle.std.specs.Prelude.{◌≡◌, ℕ, Bool, true, false, ◌&&◌, List, [], ◌∷◌, ◌++◌, Some}
 use Rattle.std.specs.List.{list_all}
-use Rattle.pisa_loader.specs.declared.lines.Kind.TheVariants.{Blank, Letter, InName, Digit}
-use Rattle.pisa_loader.specs.InputLines.{is_of, word_up_to}
+use Rattle.std.specs.Char.{is_ascii_alphabetic, is_ascii_digit}
+use Rattle.rpp_words.specs.Names.{is_name_byte}
+use Rattle.pisa_loader.specs.InputLines.{is_blank, word_up_to}
 use Rattle.rpp_words.specs.Texts.{decimal_from}
 
 -- only spaces and tabs
 abbrev pub are_blanks : List ℕ → Bool
-are_blanks bytes = list_all (is_of Blank) bytes
+are_blanks bytes = list_all is_blank bytes
 
 -- a letter, and then letters, digits, `_` and `'`
 abbrev pub is_name : List ℕ → Bool
 is_name [] = false
-is_name (byte ∷ rest) = is_of Letter byte && list_all (is_of InName) rest
+is_name (byte ∷ rest) = is_ascii_alphabetic byte && list_all is_name_byte rest
 
 -- one digit or more
 abbrev pub is_numeral : List ℕ → Bool
 is_numeral [] = false
-is_numeral (byte ∷ rest) = is_of Digit byte && list_all (is_of Digit) rest
+is_numeral (byte ∷ rest) = is_ascii_digit byte && list_all is_ascii_digit rest
 
 abbrev pub sign : (minus : Bool) → List ℕ
 sign true = 45 ∷ []

@@ -14,14 +14,10 @@ use Rattle.pisa_image.specs.Numbers.{◌>>=◌}
 use Rattle.pisa_loader.specs.declared.error.LoadError.{LoadError}
 use Rattle.pisa_loader.specs.declared.error.LoadError.TheVariants.{UnknownField, BadInputLine}
 use Rattle.pisa_loader.specs.declared.input.InputField.{InputField}
-use Rattle.pisa_loader.specs.declared.lines.Kind.{Kind}
-use Rattle.pisa_loader.specs.declared.lines.Kind.TheVariants.{Blank, Letter, InName, Digit}
 
-abbrev pub is_of : Kind → ℕ → Bool
-is_of Blank byte = nat_eq byte 32 || nat_eq byte 9
-is_of Letter byte = is_ascii_alphabetic byte
-is_of InName byte = is_name_byte byte
-is_of Digit byte = is_ascii_digit byte
+-- a space or a tab
+abbrev pub is_blank : ℕ → Bool
+is_blank byte = nat_eq byte 32 || nat_eq byte 9
 
 -- what follows the first bytes that pass
 abbrev pub behind : (ℕ → Bool) → List ℕ → List ℕ
@@ -40,9 +36,9 @@ word_up_to false number = if nat_lt number (2 ^ 31) then Some number else None
 -- digits, which blanks may follow up to the end of the line
 unfoldable pub digits_word : (minus : Bool) → List ℕ → Option ℕ
 digits_word minus text =
-    if nat_eq (prefix_len (is_of Digit) text) 0
-    || not (list_all (is_of Blank) (behind (is_of Digit) text)) then None
-    else word_up_to minus (decimal_from 0 (take_while (is_of Digit) text))
+    if nat_eq (prefix_len is_ascii_digit text) 0
+    || not (list_all is_blank (behind is_ascii_digit text)) then None
+    else word_up_to minus (decimal_from 0 (take_while is_ascii_digit text))
 
 -- a number, which may begin with a minus
 abbrev pub number_word : List ℕ → Option ℕ
@@ -61,12 +57,12 @@ entry name word = record { name = name; word = word }
 -- a name, `=` and a number, with blanks around each
 unfoldable pub entry_in : List ℕ → Option Entry
 entry_in line =
-    let text = behind (is_of Blank) line in
-    if nat_eq (prefix_len (is_of Letter) text) 0 then None
+    let text = behind is_blank line in
+    if nat_eq (prefix_len is_ascii_alphabetic text) 0 then None
     else option_and_then (λ value. option_and_then
-    (λ word. Some (entry (take_while (is_of InName) text) word))
-    (number_word (behind (is_of Blank) value)))
-    (after 61 (behind (is_of Blank) (behind (is_of InName) text)))
+    (λ word. Some (entry (take_while is_name_byte text) word))
+    (number_word (behind is_blank value)))
+    (after 61 (behind is_blank (behind is_name_byte text)))
 
 -- the number of the first field of this name
 abbrev pub field_named : List InputField → List ℕ → Option ℕ
@@ -92,7 +88,7 @@ entry_word fields line words (Some e) = new_word line words (field_named fields 
 -- what a line sets in addition to the words of the lines before it
 abbrev pub line_word : List InputField → (line : ℕ) → List FieldWord → List ℕ
     → Result (Option FieldWord) LoadError
-line_word fields line words text = if list_all (is_of Blank) text then Ok None
+line_word fields line words text = if list_all is_blank text then Ok None
     else entry_word fields line words (entry_in text)
 
 abbrev pub with_word : List FieldWord → Option FieldWord → List FieldWord

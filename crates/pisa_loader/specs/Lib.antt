@@ -3,4 +3,5 @@ pub use Rattle.pisa_image.specs as pisa_image
 pub mod Limiting
 pub mod States
 pub mod InputLines
+pub mod Kinds
 pub mod InputGrammar

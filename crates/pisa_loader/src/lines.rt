@@ -1,7 +1,8 @@
 // What a line of an input says.
 ghost use Rattle.std.specs.Prelude.{◌≡◌, ◌≤◌, ◌^◌, ◌+◌, min, length, MatchOption, Some, None};
 ghost use Rattle.std.specs.List.{prefix_len, take_while, list_all};
-ghost use Rattle.pisa_loader.specs.InputLines.{is_of, behind, after, word_up_to, digits_word, number_word, entry_in, Entry, entry};
+ghost use Rattle.pisa_loader.specs.InputLines.{is_blank, behind, after, word_up_to, digits_word, number_word, entry_in, Entry, entry};
+ghost use Rattle.pisa_loader.specs.Kinds.{is_of};
 ghost use Rattle.rpp_words.specs.Texts.{decimal_from};
 
 use rpp_words::wrap_sub;
@@ -55,7 +56,7 @@ fn behind(kind: Kind, text: &[u8]) -> &[u8]
 
 /// Whether there are only blanks.
 pub(crate) fn is_blank_line(text: &[u8]) -> bool
-    ensures { result ≡ list_all (is_of Kind.Blank) text.now }
+    ensures { result ≡ list_all is_blank text.now }
 {
     text.iter().all(|byte| is_of(Kind::Blank, *byte))
 }

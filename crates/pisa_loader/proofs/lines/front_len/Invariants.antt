@@ -1,6 +1,6 @@
 use Rattle.std.proofs.Common.{◌≡◌, ◌+◌, drop}
 use Rattle.std.specs.List.{prefix_len}
-use Rattle.pisa_loader.specs.InputLines.{is_of}
+use Rattle.pisa_loader.specs.Kinds.{is_of}
 use Rattle.pisa_loader.proofs.lines.front_len.Given as goal
 
 abbrev pub invariant-loop-i : goal.invariant-loop-i
