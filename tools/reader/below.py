@@ -1,19 +1,22 @@
 """The definitions below some definitions, and how many lines they have."""
 import re
 
+COMMANDS = 'Asked', 'CommandName'  # the types whose constructors are the commands
+
 
 def asked_in(names, definition, clause):
-    """The command that an equation is for: the constructor of `Asked` that is its first argument, or None."""
-    found = re.match(rf'\s*{re.escape(definition.name)}\s+\(?([A-Z]\w*)[\s)]', clause[0][1])
+    """The command that an equation is for: the constructor of a type of `COMMANDS` that is its first argument, or None."""
+    found = re.match(rf'\s*{re.escape(definition.name)}\s+\(?((?:\w+\.)?([A-Z]\w*))[\s)]', clause[0][1])
     scope = names.scopes.get((definition.crate, definition.module))
     meaning = scope.meaning(found.group(1)) if found and scope else None
-    return found.group(1) if meaning and meaning[0] == 'own' and meaning[1].name == 'Asked' != found.group(1) else None
+    is_command = meaning and meaning[0] == 'own' and meaning[1].name in COMMANDS and found.group(2) not in COMMANDS
+    return found.group(2) if is_command else None
 
 
 def clauses_for(names, definition, command):
     """The clauses of a definition that say something of this command, or of each; all if there is no command."""
     clauses = names.clauses(definition)
-    if command and definition.name == 'Asked':
+    if command and definition.name in COMMANDS:
         kept = [line for line in clauses[0] if not re.match(r'\s+\w+ :', line[1]) or re.match(rf'\s+{command} :', line[1])]
         return [kept]
     return [it for it in clauses if asked_in(names, definition, it) in (None, command)] if command else clauses

@@ -1,4 +1,5 @@
 pub use Rattle.command_plan.specs.rpp_ports
 pub use Rattle.command_plan.specs.rpp_probes
 pub use Rattle.command_plan.specs as command_plan
+pub mod CommandNames
 pub mod Lines

@@ -1,10 +1,11 @@
 -- What the words ask for, with lists of bytes for texts.
 use Rattle.std.specs.Prelude.{ℕ, ◌^◌, ◌<◌, List, [], ◌∷◌, length}
 use Rattle.std.specs.Prelude.{None, Some, option_map, if◌then◌else◌, nat_le, nat_lt, ◌&&◌}
-use Rattle.std.specs.Prelude.{string_bytes, codes, ◌≤◌, map}
+use Rattle.std.specs.Prelude.{string_bytes, ◌≤◌, map}
 use Rattle.std.specs.declared.option.Option.{Option}
 use Rattle.std.specs.Option.{option_and_then}
-use Rattle.std.specs.Str.{bytes_eq}
+use Rattle.command_line.specs.CommandNames.{CommandName, command_named}
+use Rattle.command_line.specs.CommandNames as named
 use Rattle.command_line.specs.declared.line.Line.{Line}
 use Rattle.command_line.specs.declared.line.FilesCommand.{FilesCommand}
 use Rattle.command_line.specs.declared.line.FilesCommand.TheVariants as files
@@ -112,63 +113,6 @@ line_of_program program.Go = Go
 line_of_program program.Turn = Turn
 line_of_program program.Explain = Explain
 
--- a file, and the sizes of a run
-abbrev pub profile_line_of : List (List ℕ) → Option Asked
-profile_line_of (file ∷ heap ∷ deep ∷ steps ∷ []) =
-    option_map (Profile file) (sizes_of heap deep steps)
-profile_line_of _ = None
-
--- a file, the sizes of a run, the names of results, and the file of an input, if there is one
-abbrev pub wrap_line_of : List (List ℕ) → Option Asked
-wrap_line_of (file ∷ heap ∷ deep ∷ steps ∷ names ∷ []) =
-    option_map (λ sizes. Wrap file sizes names None) (sizes_of heap deep steps)
-wrap_line_of (file ∷ heap ∷ deep ∷ steps ∷ names ∷ input ∷ []) =
-    option_map (λ sizes. Wrap file sizes names (Some input)) (sizes_of heap deep steps)
-wrap_line_of _ = None
-
--- an image, the sizes of a run, and the files of two states, if there are such
-abbrev pub run_line_of : List (List ℕ) → Option Asked
-run_line_of (image ∷ heap ∷ deep ∷ steps ∷ []) =
-    option_map (λ sizes. RunImage image sizes None None) (sizes_of heap deep steps)
-run_line_of (image ∷ heap ∷ deep ∷ steps ∷ state ∷ save ∷ []) =
-    option_map (λ sizes. RunImage image sizes (state_named state) (Some save))
-    (sizes_of heap deep steps)
-run_line_of _ = None
-
--- a seed, a number of items, and a file
-abbrev pub generate_line_of : List (List ℕ) → Option Asked
-generate_line_of (seed ∷ size ∷ out ∷ []) =
-    option_and_then (λ seed. option_map (λ size. Generate seed size out)
-    (up_to MOST_ITEMS (number_of size))) (number_of seed)
-generate_line_of _ = None
-
--- a script, a number of cells that processors have in common, and images, of which there are one
--- to eight
-abbrev pub cluster_line_of : List (List ℕ) → Option Asked
-cluster_line_of (script ∷ cells ∷ images) =
-    option_and_then (λ cells. if nat_lt 0 (length images)
-    && nat_le (length images) MOST_PROCESSORS then Some (Cluster script cells images) else None)
-    (up_to MOST_COMMON (number_of cells))
-cluster_line_of _ = None
-
--- an image, the sizes of a memory, and the file of a script
-abbrev pub debug_line_of : List (List ℕ) → Option Asked
-debug_line_of (image ∷ heap ∷ deep ∷ script ∷ []) =
-    option_map (λ room. Debug image room script) (room_of heap deep)
-debug_line_of _ = None
-
--- a program, the sizes of a memory, the file of a script, and that of an input, if there is one
-abbrev pub trace_line_of : List (List ℕ) → Option Asked
-trace_line_of (file ∷ heap ∷ deep ∷ script ∷ []) =
-    option_map (λ room. Trace file room script None) (room_of heap deep)
-trace_line_of (file ∷ heap ∷ deep ∷ script ∷ input ∷ []) =
-    option_map (λ room. Trace file room script (Some input)) (room_of heap deep)
-trace_line_of _ = None
-
-abbrev pub check_line_of : List (List ℕ) → Option Asked
-check_line_of (file ∷ []) = Some (Check file)
-check_line_of _ = None
-
 -- a file that is read, and one that is written
 unfoldable pub files_line_of : (List ℕ → List ℕ → Asked) → List (List ℕ) → Option Asked
 files_line_of make (from ∷ to ∷ []) = Some (make from to)
@@ -182,32 +126,48 @@ line_of_files files.List = ListImage
 line_of_files files.Flip = Flip
 line_of_files files.ShowInverse = ShowInverse
 
--- the line of a command on sources
-unfoldable pub source_line_of : (name : List ℕ) → List (List ℕ) → Option Asked
-source_line_of name args =
-    if bytes_eq name (codes "check") then check_line_of args
-    else if bytes_eq name (codes "compile") then files_line_of Compile args
-    else if bytes_eq name (codes "show-inverse") then files_line_of ShowInverse args
-    else if bytes_eq name (codes "generate") then generate_line_of args
-    else if bytes_eq name (codes "go") then program_line_of Go args
-    else if bytes_eq name (codes "turn") then program_line_of Turn args
-    else if bytes_eq name (codes "profile") then profile_line_of args
-    else if bytes_eq name (codes "wrap") then wrap_line_of args
-    else if bytes_eq name (codes "explain") then program_line_of Explain args
-    else if bytes_eq name (codes "trace") then trace_line_of args
-    else None
+-- The line of each command, of the words after its name: the file that it reads first, the sizes of
+-- a run or of a memory, and further files. `cluster` takes one to eight images.
+abbrev pub line_by : CommandName → List (List ℕ) → Option Asked
+line_by named.Check (file ∷ []) = Some (Check file)
+line_by named.Compile args = files_line_of Compile args
+line_by named.Asm args = files_line_of Asm args
+line_by named.ListImage args = files_line_of ListImage args
+line_by named.Flip args = files_line_of Flip args
+line_by named.ShowInverse args = files_line_of ShowInverse args
+line_by named.Generate (seed ∷ size ∷ out ∷ []) =
+    option_and_then (λ seed. option_map (λ size. Generate seed size out)
+    (up_to MOST_ITEMS (number_of size))) (number_of seed)
+line_by named.Cluster (script ∷ cells ∷ images) =
+    option_and_then (λ cells. if nat_lt 0 (length images)
+    && nat_le (length images) MOST_PROCESSORS then Some (Cluster script cells images) else None)
+    (up_to MOST_COMMON (number_of cells))
+line_by named.RunImage (image ∷ heap ∷ deep ∷ steps ∷ []) =
+    option_map (λ sizes. RunImage image sizes None None) (sizes_of heap deep steps)
+line_by named.RunImage (image ∷ heap ∷ deep ∷ steps ∷ state ∷ save ∷ []) =
+    option_map (λ sizes. RunImage image sizes (state_named state) (Some save))
+    (sizes_of heap deep steps)
+line_by named.Debug (image ∷ heap ∷ deep ∷ script ∷ []) =
+    option_map (λ room. Debug image room script) (room_of heap deep)
+line_by named.Trace (file ∷ heap ∷ deep ∷ script ∷ []) =
+    option_map (λ room. Trace file room script None) (room_of heap deep)
+line_by named.Trace (file ∷ heap ∷ deep ∷ script ∷ input ∷ []) =
+    option_map (λ room. Trace file room script (Some input)) (room_of heap deep)
+line_by named.Go args = program_line_of Go args
+line_by named.Turn args = program_line_of Turn args
+line_by named.Explain args = program_line_of Explain args
+line_by named.Profile (file ∷ heap ∷ deep ∷ steps ∷ []) =
+    option_map (Profile file) (sizes_of heap deep steps)
+line_by named.Wrap (file ∷ heap ∷ deep ∷ steps ∷ names ∷ []) =
+    option_map (λ sizes. Wrap file sizes names None) (sizes_of heap deep steps)
+line_by named.Wrap (file ∷ heap ∷ deep ∷ steps ∷ names ∷ input ∷ []) =
+    option_map (λ sizes. Wrap file sizes names (Some input)) (sizes_of heap deep steps)
+line_by _ _ = None
 
 -- the line that the words are, if they are one
 unfoldable pub line_of : List (List ℕ) → Option Asked
 line_of [] = None
-line_of (name ∷ args) =
-    if bytes_eq name (codes "asm") then files_line_of Asm args
-    else if bytes_eq name (codes "list") then files_line_of ListImage args
-    else if bytes_eq name (codes "flip") then files_line_of Flip args
-    else if bytes_eq name (codes "run") then run_line_of args
-    else if bytes_eq name (codes "debug") then debug_line_of args
-    else if bytes_eq name (codes "cluster") then cluster_line_of args
-    else source_line_of name args
+line_of (name ∷ args) = option_and_then (λ command. line_by command args) (command_named name)
 
 -- the sizes of a memory have at most 18 digits each
 abbrev pub HasShortRoom : Room → Type 0

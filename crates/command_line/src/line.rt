@@ -1,6 +1,9 @@
 // What the words ask for.
 ghost use Rattle.std.specs.Prelude.{◌≡◌, ◌<◌, ◌≤◌, ◌^◌, map, option_map, IfOk, IfSome, string_bytes};
-ghost use Rattle.command_line.specs.Lines.{Trace, RunImage, Wrap, asked, line_of, source_line_of, check_line_of, files_line_of, line_of_files, generate_line_of, cluster_line_of, run_line_of, debug_line_of, trace_line_of, program_line_of, line_of_program, profile_line_of, wrap_line_of, room_of, sizes_of, up_to, number_of, HasShortRoom, HasShortSizes, HasShortNumbers};
+ghost use Rattle.std.specs.Option.{option_and_then};
+ghost use Rattle.command_line.specs.CommandNames.{source_command_named};
+ghost use Rattle.command_line.specs.CommandNames as named;
+ghost use Rattle.command_line.specs.Lines.{Trace, RunImage, Wrap, asked, line_of, line_by, files_line_of, line_of_files, program_line_of, line_of_program, room_of, sizes_of, up_to, number_of, HasShortRoom, HasShortSizes, HasShortNumbers};
 ghost use Rattle.command_line.specs.declared.line.TheConstants.{MOST_ITEMS, MOST_COMMON};
 ghost use Rattle.command_plan.specs.Files.{state_of_names, save_of_names};
 
@@ -128,7 +131,7 @@ pub enum Line {
 }
 
 /// The line that the words are, if they are one.
-#[tactic(auto, unfolding(crate::specs::Lines::line_of))]
+#[tactic(auto, unfolding(crate::specs::Lines::line_of, crate::specs::CommandNames::command_named))]
 pub fn read_words(alloc: Global, words: &[String]) -> Result<Option<Line>, NoMemory>
     ensures line { IfOk result (λ line. option_map asked line
         ≡ line_of (map string_bytes words.now)) }
@@ -149,10 +152,11 @@ pub fn read_words(alloc: Global, words: &[String]) -> Result<Option<Line>, NoMem
 }
 
 // The line of a command on sources.
-#[tactic(auto, unfolding(crate::specs::Lines::source_line_of))]
+#[tactic(auto, unfolding(crate::specs::CommandNames::source_command_named))]
 fn source_line(name: &str, args: &[String]) -> Result<Option<Line>, NoMemory>
     ensures line { IfOk result (λ line. option_map asked line
-        ≡ source_line_of name.now (map string_bytes args.now)) }
+        ≡ option_and_then (λ command. line_by command (map string_bytes args.now))
+          (source_command_named name.now)) }
     ensures numbers { IfOk result (λ line. IfSome line (λ line. HasShortNumbers (asked line))) }
 {
     match name {
@@ -172,7 +176,7 @@ fn source_line(name: &str, args: &[String]) -> Result<Option<Line>, NoMemory>
 
 fn check_line(args: &[String]) -> Result<Option<Line>, NoMemory>
     ensures line { IfOk result (λ line. option_map asked line
-        ≡ check_line_of (map string_bytes args.now)) }
+        ≡ line_by named.Check (map string_bytes args.now)) }
     ensures numbers { IfOk result (λ line. IfSome line (λ line. HasShortNumbers (asked line))) }
 {
     let [file] = args else {
@@ -237,7 +241,7 @@ fn with_files(command: FilesCommand, from: String, to: String) -> Line
 
 fn generate_line(args: &[String]) -> Result<Option<Line>, NoMemory>
     ensures line { IfOk result (λ line. option_map asked line
-        ≡ generate_line_of (map string_bytes args.now)) }
+        ≡ line_by named.Generate (map string_bytes args.now)) }
     ensures numbers { IfOk result (λ line. IfSome line (λ line. HasShortNumbers (asked line))) }
 {
     let [seed, size, out] = args else {
@@ -258,7 +262,7 @@ fn generate_line(args: &[String]) -> Result<Option<Line>, NoMemory>
 
 fn cluster_line(alloc: Global, args: &[String]) -> Result<Option<Line>, NoMemory>
     ensures line { IfOk result (λ line. option_map asked line
-        ≡ cluster_line_of (map string_bytes args.now)) }
+        ≡ line_by named.Cluster (map string_bytes args.now)) }
     ensures numbers { IfOk result (λ line. IfSome line (λ line. HasShortNumbers (asked line))) }
 {
     let [script, cells, images @ ..] = args else {
@@ -290,7 +294,7 @@ fn copies(alloc: Global, words: &[String]) -> Result<Vec<String>, NoMemory>
 
 fn run_line(args: &[String]) -> Result<Option<Line>, NoMemory>
     ensures line { IfOk result (λ line. option_map asked line
-        ≡ run_line_of (map string_bytes args.now)) }
+        ≡ line_by named.RunImage (map string_bytes args.now)) }
     ensures numbers { IfOk result (λ line. IfSome line (λ line. HasShortNumbers (asked line))) }
 {
     match args {
@@ -331,7 +335,7 @@ fn run_with(
 
 fn debug_line(args: &[String]) -> Result<Option<Line>, NoMemory>
     ensures line { IfOk result (λ line. option_map asked line
-        ≡ debug_line_of (map string_bytes args.now)) }
+        ≡ line_by named.Debug (map string_bytes args.now)) }
     ensures numbers { IfOk result (λ line. IfSome line (λ line. HasShortNumbers (asked line))) }
 {
     let [image, heap, deep, script] = args else {
@@ -426,7 +430,7 @@ fn with_sizes(command: ProgramCommand, file: String, sizes: Sizes, input: Option
 
 fn profile_line(args: &[String]) -> Result<Option<Line>, NoMemory>
     ensures line { IfOk result (λ line. option_map asked line
-        ≡ profile_line_of (map string_bytes args.now)) }
+        ≡ line_by named.Profile (map string_bytes args.now)) }
     ensures numbers { IfOk result (λ line. IfSome line (λ line. HasShortNumbers (asked line))) }
 {
     let [file, heap, deep, steps] = args else {
@@ -445,7 +449,7 @@ fn profile_line(args: &[String]) -> Result<Option<Line>, NoMemory>
 
 fn wrap_line(args: &[String]) -> Result<Option<Line>, NoMemory>
     ensures line { IfOk result (λ line. option_map asked line
-        ≡ wrap_line_of (map string_bytes args.now)) }
+        ≡ line_by named.Wrap (map string_bytes args.now)) }
     ensures numbers { IfOk result (λ line. IfSome line (λ line. HasShortNumbers (asked line))) }
 {
     match args {
@@ -491,7 +495,7 @@ fn wrap_with(
 
 fn trace_line(args: &[String]) -> Result<Option<Line>, NoMemory>
     ensures line { IfOk result (λ line. option_map asked line
-        ≡ trace_line_of (map string_bytes args.now)) }
+        ≡ line_by named.Trace (map string_bytes args.now)) }
     ensures numbers { IfOk result (λ line. IfSome line (λ line. HasShortNumbers (asked line))) }
 {
     match args {
