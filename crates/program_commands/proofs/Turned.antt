@@ -1,13 +1,14 @@
 -- A run of a program and its backward run: what its report says, and that the inverse image
 -- restores every register and every cell.
-use Rattle.std.proofs.Common.{◌≡◌, ◌∙◌, sym, ap, subst, ℕ, ◌+◌, ◌<◌, ◌≤◌, List, ◌++◌, length, Ok, Err, true}
+use Rattle.std.proofs.Common.{◌≡◌, ◌∙◌, sym, ap, subst, ℕ, ◌+◌, ◌<◌, ◌≤◌, List, ◌++◌, length, Ok, Err, refl}
 use Rattle.std.proofs.Common.{arith}
-use Rattle.std.specs.Prelude.{Bool, Result, OnOk}
+use Rattle.std.specs.Prelude.{Result, OnOk}
 use Rattle.roopl_judge.specs.rpp_words.declared.input.FieldWord.{FieldWord}
 use Rattle.roopl_judge.specs.rpp_words.declared.input.Limits.{Limits}
 use Rattle.roopl_judge.specs.rpp_tree.Tree.{Source}
 use Rattle.image_inverter.specs.pisa_isa.declared.machine.Stop.{Stop}
-use Rattle.image_inverter.specs.pisa_isa.declared.machine.Stop.TheVariants.{Finished}
+use Rattle.image_inverter.specs.pisa_isa.declared.machine.Stop.TheVariants.{Finished, Trap, Bound, Returned, BadAddress}
+use Rattle.image_inverter.specs.pisa_isa.declared.machine.Stop.TheVariants.{OffCode}
 use Rattle.image_inverter.specs.pisa_isa.Image.{Segments, IsImage}
 use Rattle.image_inverter.specs.pisa_isa.Flipped.{flipped, Restores}
 use Rattle.image_inverter.specs.pisa_isa.Loaded.{loaded, loaded_state}
@@ -18,15 +19,15 @@ use Rattle.image_inverter.proofs.pisa_isa_laws.Reached.{reached_is_state}
 use Rattle.store_report.specs.pisa_machine.Position.{Position, IsMachine}
 use Rattle.store_report.specs.roopl_semantics.StandsFor.{run_of, StandsFor}
 use Rattle.store_report.specs.Memory.{IsMemoryOf, IsFirstMemoryOf}
-use Rattle.program_commands.specs.GoRun.{IsLoaded, HasRun}
+use Rattle.program_commands.specs.GoRun.{IsLoaded, HasRun, ReportsTurn, ReportsTurned}
 use Rattle.store_report.specs.roopl_semantics.Source.{starting}
 use Rattle.store_report.specs.roopl_semantics.Store.{State}
 use Rattle.store_report.specs.roopl_semantics.Report.{report}
 use Rattle.program_commands.proofs.Reported.{final, final_memory, soon_over}
 use Rattle.command_plan.specs.command_ends.declared.verdict.Verdict.TheVariants.{Done}
 use Rattle.command_plan.specs.Plans.{Planned, prints}
-use Rattle.program_commands.specs.ProgramPlans.{ReportsTurn, ReportsStop, ReportsEnd, RunsImage, back_lines}
-use Rattle.program_commands.specs.ProgramPlans.{steps_back}
+use Rattle.program_commands.specs.ProgramPlans.{ReportsStop, RunsImage, back_lines}
+use Rattle.program_commands.specs.RunPlans.{steps_back, with_way_back}
 use Rattle.command_plan.specs.Texts.{steps_line}
 
 module _ (program : Source) (limits : Limits) (input : List FieldWord) (bound : ℕ) (end : Position) (spent : ℕ) where
@@ -103,20 +104,39 @@ module _ (program : Source) (limits : Limits) (input : List FieldWord) (bound : 
       }
 
   -- the plan of a run, from what its reports say
-  abbrev pub runs_image : (turns : Bool) (why : Stop) → HasRun program limits input bound end why spent
-      → (p : Planned) → ReportsStop turns why program limits input first_cells spent bound p
-      → (count counted : ℕ) → counted ≡ count + (spent + steps_back turns why spent)
-      → RunsImage turns count counted program limits input bound p
-  runs_image turns why has p reports count counted once = record {
+  abbrev pub runs_image : (why : Stop) → HasRun program limits input bound end why spent
+      → (p : Planned) → ReportsStop why program limits input spent bound p
+      → (count counted : ℕ) → counted ≡ count + spent → RunsImage count counted program limits input bound p
+  runs_image why has p reports count counted once = record {
     image = end.image;
     is_image = has.is_image;
     stands = has.stands;
     in_time = λ cost ends. soon_over program end.image limits input bound cost
         ((has.stands.follows limits input has.allowed has.valid).in_time cost ends);
     restores = restores why has;
-    reports = subst (λ (e : End). ReportsEnd turns e program limits input first_cells bound p) (sym has.runs) reports;
-    once = subst (λ (e : End). counted ≡ count + (e.spent + steps_back turns e.why e.spent)) (sym has.runs) once;
+    reports = subst (λ (e : End). ReportsStop e.why program limits input e.spent bound p) (sym has.runs) reports;
+    once = subst (λ (e : End). counted ≡ count + e.spent) (sym has.runs) once;
   }
+
+  -- the plan of `turn` from that of `go`
+  pub record SaysTurn (why : Stop) (p : Planned) : Type 0 where
+    pub said : Planned
+    pub reports : ReportsStop why program limits input spent bound said
+    pub reported : p ≡ with_way_back why (back_lines spent (report program (starting program input).store)
+        (length first_cells)) said
+
+  pub says_turn : (why : Stop) (p : Planned) → ReportsTurned why program limits input first_cells spent bound p
+      → SaysTurn why p
+  says_turn Finished p turns = record {
+    said = prints Done (report program turns.end.store ++ steps_line spent);
+    reports = record { end = turns.end; gives = turns.gives; reported = refl };
+    reported = turns.reported;
+  }
+  says_turn (Trap code) p stops = record { said = p; reports = stops; reported = refl }
+  says_turn Bound p stops = record { said = p; reports = stops; reported = refl }
+  says_turn Returned p stops = absurd stops
+  says_turn (BadAddress address) p stops = absurd stops
+  says_turn (OffCode at) p stops = absurd stops
 
   -- a run from where the image is loaded
   pub has_run : (start : Position) (why : Stop) → IsLoaded program limits input start → IsMachine start
@@ -143,22 +163,13 @@ both (Err e) C D h k = tt
 
 -- ---- the counter of machine steps
 
--- a run that is not turned
-pub run_once : (count counted spent : ℕ) → counted ≡ count + spent → counted ≡ count + (spent + 0)
-run_once count counted spent made = omega (arith, made)
-
--- a run, and the way back
-pub turned_once : (count middle counted spent back : ℕ) → middle ≡ count + spent → counted ≡ middle + back
-    → counted ≡ count + (spent + back)
-turned_once count middle counted spent back made made_back = omega (arith, made, made_back)
-
 none_more : (count back : ℕ) → back ≡ 0 → count ≡ count + back
 none_more count back none = omega (arith, none)
 
 -- no way back
-pub none_back : {A E : Type 0} (r : Result A E) (count spent : ℕ) (why : Stop) → steps_back true why spent ≡ 0
-    → OnOk r (count ≡ count + steps_back true why spent)
-none_back (Ok x) count spent why none = none_more count (steps_back true why spent) none
+pub none_back : {A E : Type 0} (r : Result A E) (count spent : ℕ) (why : Stop) → steps_back why spent ≡ 0
+    → OnOk r (count ≡ count + steps_back why spent)
+none_back (Ok x) count spent why none = none_more count (steps_back why spent) none
 none_back (Err e) count spent why none = tt
 
 -- a run that no memory was found in made no more steps than it might

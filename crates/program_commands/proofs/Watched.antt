@@ -1,6 +1,5 @@
 -- What the probes of `turn` and `profile` observed.
-use Rattle.std.proofs.Common.{◌≡◌, ◌∙◌, sym, ap, subst, subst₂, ℕ, ◌+◌, true, false, List, [], ◌∷◌, ◌++◌, map, Ok, Err}
-use Rattle.std.proofs.Common.{inr}
+use Rattle.std.proofs.Common.{◌≡◌, ◌∙◌, sym, ap, subst, subst₂, ℕ, ◌+◌, List, [], ◌∷◌, ◌++◌, map, Ok, Err, inr, length}
 use Rattle.std.specs.Prelude.{Result, OnOk, IfErr}
 use Rattle.std.proofs.lemmas.List.{map-append}
 use Rattle.image_inverter.specs.pisa_isa.declared.cell.Cell.{Cell}
@@ -20,11 +19,13 @@ use Rattle.image_inverter.specs.pisa_isa.Runs.{End, visited, started}
 use Rattle.store_report.specs.pisa_machine.Position.{Position}
 use Rattle.store_report.specs.pisa_machine.Told.{counted_steps, step_at, BreaksOff}
 use Rattle.command_plan.specs.Plans.{Planned}
-use Rattle.program_commands.specs.GoRun.{IsLoaded, HasRun}
-use Rattle.program_commands.specs.ProgramPlans.{ReportsStop, steps_back}
-use Rattle.program_commands.specs.RunPlans.{TurnsImage, ProfilesImage, back_steps, run_steps}
+use Rattle.program_commands.specs.GoRun.{IsLoaded, HasRun, ReportsTurned}
+use Rattle.program_commands.specs.ProgramPlans.{ReportsStop, back_lines}
+use Rattle.program_commands.specs.RunPlans.{TurnsImage, ProfilesImage, back_steps, run_steps, steps_back, with_way_back}
 use Rattle.program_commands.specs.ToldShort.{IsToldSoFar, TurnsShort, ProfilesShort}
-use Rattle.program_commands.proofs.Turned.{runs_image}
+use Rattle.program_commands.proofs.Turned.{runs_image, says_turn}
+use Rattle.store_report.specs.roopl_semantics.Report.{report}
+use Rattle.store_report.specs.roopl_semantics.Source.{starting}
 
 -- if no step was observed, the probes are as they were
 pub none_told : {A E : Type 0} (r : Result A E) (steps : List StepAt) (ws : List Watch) → steps ≡ []
@@ -73,15 +74,23 @@ loaded_short program limits input bound start loads image before after told = re
 module _ (program : Source) (limits : Limits) (input : List FieldWord) (bound : ℕ) (end : Position) (spent : ℕ) where
   pub turns_image : (why : Stop) → HasRun program limits input bound end why spent
       → (before after : List Watch) → after ≡ left_after (back_steps why end.image.code end.state bound) before
-      → (p : Planned) → ReportsStop true why program limits input
+      → (p : Planned) → ReportsTurned why program limits input
       (loaded end.image.statics limits input) spent bound p
-      → (count counted : ℕ) → counted ≡ count + (spent + steps_back true why spent)
+      → (count middle counted : ℕ) → middle ≡ count + spent → counted ≡ middle + steps_back why spent
       → TurnsImage before after count counted program limits input bound p
-  turns_image why has before after told p reports count counted once = record {
-    runs = runs_image program limits input bound end spent true why has p reports count counted once;
-    told = subst (λ (e : End). after ≡ left_after (back_steps e.why end.image.code e.last bound) before) (sym has.runs)
-        told;
-  }
+  turns_image why has before after told p reports count middle counted once once_back =
+      let s = says_turn program limits input bound end spent why p reports in
+      record {
+        said = s.said;
+        middle = middle;
+        runs = runs_image program limits input bound end spent why has s.said s.reports count middle once;
+        told = subst (λ (e : End). after ≡ left_after (back_steps e.why end.image.code e.last bound) before)
+            (sym has.runs) told;
+        reported = subst (λ (e : End). p ≡ with_way_back e.why (back_lines e.spent
+            (report program (starting program input).store) (length (loaded end.image.statics limits input))) s.said)
+            (sym has.runs) s.reported;
+        once = subst (λ (e : End). counted ≡ middle + steps_back e.why e.spent) (sym has.runs) once_back;
+      }
 
   -- the steps of the run of the loaded image are those of the image where it ended
   same_steps : (start : Position) → IsLoaded program limits input start → end.image ≡ start.image
@@ -95,14 +104,13 @@ module _ (program : Source) (limits : Limits) (input : List FieldWord) (bound : 
       → (before after : List Watch) (ended : List (List ℕ))
       → after ≡ left_after (counted_steps start.image.code bound start.state) before
       → ended ≡ lines_after (counted_steps start.image.code bound start.state) before
-      → (said p : Planned) → ReportsStop false why program limits input
-      (loaded end.image.statics limits input) spent bound said
+      → (said p : Planned) → ReportsStop why program limits input spent bound said
       → p ≡ record said { text = (said.text ++ lines_shown ended) ++ lines_shown (map line_of after) }
-      → (count counted : ℕ) → counted ≡ count + (spent + steps_back false why spent)
+      → (count counted : ℕ) → counted ≡ count + spent
       → ProfilesImage before after count counted program limits input bound p
   profiles_image why has start loads same before after ended told lines said p reports is count counted once = record {
     said = said;
-    runs = runs_image program limits input bound end spent false why has said reports count counted once;
+    runs = runs_image program limits input bound end spent why has said reports count counted once;
     told = told ∙ ap (λ steps. left_after steps before) (same_steps start loads same);
     reported = is ∙ ap (λ l. record said { text = (said.text ++ lines_shown l) ++ lines_shown (map line_of after) })
         (lines ∙ ap (λ steps. lines_after steps before) (same_steps start loads same));

@@ -1,5 +1,5 @@
 -- The plans of `check` and `compile`, and what a run of a program reports.
-use Rattle.std.specs.Prelude.{◌≡◌, ℕ, ◌+◌, ◌≤◌, Bool, true, false, List, ◌++◌, length, Ok}
+use Rattle.std.specs.Prelude.{◌≡◌, ℕ, ◌+◌, ◌≤◌, List, ◌++◌, Ok}
 use Rattle.std.specs.Prelude.{codes}
 use Rattle.std.specs.declared.option.Option.{Option}
 use Rattle.std.specs.Fmt.{decimal}
@@ -18,15 +18,12 @@ use Rattle.command_plan.specs.pisa_image.ImageBytes.{image_bytes}
 use Rattle.command_plan.specs.pisa_image.Reading.{noted, image_at}
 use Rattle.image_inverter.specs.pisa_isa.Loaded.{loaded}
 use Rattle.image_inverter.specs.pisa_isa.Runs.{End, zero_registers}
-use Rattle.store_report.specs.roopl_semantics.Store.{State}
-use Rattle.store_report.specs.roopl_semantics.Source.{GivesDone, starting}
-use Rattle.store_report.specs.roopl_semantics.Report.{report}
 use Rattle.store_report.specs.roopl_semantics.StandsFor.{StandsFor, EndsAt, run_of, enough_steps}
 use Rattle.program_runs.specs.run_settings.Runnable.{IsJudgedPlan}
 use Rattle.roopl_judge.specs.rpp_words.Texts.{line_end}
 use Rattle.command_plan.specs.command_ends.declared.verdict.Verdict.TheVariants.{Done}
 use Rattle.command_plan.specs.Plans.{Planned, prints, writes, WithText}
-use Rattle.command_plan.specs.Texts.{steps_line, cells_line}
+use Rattle.command_plan.specs.Texts.{cells_line}
 use Rattle.program_runs.specs.Reports.{ReportsStore, ReportsFault, ReportsBound}
 
 -- what is printed of the way back: its steps, the report, and how many cells are as they were
@@ -36,51 +33,20 @@ back_lines spent report count =
     ++ (line_end ++ (report ++ (codes "restored "
     ++ (decimal count ++ (codes " cells" ++ line_end))))))
 
--- the semantics gives a store, and the plan reports it, then the store with which the source began,
--- and how many the first cells are
-pub record ReportsTurn (program : Source) (limits : Limits) (input : List FieldWord)
-    (first : List ℕ) (spent : ℕ) (p : Planned) : Type 0 where
-  pub end : State
-  pub gives : GivesDone program limits input end
-  pub reported : p ≡ prints Done ((report program end.store ++ steps_line spent)
-      ++ back_lines spent (report program (starting program input).store) (length first))
-
--- what the plan of a finished run says, by whether it turns back
-abbrev pub ReportsFinish : (turns : Bool) → Source → Limits → List FieldWord
-    → (first : List ℕ) (spent : ℕ) → Planned → Type 0
-ReportsFinish false program limits input first spent p =
-    ReportsStore program limits input spent p
-ReportsFinish true program limits input first spent p =
-    ReportsTurn program limits input first spent p
-
 -- what the plan of a run says, by why the run ended; it never ends otherwise
-abbrev pub ReportsStop : (turns : Bool) → Stop → Source → Limits → List FieldWord
-    → (first : List ℕ) (spent steps : ℕ) → Planned → Type 0
-ReportsStop turns Finished program limits input first spent steps p =
-    ReportsFinish turns program limits input first spent p
-ReportsStop turns (Trap code) program limits input first spent steps p =
+abbrev pub ReportsStop : Stop → Source → Limits → List FieldWord → (spent steps : ℕ) → Planned
+    → Type 0
+ReportsStop Finished program limits input spent steps p = ReportsStore program limits input spent p
+ReportsStop (Trap code) program limits input spent steps p =
     ReportsFault program limits input code spent p
-ReportsStop turns AtBound program limits input first spent steps p =
-    ReportsBound program limits input steps p
-ReportsStop turns _ program limits input first spent steps p = ⊥
-
--- what the plan of a run of at most so many steps from these first cells says, by its end
-abbrev pub ReportsEnd : (turns : Bool) → End → Source → Limits → List FieldWord
-    → (first : List ℕ) (steps : ℕ) → Planned → Type 0
-ReportsEnd turns end program limits input first steps p =
-    ReportsStop turns end.why program limits input first end.spent steps p
-
--- the machine steps of the way back, which is made after a finish if the run turns
-abbrev pub steps_back : (turns : Bool) → Stop → (spent : ℕ) → ℕ
-steps_back false why spent = 0
-steps_back true Finished spent = spent
-steps_back true _ spent = 0
+ReportsStop AtBound program limits input spent steps p = ReportsBound program limits input steps p
+ReportsStop _ program limits input spent steps p = ⊥
 
 -- There is an image that implements the program, and the plan reports its run, whose steps are
 -- bounded by the cost of the source. After a finish the inverse image restores every register and
--- every cell, in as many steps. No other steps are made than those of the run, and if it turns
--- those of the way back: `count` is their counter as it is passed, and `counted` as it is left.
-pub record RunsImage (turns : Bool) (count counted : ℕ) (program : Source) (limits : Limits)
+-- every cell, in as many steps. No other steps are made than those of the run: `count` is their
+-- counter as it is passed, and `counted` as it is left.
+pub record RunsImage (count counted : ℕ) (program : Source) (limits : Limits)
     (input : List FieldWord) (steps : ℕ) (p : Planned) : Type 0 where
   pub image : Segments
   pub is_image : IsImage image
@@ -90,10 +56,9 @@ pub record RunsImage (turns : Bool) (count counted : ℕ) (program : Source) (li
   pub restores : (run_of image limits input steps).why ≡ Finished
       → Restores image.code (run_of image limits input steps) steps zero_registers
       (loaded image.statics limits input)
-  pub reports : ReportsEnd turns (run_of image limits input steps) program limits input
-      (loaded image.statics limits input) steps p
-  pub once : let end : End = run_of image limits input steps in
-      counted ≡ count + (end.spent + steps_back turns end.why end.spent)
+  pub reports : let end : End = run_of image limits input steps in
+      ReportsStop end.why program limits input end.spent steps p
+  pub once : counted ≡ count + (run_of image limits input steps).spent
 
 abbrev pub IsCheckPlan : (text : List ℕ) → Planned → Type 0
 IsCheckPlan text p = IsJudgedPlan text (λ program p. p ≡ prints Done (codes "accepted" ++ line_end))

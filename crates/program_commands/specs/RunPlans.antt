@@ -1,7 +1,7 @@
 -- The plans of the commands that run a program: `go`, `turn` and `profile`. For probes that watch,
 -- `before` is the list as it is passed, and `after` as it is left; so `count` and `counted` are the
 -- counter of machine steps.
-use Rattle.std.specs.Prelude.{◌≡◌, ◌⊎◌, ℕ, true, false, List, [], ◌++◌, map}
+use Rattle.std.specs.Prelude.{◌≡◌, ◌⊎◌, ℕ, ◌+◌, List, [], ◌++◌, map, length}
 use Rattle.std.specs.declared.option.Option.{Option}
 use Rattle.roopl_judge.specs.rpp_words.declared.input.FieldWord.{FieldWord}
 use Rattle.roopl_judge.specs.rpp_words.declared.input.Limits.{Limits}
@@ -18,21 +18,23 @@ use Rattle.image_inverter.specs.pisa_isa.declared.machine.Stop.TheVariants.{Fini
 use Rattle.image_inverter.specs.pisa_isa.Image.{Segments}
 use Rattle.image_inverter.specs.pisa_isa.Flipped.{flipped}
 use Rattle.image_inverter.specs.pisa_isa.Machine.{State}
-use Rattle.image_inverter.specs.pisa_isa.Loaded.{loaded_state}
+use Rattle.image_inverter.specs.pisa_isa.Loaded.{loaded, loaded_state}
 use Rattle.image_inverter.specs.pisa_isa.Runs.{End, started}
 use Rattle.store_report.specs.pisa_machine.Told.{counted_steps}
+use Rattle.store_report.specs.roopl_semantics.Report.{report}
+use Rattle.store_report.specs.roopl_semantics.Source.{starting}
 use Rattle.store_report.specs.roopl_semantics.StandsFor.{run_of}
 use Rattle.command_plan.specs.Plans.{Planned, WithText, WithInput}
 use Rattle.program_runs.specs.run_settings.Runnable.{RefusesRun, RunsTo}
-use Rattle.program_commands.specs.ProgramPlans.{RunsImage}
+use Rattle.program_commands.specs.ProgramPlans.{RunsImage, back_lines}
 
 -- the plan of `go` of a text on an input
 abbrev pub IsGoPlan : (count counted : ℕ) → (text given : List ℕ) → (sizes : Sizes)
     → Planned → Type 0
 IsGoPlan count counted text given sizes p =
     (RefusesRun text given sizes.room p × (counted ≡ count))
-    ⊎ RunsTo text given sizes.room (λ program limits input. RunsImage false count counted program
-    limits input sizes.bound p)
+    ⊎ RunsTo text given sizes.room (λ program limits input. RunsImage count counted program limits
+    input sizes.bound p)
 
 -- the steps that `turn` reports: after a finish only those of the run of the inverse image from
 -- there
@@ -41,13 +43,32 @@ back_steps Finished code m steps =
     counted_steps (flipped code) steps (started (flipped code) m.regs m.cells)
 back_steps _ code m steps = []
 
--- the plan reports both runs of an image that implements the program, and the probes observed the
--- steps of the second one
+-- the machine steps of the way back, which is made after a finish
+abbrev pub steps_back : Stop → (spent : ℕ) → ℕ
+steps_back Finished spent = spent
+steps_back _ spent = 0
+
+-- a plan, and after a finish the lines on the way back
+abbrev pub with_way_back : Stop → (lines : List ℕ) → Planned → Planned
+with_way_back Finished lines said = record said { text = said.text ++ lines }
+with_way_back _ lines said = said
+
+-- The plan says what that of `go` says. After a finish it adds the steps of the way back, the store
+-- with which the source began, and how many the first cells are. The probes observed the steps of
+-- the way back, and no other steps are made than those of both runs.
 pub record TurnsImage (before after : List Watch) (count counted : ℕ) (program : Source)
     (limits : Limits) (input : List FieldWord) (steps : ℕ) (p : Planned) : Type 0 where
-  pub runs : RunsImage true count counted program limits input steps p
+  pub said : Planned
+  pub middle : ℕ
+  pub runs : RunsImage count middle program limits input steps said
   pub told : let end : End = run_of runs.image limits input steps in
       after ≡ left_after (back_steps end.why runs.image.code end.last steps) before
+  pub reported : let end : End = run_of runs.image limits input steps in
+      p ≡ with_way_back end.why (back_lines end.spent
+            (report program (starting program input).store)
+      (length (loaded runs.image.statics limits input))) said
+  pub once : let end : End = run_of runs.image limits input steps in
+      counted ≡ middle + steps_back end.why end.spent
 
 -- the plan of `turn` of a text on an input
 abbrev pub IsTurnPlan : (before after : List Watch) → (count counted : ℕ)
@@ -68,7 +89,7 @@ run_steps image limits input steps = counted_steps image.code steps
 pub record ProfilesImage (before after : List Watch) (count counted : ℕ) (program : Source)
     (limits : Limits) (input : List FieldWord) (steps : ℕ) (p : Planned) : Type 0 where
   pub said : Planned
-  pub runs : RunsImage false count counted program limits input steps said
+  pub runs : RunsImage count counted program limits input steps said
   pub told : after ≡ left_after (run_steps runs.image limits input steps) before
   pub reported : p ≡ record said {
     text = (said.text ++ lines_shown (lines_after (run_steps runs.image limits input steps) before))

@@ -1,8 +1,7 @@
 // `go F H D STEPS [INPUT]`: compiles a program, runs its image and reports.
-ghost use Rattle.std.specs.Prelude.{◌≡◌, false, ◌≤◌, ◌<◌, ◌+◌, ◌^◌, ◌∷◌, length, option_map, IfOk, IfErr, IfSome, string_bytes};
+ghost use Rattle.std.specs.Prelude.{◌≡◌, ◌≤◌, ◌<◌, ◌+◌, ◌^◌, ◌∷◌, length, option_map, IfOk, IfErr, IfSome, string_bytes};
 ghost use Rattle.roopl_judge.specs.rpp_tree.Views.{source_of};
 ghost use Rattle.roopl_judge.specs.rpp_tree.declared.limits.TheConstants.{MOST_BYTES};
-ghost use Rattle.image_inverter.specs.pisa_isa.Loaded.{loaded};
 ghost use Rattle.command_plan.specs.pisa_loader.declared.input.TheConstants.{MOST_INPUT};
 ghost use Rattle.command_plan.specs.Plans.{planned, GivesPlan};
 ghost use Rattle.program_runs.specs.Reports.{ReportsStore};
@@ -82,7 +81,7 @@ fn run_program<L: Ledger>(
     setting: &RunSetting,
     steps: &mut Steps<L>,
 ) -> Result<Plan, NoMemory>
-    ensures plan { IfOk result (λ plan. RunsImage false steps.old steps.new
+    ensures plan { IfOk result (λ plan. RunsImage steps.old steps.new
         (source_of setting.now.checked) setting.now.limits setting.now.input.words.items
         setting.now.bound (planned plan)) }
     ensures within { steps.new ≤ steps.old + setting.now.bound }
@@ -101,10 +100,9 @@ pub fn report_run(
 ) -> Result<Plan, NoMemory>
     requires { HasRun (source_of setting.now.checked) setting.now.limits
         setting.now.input.words.items setting.now.bound machine.now end.stop end.spent }
-    ensures { IfOk result (λ plan. ReportsStop false end.stop (source_of setting.now.checked)
-        setting.now.limits setting.now.input.words.items
-        (loaded machine.now.image.statics setting.now.limits setting.now.input.words.items)
-        end.spent setting.now.bound (planned plan)) }
+    ensures { IfOk result (λ plan. ReportsStop end.stop (source_of setting.now.checked)
+        setting.now.limits setting.now.input.words.items end.spent setting.now.bound
+        (planned plan)) }
 {
     match end.stop {
         Stop::Finished => report_store(alloc, setting, machine, end.spent),

@@ -1,6 +1,6 @@
 // `turn F H D STEPS [INPUT]`: what `go` does, and then the inverse image runs from where the run
 // finished, as probes watch.
-ghost use Rattle.std.specs.Prelude.{◌≡◌, ◌⊎◌, true, ◌≤◌, ◌<◌, ◌+◌, ◌^◌, ◌++◌, ◌∷◌, length, option_map, IfOk, IfErr, OnOk, string_bytes};
+ghost use Rattle.std.specs.Prelude.{◌≡◌, ◌⊎◌, ◌≤◌, ◌<◌, ◌+◌, ◌^◌, ◌++◌, ◌∷◌, length, option_map, IfOk, IfErr, OnOk, string_bytes};
 ghost use Rattle.roopl_judge.specs.rpp_tree.Views.{source_of};
 ghost use Rattle.roopl_judge.specs.rpp_tree.declared.limits.TheConstants.{MOST_BYTES};
 ghost use Rattle.command_plan.specs.rpp_probes.Tally.{left_after};
@@ -9,10 +9,10 @@ ghost use Rattle.image_inverter.specs.pisa_isa.Loaded.{loaded};
 ghost use Rattle.command_plan.specs.pisa_loader.declared.input.TheConstants.{MOST_INPUT};
 ghost use Rattle.command_plan.specs.Plans.{planned, GivesPlan};
 ghost use Rattle.command_plan.specs.Files.{OnlyReads, UnreadCause, source, input_files};
-ghost use Rattle.program_commands.specs.ProgramPlans.{ReportsStop, ReportsTurn, back_lines, steps_back};
-ghost use Rattle.program_commands.specs.RunPlans.{IsTurnPlan, TurnsFile, TurnsImage, back_steps};
+ghost use Rattle.program_commands.specs.ProgramPlans.{back_lines};
+ghost use Rattle.program_commands.specs.RunPlans.{IsTurnPlan, TurnsFile, TurnsImage, back_steps, steps_back};
 ghost use Rattle.program_commands.specs.ToldShort.{IsToldSoFar, TurnsShort, IsTurnShort, TurnsFileShort};
-ghost use Rattle.program_commands.specs.GoRun.{HasRun};
+ghost use Rattle.program_commands.specs.GoRun.{HasRun, ReportsTurn, ReportsTurned};
 ghost use Rattle.image_inverter.specs.pisa_isa.Flipped.{flipped};
 ghost use Rattle.image_inverter.specs.pisa_isa.Runs.{started};
 
@@ -116,11 +116,11 @@ fn report_turn<P: Probes, L: Ledger>(
 ) -> Result<Plan, NoMemory>
     requires { HasRun (source_of setting.now.checked) setting.now.limits
         setting.now.input.words.items setting.now.bound machine end.stop end.spent }
-    ensures stop { IfOk result (λ plan. ReportsStop true end.stop (source_of setting.now.checked)
+    ensures stop { IfOk result (λ plan. ReportsTurned end.stop (source_of setting.now.checked)
         setting.now.limits setting.now.input.words.items
         (loaded machine.image.statics setting.now.limits setting.now.input.words.items) end.spent
         setting.now.bound (planned plan)) }
-    ensures counter { OnOk result (steps.new ≡ steps.old + steps_back true end.stop end.spent) }
+    ensures counter { OnOk result (steps.new ≡ steps.old + steps_back end.stop end.spent) }
     ensures within { steps.new ≤ steps.old + setting.now.bound }
     ensures told { OnOk result (P.watches probes.new ≡
         left_after (back_steps end.stop machine.image.code machine.state setting.now.bound)

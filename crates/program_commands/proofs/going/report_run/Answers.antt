@@ -1,7 +1,6 @@
-use Rattle.std.proofs.Common.{false, sym, subst}
+use Rattle.std.proofs.Common.{sym, subst}
 use Rattle.roopl_judge.specs.rpp_tree.Views.{source_of}
 use Rattle.image_inverter.specs.pisa_isa.declared.machine.Stop.{Stop}
-use Rattle.image_inverter.specs.pisa_isa.Loaded.{loaded}
 use Rattle.program_commands.specs.GoRun.{HasRun}
 use Rattle.command_plan.specs.Plans.{planned}
 use Rattle.program_commands.specs.ProgramPlans.{ReportsStop}
@@ -14,9 +13,8 @@ returns-in_ok-report_fault-in-Trap c =
     let is = c.in-Trap.is in
     let has = subst (λ (why : Stop). HasRun program c.args.setting.now.limits c.args.setting.now.input.words.items
     c.args.setting.now.bound c.args.machine.now why c.args.end.spent) is c.requires in
-    subst (λ (why : Stop). ReportsStop false why program c.args.setting.now.limits c.args.setting.now.input.words.items
-    (loaded c.args.machine.now.image.statics c.args.setting.now.limits
-    c.args.setting.now.input.words.items) c.args.end.spent c.args.setting.now.bound
+    subst (λ (why : Stop). ReportsStop why program c.args.setting.now.limits c.args.setting.now.input.words.items
+    c.args.end.spent c.args.setting.now.bound
     (planned c.in_ok-report_fault-in-Trap.field-0)) (sym is)
     (record {
       gives = gives_fault program c.args.setting.now.limits c.args.setting.now.input.words.items
@@ -31,8 +29,7 @@ returns-in_ok-report_bound-in-Bound c =
     let is = c.in-Bound.is in
     let has = subst (λ (why : Stop). HasRun program c.args.setting.now.limits words c.args.setting.now.bound
     c.args.machine.now why c.args.end.spent) is c.requires in
-    subst (λ (why : Stop). ReportsStop false why program c.args.setting.now.limits words
-    (loaded c.args.machine.now.image.statics c.args.setting.now.limits words) c.args.end.spent
+    subst (λ (why : Stop). ReportsStop why program c.args.setting.now.limits words c.args.end.spent
     c.args.setting.now.bound (planned c.in_ok-report_bound-in-Bound.field-0)) (sym is)
     (record {
       early = too_early program c.args.setting.now.limits words c.args.setting.now.bound c.args.machine.now

@@ -1,7 +1,6 @@
-use Rattle.std.proofs.Common.{false}
 use Rattle.roopl_judge.specs.rpp_tree.Views.{source_of}
 use Rattle.command_plan.specs.Plans.{planned}
-use Rattle.program_commands.proofs.Turned.{has_run, runs_image, run_once}
+use Rattle.program_commands.proofs.Turned.{has_run, runs_image}
 use Rattle.program_runs.proofs.Weaker.{weaken}
 use Rattle.program_commands.proofs.going.run_program.Goals as goal
 
@@ -24,7 +23,6 @@ returns-clause-plan g c =
     c.in_ok-machine.machine c.run-end.result.stop c.in_ok-machine.ensures c.run-end.ensures.machine
     c.run-end.ensures.image c.run-end.ensures.within c.run-end.ensures.runs in
     weaken c.report_run.result _ _
-    (λ plan stop. runs_image program limits input bound end c.run-end.result.spent false c.run-end.result.stop has
-    (planned plan) stop c.args.steps.now c.run-end.new.steps
-    (run_once c.args.steps.now c.run-end.new.steps c.run-end.result.spent c.run-end.ensures.counter))
+    (λ plan stop. runs_image program limits input bound end c.run-end.result.spent c.run-end.result.stop has
+    (planned plan) stop c.args.steps.now c.run-end.new.steps c.run-end.ensures.counter)
     c.report_run.ensures

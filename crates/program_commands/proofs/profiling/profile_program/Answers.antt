@@ -5,7 +5,7 @@ use Rattle.roopl_judge.specs.rpp_tree.Views.{source_of}
 use Rattle.command_plan.specs.rpp_probes.Tally.{lines_after}
 use Rattle.store_report.specs.pisa_machine.Told.{counted_steps}
 use Rattle.command_plan.specs.Plans.{planned}
-use Rattle.program_commands.proofs.Turned.{has_run, run_once, broken_within}
+use Rattle.program_commands.proofs.Turned.{has_run, broken_within}
 use Rattle.program_runs.proofs.Weaker.{weaken}
 use Rattle.program_commands.proofs.Watched.{profiles_image, told_short, loaded_short}
 use Rattle.program_commands.proofs.profiling.profile_program.Goals as goal
@@ -40,7 +40,7 @@ returns-clause-plan g c =
     ∙ ap (λ l. map string_bytes l ++ lines_after (counted_steps start.image.code bound start.state) before)
     c.new-lines.ensures.items)
     (planned c.in_ok-said.said) (planned plan) c.in_ok-said.ensures is c.args.steps.now c.run_told.new.steps
-    (run_once c.args.steps.now c.run_told.new.steps c.in_ok-end.end.spent c.in_ok-end.ensures.counter))
+    c.in_ok-end.ensures.counter)
     c.with_probes.ensures
 
 pub returns-in_err-end-clause-within : goal.returns-in_err-end-clause-within

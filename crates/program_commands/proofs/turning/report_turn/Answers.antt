@@ -1,7 +1,6 @@
-use Rattle.std.proofs.Common.{ap, true, inl, inr, ⊎_elim}
+use Rattle.std.proofs.Common.{ap, inl, inr, ⊎_elim}
 use Rattle.image_inverter.specs.pisa_isa.declared.machine.Stop.{Stop}
-use Rattle.program_commands.specs.ProgramPlans.{steps_back}
-use Rattle.program_commands.specs.RunPlans.{back_steps}
+use Rattle.program_commands.specs.RunPlans.{back_steps, steps_back}
 use Rattle.program_commands.proofs.Turned.{none_back}
 use Rattle.program_commands.proofs.Watched.{none_told, err_weaken}
 use Rattle.program_commands.proofs.turning.report_turn.Goals as goal
@@ -28,9 +27,9 @@ returns-in-Finished-clause-short g c =
 pub returns-in-Trap-clause-counter : goal.returns-in-Trap-clause-counter
 returns-in-Trap-clause-counter g c =
     none_back c.report_run.result c.args.steps.now c.args.end.spent c.args.end.stop
-    (ap (λ (why : Stop). steps_back true why c.args.end.spent) c.in-Trap.is)
+    (ap (λ (why : Stop). steps_back why c.args.end.spent) c.in-Trap.is)
 
 pub returns-in-Bound-clause-counter : goal.returns-in-Bound-clause-counter
 returns-in-Bound-clause-counter g c =
     none_back c.report_run-in-Bound.result c.args.steps.now c.args.end.spent c.args.end.stop
-    (ap (λ (why : Stop). steps_back true why c.args.end.spent) c.in-Bound.is)
+    (ap (λ (why : Stop). steps_back why c.args.end.spent) c.in-Bound.is)

@@ -1,9 +1,8 @@
 use Rattle.roopl_judge.specs.rpp_tree.Views.{source_of}
 use Rattle.command_plan.specs.Plans.{planned}
-use Rattle.program_commands.proofs.Turned.{has_run, both, turned_once}
+use Rattle.program_commands.proofs.Turned.{has_run, both}
 use Rattle.program_runs.proofs.Weaker.{weaken_with}
-use Rattle.std.proofs.Common.{◌≡◌, true, inl, inr, ⊎_elim}
-use Rattle.program_commands.specs.ProgramPlans.{steps_back}
+use Rattle.std.proofs.Common.{◌≡◌, inl, inr, ⊎_elim}
 use Rattle.program_commands.proofs.Watched.{turns_image, turns_short, err_weaken}
 use Rattle.program_commands.proofs.turning.turn_program.Goals as goal
 
@@ -29,9 +28,7 @@ returns-clause-plan g c =
     (λ left plan stop.
     turns_image program limits input bound end c.run-end.result.spent c.run-end.result.stop has
     (g.P.Probes.watches c.args.probes.now) (g.P.Probes.watches c.report_turn.new.probes) left.0 (planned plan) stop
-    c.args.steps.now c.report_turn.new.steps
-    (turned_once c.args.steps.now c.run-end.new.steps c.report_turn.new.steps c.run-end.result.spent
-    (steps_back true c.run-end.result.stop c.run-end.result.spent) c.run-end.ensures.counter left.1))
+    c.args.steps.now c.run-end.new.steps c.report_turn.new.steps c.run-end.ensures.counter left.1)
     (both c.report_turn.result _ _ c.report_turn.ensures.told c.report_turn.ensures.counter)
     c.report_turn.ensures.stop
 
