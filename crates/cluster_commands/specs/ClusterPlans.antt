@@ -3,8 +3,8 @@ use Rattle.std.specs.Prelude.{◌≡◌, ℕ, List, [], ◌∷◌, length, map, 
 use Rattle.std.specs.declared.option.Option.{Option}
 use Rattle.command_plan.specs.rpp_ports.Ports.{Texts}
 use Rattle.pisa_cluster.specs.pisa_isa.Image.{Segments}
-use Rattle.pisa_cluster.specs.pisa_isa.Notes.{NotedImage}
 use Rattle.command_plan.specs.pisa_image.declared.error.ImageError.{ImageError}
+use Rattle.command_plan.specs.pisa_image.Numbers.{◌>>=◌}
 use Rattle.command_plan.specs.pisa_image.Reading.{image_at}
 use Rattle.command_plan.specs.declared.reading.TheConstants.{MOST_IMAGE}
 use Rattle.command_plan.specs.command_ends.declared.verdict.Verdict.TheVariants.{Done, ImageRefused, InputRefused}
@@ -24,15 +24,12 @@ abbrev pub cluster_files : (script : List ℕ) → (images : List (List ℕ)) �
 cluster_files script images = script_file script ∷ map image_file images
 
 -- the images that bytes are, or the first refusal
-abbrev pub with_image : Result NotedImage ImageError → Result (List Segments) ImageError
-    → Result (List Segments) ImageError
-with_image (Err e) rest = Err e
-with_image (Ok noted) (Err e) = Err e
-with_image (Ok noted) (Ok images) = Ok (noted.image ∷ images)
-
 abbrev pub images_at : List (List ℕ) → Result (List Segments) ImageError
 images_at [] = Ok []
-images_at (bytes ∷ rest) = with_image (image_at bytes) (images_at rest)
+images_at (bytes ∷ rest) = do
+  noted ← image_at bytes
+  images ← images_at rest
+  Ok (noted.image ∷ images)
 
 -- the first invalid line is reported, or what the events print is printed
 abbrev pub IsEventsPlan : Result (List Event) ScriptError → List Segments → (cells : ℕ) → Planned

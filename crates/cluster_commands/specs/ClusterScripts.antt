@@ -2,6 +2,7 @@
 use Rattle.std.specs.Prelude.{◌≡◌, ℕ, ◌+◌, ◌≤◌, nat_eq, if◌then◌else◌, List, [], ◌∷◌, ◌++◌, Option}
 use Rattle.std.specs.Prelude.{Some, None, Result, Ok, Err, option_map, codes}
 use Rattle.std.specs.Str.{bytes_eq}
+use Rattle.command_plan.specs.pisa_image.Numbers.{◌>>=◌}
 use Rattle.command_plan.specs.pisa_scripts.Lines.{number_up_to, is_blank, pieces, without_returns}
 use Rattle.cluster_commands.specs.declared.script.Event.{Event}
 use Rattle.cluster_commands.specs.declared.script.Event.TheVariants.{Step, Undo, Rewind}
@@ -56,18 +57,12 @@ with_line processors line events text =
     if is_blank text then Ok events else with_event line events
     (event_of processors (pieces 32 text))
 
-abbrev pub and_then : Result (List Event) ScriptError
-    → (List Event → Result (List Event) ScriptError) → Result (List Event) ScriptError
-and_then (Ok events) f = f events
-and_then (Err e) f = Err e
-
 -- line by line, the first of which has this number
 unfoldable pub events_from : (processors line : ℕ) → List Event → List (List ℕ)
     → Result (List Event) ScriptError
 events_from processors line events [] = Ok events
 events_from processors line events (text ∷ texts) =
-    and_then (with_line processors line events text)
-    (λ more. events_from processors (line + 1) more texts)
+    with_line processors line events text >>= λ more. events_from processors (line + 1) more texts
 
 -- what a text asks of so many processors, or its first line that asks nothing
 abbrev pub events_of : (processors : ℕ) → (text : List ℕ) → Result (List Event) ScriptError

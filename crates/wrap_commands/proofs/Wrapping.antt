@@ -34,7 +34,7 @@ use Rattle.command_plan.specs.Plans.{Planned, prints}
 use Rattle.command_plan.specs.Texts.{steps_line}
 use Rattle.wrap_commands.specs.WrapNames.{HasLowNumber, result_cells}
 use Rattle.wrap_commands.specs.WrapShown.{result_lines, word_lines, initial_line}
-use Rattle.wrap_commands.specs.WrapPlans.{AreResults, TellsResults, TellsStop, TellsEnd, WrapsImage}
+use Rattle.wrap_commands.specs.WrapPlans.{AreResults, TellsResults, TellsStop, WrapsImage}
 use Rattle.wrap_commands.specs.WrapRun.{HasWrapped}
 use Rattle.wrap_commands.proofs.Words.{Holds, words_shown}
 
@@ -190,6 +190,7 @@ module _ (program : Source) (fields : List InputField) (limits : Limits) (input 
     wrapped = end.image;
     wrapped_is_image = is_image;
     wraps = wraps;
-    tells = subst (λ (e : End). TellsEnd e program image fields limits input bound p) (sym has.runs) tells;
+    tells = subst (λ (e : End). TellsStop e.why program image fields limits input e.last e.spent bound p)
+        (sym has.runs) tells;
     once = subst (λ (e : End). counted ≡ count + e.spent) (sym has.runs) once;
   }

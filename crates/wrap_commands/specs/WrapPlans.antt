@@ -74,11 +74,6 @@ TellsStop AtBound program image fields limits input last spent steps p =
     TellsBound program limits input steps p
 TellsStop _ program image fields limits input last spent steps p = ⊥
 
-abbrev pub TellsEnd : End → Source → Segments → List InputField → Limits → List FieldWord
-    → (steps : ℕ) → Planned → Type 0
-TellsEnd end program image fields limits input steps p =
-    TellsStop end.why program image fields limits input end.last end.spent steps p
-
 -- There is an image that implements the program, and one that is it wrapped for the cells of these
 -- fields. The plan reports how the run of the wrapped one ended, of at most so many steps from the
 -- loaded memory followed by zeros. No other steps are made.
@@ -90,8 +85,9 @@ pub record WrapsImage (count counted : ℕ) (program : Source) (fields : List In
   pub wrapped : Segments
   pub wrapped_is_image : IsImage wrapped
   pub wraps : Wrapped image.code (result_cells fields) wrapped.code
-  pub tells : TellsEnd (wrapped_run image (result_cells fields) wrapped.code limits input steps)
-      program image fields limits input steps p
+  pub tells :
+      let end : End = wrapped_run image (result_cells fields) wrapped.code limits input steps in
+      TellsStop end.why program image fields limits input end.last end.spent steps p
   pub once : counted
       ≡ count + (wrapped_run image (result_cells fields) wrapped.code limits input steps).spent
 
