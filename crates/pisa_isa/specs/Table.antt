@@ -74,29 +74,7 @@ inverse_word _ i = i
 abbrev pub inverse_of : Cell → Cell
 inverse_of c = record c { op = inverse_op c.op; imm = inverse_word c.op c.imm }
 
--- whether b is a source other than the target a
-abbrev pub b_is_source : Op → Bool
-b_is_source Add = true
-b_is_source Sub = true
-b_is_source Xor = true
-b_is_source Rlv = true
-b_is_source Rrv = true
-b_is_source Andx = true
-b_is_source Orx = true
-b_is_source Norx = true
-b_is_source Sltx = true
-b_is_source Andix = true
-b_is_source Orix = true
-b_is_source Sllx = true
-b_is_source Srlx = true
-b_is_source Srax = true
-b_is_source Sllvx = true
-b_is_source Srlvx = true
-b_is_source Sravx = true
-b_is_source Exch = true
-b_is_source _ = false
-
--- whether c is one too
+-- whether c is a source other than the target a
 abbrev pub c_is_source : Op → Bool
 c_is_source Andx = true
 c_is_source Orx = true
@@ -106,6 +84,21 @@ c_is_source Sllvx = true
 c_is_source Srlvx = true
 c_is_source Sravx = true
 c_is_source _ = false
+
+-- whether b is one: if c is, and in some other rows
+abbrev pub b_is_source : Op → Bool
+b_is_source Add = true
+b_is_source Sub = true
+b_is_source Xor = true
+b_is_source Rlv = true
+b_is_source Rrv = true
+b_is_source Andix = true
+b_is_source Orix = true
+b_is_source Sllx = true
+b_is_source Srlx = true
+b_is_source Srax = true
+b_is_source Exch = true
+b_is_source op = c_is_source op
 
 -- no source is the target
 abbrev pub is_one_to_one : Cell → Bool
