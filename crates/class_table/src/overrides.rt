@@ -80,11 +80,7 @@ fn parameters(program: &Program, runs: MethodId) -> &[Var]
 }
 
 // The place of a method that overrides one with other parameter types.
-fn overrides(
-    program: &Program,
-    slots: &IndexMap<Text, MethodId>,
-    method: &Method,
-) -> Option<u32>
+fn overrides(program: &Program, slots: &IndexMap<Text, MethodId>, method: &Method) -> Option<u32>
     ensures { option_map (refused 10) result ≡ override_differs (source_of program.now) slots.now.entries
         (procedure_of method.now) }
 {

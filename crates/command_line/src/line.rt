@@ -156,7 +156,7 @@ pub fn read_words(alloc: Global, words: &[String]) -> Result<Option<Line>, NoMem
 fn source_line(name: &str, args: &[String]) -> Result<Option<Line>, NoMemory>
     ensures line { IfOk result (λ line. option_map asked line
         ≡ option_and_then (λ command. line_by command (map string_bytes args.now))
-          (source_command_named name.now)) }
+        (source_command_named name.now)) }
     ensures numbers { IfOk result (λ line. IfSome line (λ line. HasShortNumbers (asked line))) }
 {
     match name {

@@ -96,7 +96,8 @@ module _ (spot : List ℕ → Spot) (free : ℕ) where
   -- ---- a place and a value
 
   module _ (target : Lvalue) (value : Expression) (mid : List Symbol) where
-    value_again : (m : Memory) (a v : ℕ) → CanRun spot free (place_words target + words value) (lvalue_read target) value m
+    value_again : (m : Memory) (a v : ℕ) → CanRun spot free (place_words target + words value) (lvalue_read target)
+        value m
         → place_address spot (bases_of m) m.cells target ≡ Ok a → number spot (bases_of m) m.cells value ≡ Ok v
         → (cells' : List ℕ) → Changes (reg m 4 + free) m.cells cells'
         → Stays spot (bases_of m) (reg m 4 + free) target value m.cells cells'
@@ -143,7 +144,8 @@ module _ (spot : List ℕ → Spot) (free : ℕ) where
   -- ---- two places
 
   module _ (source target : Lvalue) (mid : List Symbol) where
-    places_again : (m : Memory) (a a' : ℕ) → CanRun spot free (place_words source + place_words target) (lvalue_read source)
+    places_again : (m : Memory) (a a' : ℕ) → CanRun spot free (place_words source + place_words target)
+        (lvalue_read source)
         (lvalue_read target) m → place_address spot (bases_of m) m.cells source ≡ Ok a
         → place_address spot (bases_of m) m.cells target ≡ Ok a'
         → (cells' : List ℕ) → Changes (reg m 4 + free) m.cells cells'

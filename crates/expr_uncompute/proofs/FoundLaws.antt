@@ -31,7 +31,8 @@ module _ (spot : List ℕ → Spot) (free : ℕ) (m : Memory) where
   shown_as n h v a a' cells = sym (ap (found v a a' cells) (as_mem free n m h))
 
   -- the address of a place
-  pub place_found : (target : Lvalue) (a : ℕ) → Ready free (place_words target) m → SeesIn spot free m (lvalue_read target)
+  pub place_found : (target : Lvalue) (a : ℕ) → Ready free (place_words target) m
+      → SeesIn spot free m (lvalue_read target)
       → place_address spot (bases_of m) m.cells target ≡ Ok a
       → Goes (place_cells spot free target 0 PLACE) (place_steps target) m
       (found 0 a 0 (placed spot free (bases_of m) target 0 m.cells) m)

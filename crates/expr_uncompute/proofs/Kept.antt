@@ -88,7 +88,8 @@ module _ (spot : List ℕ → Spot) (free : ℕ) (b : Bases) where
 
   -- of a place from word i on
   pub placed_from : (target : Lvalue) (i : ℕ) (zs zs' : List ℕ) → length zs' ≡ length zs
-      → Sees spot b low zs (lvalue_read target) → Sees spot b low zs' (lvalue_read target) → SamePlace spot b zs zs' target
+      → Sees spot b low zs (lvalue_read target) → Sees spot b low zs' (lvalue_read target)
+      → SamePlace spot b zs zs' target
       → From zs zs' → From (placed spot free b target i zs) (placed spot free b target i zs')
   placed_from (Whole name) i zs zs' l s s' h k = k
   placed_from (Item name index) i zs zs' l s s' h k = stored_from index i zs zs' l s.2 s'.2 h.1 k
@@ -100,7 +101,8 @@ module _ (spot : List ℕ → Spot) (free : ℕ) (b : Bases) where
 
   -- a place stays where it is, over the words that another one fills
   pub place_lifted : (target : Lvalue) (zs zs' ys ys' : List ℕ) → Agree low zs ys → Agree low zs' ys'
-      → Sees spot b low zs (lvalue_read target) → Sees spot b low zs' (lvalue_read target) → SamePlace spot b zs zs' target
+      → Sees spot b low zs (lvalue_read target) → Sees spot b low zs' (lvalue_read target)
+      → SamePlace spot b zs zs' target
       → SamePlace spot b ys ys' target
   place_lifted (Whole name) zs zs' ys ys' k k' s s' h = tt
   place_lifted (Item name index) zs zs' ys ys' k k' s s' h = (
@@ -182,7 +184,8 @@ module _ (spot : List ℕ → Spot) (free : ℕ) (b : Bases) where
 
   pub places_change : (source target : Lvalue) (zs zs' : List ℕ) → FitFrom spot free b source (place_words target) zs
       → FitFrom spot free b source (place_words target) zs' → SamePlace spot b zs zs' source
-      → Sees spot b low zs (lvalue_read target) → Sees spot b low zs' (lvalue_read target) → SamePlace spot b zs zs' target
+      → Sees spot b low zs (lvalue_read target) → Sees spot b low zs' (lvalue_read target)
+      → SamePlace spot b zs zs' target
       → Changes low zs zs' → Changes low (both_placed spot free b source target zs)
       (both_placed spot free b source target zs')
   places_change source target zs zs' h h' p t t' q c =

@@ -160,7 +160,8 @@ module _ (spot : List ℕ → Spot) (b : Bases) (low : ℕ) where
 
     -- ---- the check of a place
 
-    pub apart_goes : (target : Lvalue) (e e' : Expression) → Sees spot b low zs (lvalue_read target) → Sees spot b low zs e
+    pub apart_goes : (target : Lvalue) (e e' : Expression) → Sees spot b low zs (lvalue_read target)
+        → Sees spot b low zs e
         → Sees spot b low zs e' → shares spot b zs target e e' ≡ false
         → Goes (apart_cells spot target e e') (apart_steps target e e') (mem b f (keeping v p q) zs)
         (mem b f (keeping v p q) zs)
@@ -170,7 +171,8 @@ module _ (spot : List ℕ → Spot) (b : Bases) (low : ℕ) where
         let l = s.0 in
         goes_seq (all_go (spot name.text) (omega arith) e t n.0) (all_go (spot name.text) (omega arith) e' t' n.1)
 
-    pub apart_traps : (target : Lvalue) (e e' : Expression) → Sees spot b low zs (lvalue_read target) → Sees spot b low zs e
+    pub apart_traps : (target : Lvalue) (e e' : Expression) → Sees spot b low zs (lvalue_read target)
+        → Sees spot b low zs e
         → Sees spot b low zs e' → shares spot b zs target e e' ≡ true
         → Traps (apart_cells spot target e e') (apart_steps target e e') 16 (mem b f (keeping v p q) zs)
     apart_traps (Whole name) e e' s t t' h = absurd (cc)
@@ -180,7 +182,8 @@ module _ (spot : List ℕ → Spot) (b : Bases) (low : ℕ) where
         (λ l. all_trap (spot name.text) (omega arith) e t l) (λ r. all_trap (spot name.text) (omega arith) e' t' r)
 
     -- of both places of a swap
-    pub both_apart_go : (left right : Lvalue) → Sees spot b low zs (lvalue_read left) → Sees spot b low zs (lvalue_read right)
+    pub both_apart_go : (left right : Lvalue) → Sees spot b low zs (lvalue_read left)
+        → Sees spot b low zs (lvalue_read right)
         → swap_shares spot b zs left right ≡ false → Goes (both_apart_cells spot left right)
         (both_apart_steps left right) (mem b f (keeping v p q) zs) (mem b f (keeping v p q) zs)
     both_apart_go left right s t h =

@@ -8,7 +8,8 @@ use Rattle.rpp_tree.specs.declared.tree.BinOp.TheVariants as op
 use Rattle.rpp_tree.specs.Tree.{Expression, Number, Null, Variable, Element, Binary, Lvalue, Whole, Item, Source}
 use Rattle.register_expressions.specs.roopl_semantics.Operators.{operated, truth_word}
 use Rattle.register_expressions.specs.roopl_semantics.Store.{Value, Word, Nil, Name, State, number_of, object_at}
-use Rattle.register_expressions.specs.roopl_semantics.Value.{Part, variable_value, read_cell, value, cell_of, element_cell, element_of}
+use Rattle.register_expressions.specs.roopl_semantics.Value.{Part, variable_value, read_cell, value, cell_of}
+use Rattle.register_expressions.specs.roopl_semantics.Value.{element_cell, element_of}
 use Rattle.register_expressions.specs.roopl_semantics.Value.{combined as combined_values}
 use Rattle.register_expressions.specs.refine_form.declared.spot.Spot.{Spot}
 use Rattle.register_expressions.specs.Number.{Bases, word_of, number, place_address, element_address, element_at}
@@ -104,7 +105,8 @@ module _ (address slot : ℕ → ℕ) where
             ≡ shown_result address slot (read_cell st (element_cell st (Name n) i))
         inside l =
             let t : nat_lt i (length (object_at st.store n).cells) ≡ true = grind (arith, nat_tests) in
-            ap (λ t. word_in cells (cell_result address slot (if t then Ok (Part n i) else Err INDEX))) t ∙ ap Ok (h.2 i l)
+            ap (λ t. word_in cells (cell_result address slot (if t then Ok (Part n i) else Err INDEX))) t
+            ∙ ap Ok (h.2 i l)
             ∙ sym (ap (λ t. shown_result address slot (read_cell st (if t then Ok (Part n i) else Err INDEX))) t)
 
         past : length (object_at st.store n).cells ≤ i → word_in cells

@@ -14,7 +14,8 @@ use Rattle.register_expressions.specs.roopl_semantics.Operators.{updated}
 use Rattle.register_expressions.specs.roopl_semantics.Run.{Run, after_cost, given, give, spend, fault_if, ◌>>=◌}
 use Rattle.register_expressions.specs.roopl_semantics.Store.{Value, Word, State, number_of}
 use Rattle.register_expressions.specs.roopl_semantics.Value.{Cell, read, written, value, cell_of}
-use Rattle.register_expressions.specs.roopl_semantics.Elements.{elements, index_elements, own_element, share_array, read_cost}
+use Rattle.register_expressions.specs.roopl_semantics.Elements.{elements, index_elements, own_element, share_array}
+use Rattle.register_expressions.specs.roopl_semantics.Elements.{read_cost}
 use Rattle.register_expressions.specs.roopl_semantics.Elements.{SHARED_ARRAY}
 use Rattle.register_expressions.specs.roopl_semantics.Execution.{Setting, Runner, statement}
 use Rattle.register_expressions.specs.refine_form.declared.spot.Spot.{Spot}
@@ -46,7 +47,8 @@ module _ (setting : Setting) (address slot : State → ℕ → ℕ) (R : State �
   pub record UpdateFacts (op : UpdateOp) (target : Lvalue) (e : Expression) : Type 0 where
     pub tells : (st : State) (m : Memory) → R st m → TellsShares (address st) (slot st) setting.program st spot
         (bases_of m) m.cells target (index_of target) e
-    pub can : (st : State) (m : Memory) → R st m → CanRun spot free (place_words target + words e) (lvalue_read target) e m
+    pub can : (st : State) (m : Memory) → R st m → CanRun spot free (place_words target + words e) (lvalue_read target)
+        e m
     pub place_means : (st : State) (m : Memory) → R st m → MeansPlace (address st) (slot st) setting.program st spot
         (bases_of m) m.cells target
     pub value_means : (st : State) (m : Memory) → R st m → Means (address st) (slot st) setting.program st spot

@@ -8,7 +8,8 @@ use Rattle.rpp_tree.specs.declared.tree.UpdateOp.{UpdateOp}
 use Rattle.rpp_tree.specs.Tree.{Expression, Number, Null, Variable, Element, Binary, Lvalue, Whole, Item, Source}
 use Rattle.register_expressions.specs.roopl_semantics.Operators.{updated}
 use Rattle.register_expressions.specs.roopl_semantics.Store.{Value, Word, Nil, Name, State, number_of}
-use Rattle.register_expressions.specs.roopl_semantics.Value.{Cell, Slot, Part, cell_named, variable_value, read, written, value, cell_of}
+use Rattle.register_expressions.specs.roopl_semantics.Value.{Cell, Slot, Part, cell_named, variable_value, read}
+use Rattle.register_expressions.specs.roopl_semantics.Value.{written, value, cell_of}
 use Rattle.register_expressions.specs.roopl_semantics.Elements.{elements, index_elements, own_element, share_array}
 use Rattle.register_expressions.specs.roopl_semantics.Execution.{Setting}
 use Rattle.register_expressions.specs.refine_form.declared.spot.Spot.{Spot}
@@ -104,7 +105,8 @@ module _ (setting : Setting) (address slot : State → ℕ → ℕ) (R : State �
   pub record UpdateNeeds (target : Lvalue) (e : Expression) : Type 0 where
     pub tells : (st : State) (m : Memory) → R st m → TellsShares (address st) (slot st) setting.program st spot
         (bases_of m) m.cells target (index_of target) e
-    pub can : (st : State) (m : Memory) → R st m → CanRun spot free (place_words target + words e) (lvalue_read target) e m
+    pub can : (st : State) (m : Memory) → R st m → CanRun spot free (place_words target + words e) (lvalue_read target)
+        e m
     pub place_means : (st : State) (m : Memory) → R st m → MeansPlace (address st) (slot st) setting.program st spot
         (bases_of m) m.cells target
     pub value_means : (st : State) (m : Memory) → R st m → Means (address st) (slot st) setting.program st spot

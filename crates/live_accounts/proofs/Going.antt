@@ -16,7 +16,7 @@ use Rattle.source_execution.proofs.source_steps_laws.Fuelled.{left_is}
 use Rattle.source_execution.specs.Standing.{Standing, IsOver, config_at, setting_at, next_place}
 use Rattle.source_debugger.specs.Watched.{counted}
 use Rattle.source_debugger.specs.Stacks.{IsPosition}
-use Rattle.source_debugger.proofs.Rewound.{one_more, counts, none_behind}
+use Rattle.source_debugger.proofs.source_courses_laws.Rewound.{one_more, counts, none_behind}
 use Rattle.live_accounts.specs.declared.arriving.Arrived.{Arrived}
 use Rattle.live_accounts.specs.Accounts.{HasArrived}
 

@@ -154,7 +154,8 @@ module _ (spot : List ℕ → Spot) (free : ℕ) (source target : Lvalue) (p : L
         let i = inside ys f in
         let k = a_low in
         let k' = a'_low in
-        before NOT_NIL 6 ys (copy_not_nil (bases_of m) (reg m) a a' ys x (omega arith) (omega arith) (f.below a a_low ∙ e) l
+        before NOT_NIL 6 ys (copy_not_nil (bases_of m) (reg m) a a' ys x (omega arith) (omega arith)
+        (f.below a a_low ∙ e) l
         n (λ z. n' (sym (f.below a' a'_low) ∙ z))))
 
     pub not_same_fault_of : (x y : ℕ) → slice_index m.cells a ≡ x → slice_index m.cells a' ≡ y → x < 2 ^ 31 → x ≢ 0
@@ -164,7 +165,8 @@ module _ (spot : List ℕ → Spot) (free : ℕ) (source target : Lvalue) (p : L
         let i = inside ys f in
         let k = a_low in
         let k' = a'_low in
-        behind NOT_SAME 11 ys (uncopy_other (bases_of m) (reg m) a a' ys x y (omega arith) (omega arith) (f.below a a_low ∙ e)
+        behind NOT_SAME 11 ys (uncopy_other (bases_of m) (reg m) a a' ys x y (omega arith) (omega arith)
+        (f.below a a_low ∙ e)
         (f.below a' a'_low ∙ e') l n n'))
 
     pub one_place_fault_of : (x : ℕ) → a ≡ a' → slice_index m.cells a ≡ x → x < 2 ^ 31 → x ≢ 0

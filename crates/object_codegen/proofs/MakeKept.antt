@@ -6,7 +6,8 @@ use Rattle.refine_heap.specs.code_conventions.declared.memory.TheConstants.{HEAD
 use Rattle.rpp_tree.specs.declared.tree.BinOp.{BinOp}
 use Rattle.rpp_tree.specs.Tree.{Expression, Number, Null, Variable, Element, Binary, Lvalue, Whole, Item, Source}
 use Rattle.static_layout.specs.roopl_semantics.Store.{Value, Word, Nil, Name, State, number_of, object_at}
-use Rattle.static_layout.specs.roopl_semantics.Value.{Cell, Slot, Part, cell_named, variable_value, read, read_cell, element_cell}
+use Rattle.static_layout.specs.roopl_semantics.Value.{Cell, Slot, Part, cell_named, variable_value, read, read_cell}
+use Rattle.static_layout.specs.roopl_semantics.Value.{element_cell}
 use Rattle.static_layout.specs.roopl_semantics.Value.{element_of, combined, value}
 use Rattle.expr_uncompute.specs.refine_form.declared.spot.Spot.{Spot}
 use Rattle.expr_uncompute.specs.register_expressions.Number.{Bases, number, Same, SamePlace}
@@ -63,7 +64,8 @@ owner_by program st name (Err f) cell e = absurd (cc)
 owner_by program st name (Ok v) cell e = owner_of st (variable_value program st name) (number_of v) cell e
 
 -- and it is an element's
-part_if : (t : Bool) (array i k : ℕ) → if◌then◌else◌ {A = Result Cell ℕ} t (Ok (Part array i)) (Err INDEX) ≡ Ok (Slot k) → ⊥
+part_if : (t : Bool) (array i k : ℕ) → if◌then◌else◌ {A = Result Cell ℕ} t (Ok (Part array i)) (Err INDEX) ≡ Ok (Slot k)
+    → ⊥
 part_if true array i k e = let q = ap cell_in e in cc
 part_if false array i k e = cc
 

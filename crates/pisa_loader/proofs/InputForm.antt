@@ -120,7 +120,7 @@ digits_read minus (d ∷ ds) rest e all =
     let ends : list_all is_blank (behind is_ascii_digit (digits ++ rest)) ≡ true =
     ap (list_all is_blank) (behind_is is_ascii_digit digits rest passes stop) ∙ all in
     let text : take_while is_ascii_digit (digits ++ rest) ≡ digits =
-        front_text is_ascii_digit digits rest passes stop in
+    front_text is_ascii_digit digits rest passes stop in
     ap (λ b. cond (b || not (list_all is_blank (behind is_ascii_digit (digits ++ rest)))) None
     (word_up_to minus (decimal_from 0 (take_while is_ascii_digit (digits ++ rest))))) some
     ∙ ap (λ b. cond (not b) None (word_up_to minus (decimal_from 0 (take_while is_ascii_digit (digits ++ rest))))) ends
@@ -139,7 +139,8 @@ number_read true digits rest e all = digits_read true digits rest e all
 number_read false [] rest e all = absurd cc
 number_read false (d ∷ ds) rest e all =
     let no_minus : nat_eq d 45 ≡ false = false_from_ne_true (nat_eq d 45)
-    (λ h. clash (sym (and_parts (is_ascii_digit d) (list_all is_ascii_digit ds) e).0 ∙ ap is_ascii_digit (eqb-true d 45 h)))
+    (λ h. clash (sym (and_parts (is_ascii_digit d) (list_all is_ascii_digit ds) e).0
+    ∙ ap is_ascii_digit (eqb-true d 45 h)))
     in
     ap (λ b. cond b (digits_word true (ds ++ rest)) (digits_word false (d ∷ (ds ++ rest)))) no_minus
     ∙ digits_read false (d ∷ ds) rest e all

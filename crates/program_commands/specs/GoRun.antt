@@ -15,7 +15,7 @@ use Rattle.store_report.specs.roopl_semantics.Source.{IsValid, GivesDone, starti
 use Rattle.store_report.specs.roopl_semantics.Report.{report}
 use Rattle.roopl_judge.specs.rpp_words.Limits.{IsLimits}
 use Rattle.store_report.specs.roopl_semantics.StandsFor.{StandsFor, run_of}
-use Rattle.command_plan.specs.declared.plan.Verdict.TheVariants.{Done}
+use Rattle.command_plan.specs.command_ends.declared.verdict.Verdict.TheVariants.{Done}
 use Rattle.command_plan.specs.Plans.{Planned, prints}
 use Rattle.command_plan.specs.Texts.{steps_line}
 use Rattle.program_commands.specs.ProgramPlans.{ReportsStop, back_lines}

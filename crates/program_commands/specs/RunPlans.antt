@@ -65,7 +65,7 @@ pub record TurnsImage (before after : List Watch) (count counted : ℕ) (program
       after ≡ left_after (back_steps end.why runs.image.code end.last steps) before
   pub reported : let end : End = run_of runs.image limits input steps in
       p ≡ with_way_back end.why (back_lines end.spent
-            (report program (starting program input).store)
+      (report program (starting program input).store)
       (length (loaded runs.image.statics limits input))) said
   pub once : let end : End = run_of runs.image limits input steps in
       counted ≡ middle + steps_back end.why end.spent

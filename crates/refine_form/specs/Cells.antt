@@ -1,7 +1,7 @@
 -- A fragment between another and its inverse, and how a storage slot is reached.
 use Rattle.std.specs.Prelude.{ℕ, ◌+◌, List, ◌++◌}
-use Rattle.code_conventions.specs.declared.memory.TheConstants.{HEADER_WORDS}
-use Rattle.code_conventions.specs.declared.registers.TheConstants.{FRAME, OBJECT}
+use Rattle.paired_code.specs.code_conventions.declared.memory.TheConstants.{HEADER_WORDS}
+use Rattle.paired_code.specs.code_conventions.declared.registers.TheConstants.{FRAME, OBJECT}
 use Rattle.paired_code.specs.declared.part.Symbol.{Symbol}
 use Rattle.paired_code.specs.Layout.{mirror_cells}
 use Rattle.refine_form.specs.declared.spot.Spot.{Spot}

@@ -94,7 +94,8 @@ module _ (p : Place) (few : length p.statics ≤ MOST_STATICS) (classes : KnowsC
     second = typing.parts.second
 
     can : CanRun spot free (place_words source + place_words target) (lvalue_read source) (lvalue_read target) m
-    can = subst (λ z. CanRun spot free (place_words source + place_words target) (lvalue_read source) (lvalue_read target) z)
+    can = subst (λ z. CanRun spot free (place_words source + place_words target) (lvalue_read source)
+        (lvalue_read target) z)
         (sym (known p classes s u st m r)) (record {
           ready = ready p few classes s u st m.cells h (place_words source + place_words target) 0 0 room;
           first = sees_place p.setting p.statics few classes s u st m.cells h source first source_words

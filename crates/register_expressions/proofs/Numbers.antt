@@ -48,7 +48,8 @@ operated_word op.Rem x y h k = omega arith
 pub element_nil : (zs : List ℕ) (array i : ℕ) → array ≡ 0 → element_address zs array i ≡ Err NIL
 element_nil zs array i e =
     let t : nat_eq array 0 ≡ true = grind (arith, nat_tests) in
-    ap (λ t. if t then Err NIL else (if nat_lt i (slice_index zs array) then Ok (array + i + HEADER_WORDS) else Err INDEX)) t
+    ap (λ t. if t then Err NIL else (if nat_lt i (slice_index zs array) then Ok (array + i + HEADER_WORDS) else Err
+    INDEX)) t
 
 picked : (t u : Bool) (x : Result ℕ ℕ) (p q : Bool) → t ≡ p → u ≡ q
     → (if t then Err NIL else (if u then x else Err INDEX)) ≡ (if p then Err NIL else (if q then x else Err INDEX))

@@ -111,11 +111,7 @@ pub fn operator_at(level: u32, kind: &TokenKind) -> Option<BinOp>
 {
     match binary_operator(kind) {
         None => None,
-        Some((binds, op)) => if level == binds {
-            Some(op)
-        } else {
-            None
-        },
+        Some((binds, op)) => if level == binds { Some(op) } else { None },
     }
 }
 

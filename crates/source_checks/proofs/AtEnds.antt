@@ -17,7 +17,8 @@ use Rattle.source_blocks.proofs.Last.{HasLast, last_is}
 use Rattle.source_checks.specs.Failures.{Tested, tests_of, tested, tested_part, tested_around, tested_begin}
 use Rattle.source_checks.specs.Failures.{tested_here}
 use Rattle.source_checks.specs.declared.testing.Tested.{Tested as Told}
-use Rattle.source_checks.specs.Checks.{Compared, touched}
+use Rattle.source_compared.specs.Comparisons.{Compared}
+use Rattle.source_checks.specs.Checks.{touched}
 use Rattle.source_checks.specs.TestedView.{tested_of, around_place, around_touched, part_touched}
 
 pub part_is : (program : Source) (st : State) (around : List Open) (p : Part) (statement : ℕ) (t : Tested)

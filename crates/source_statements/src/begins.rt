@@ -14,8 +14,8 @@ ghost use Rattle.source_blocks.specs.Opens.{closing_of};
 ghost use Rattle.source_blocks.specs.Runs.{IsSound, IsSimple, config_of, state_in, here_in, rest_in};
 ghost use Rattle.source_blocks.specs.Stops.{MayStop};
 
-use code_conventions::faults::LOOP;
 use crate::calls::{call, call_on};
+use code_conventions::faults::LOOP;
 use rpp_tree::tree::{Block, Expr, Stmt};
 use source_blocks::{
     Calls, Closing, Construct, Line, Local, Loop, Part, Run, Task, carry_line, carry_out,

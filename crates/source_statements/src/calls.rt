@@ -17,9 +17,9 @@ ghost use Rattle.source_blocks.specs.Tasks.{task_of};
 ghost use Rattle.source_blocks.specs.Opens.{cells_in, values_in, part_of, IsCaller};
 ghost use Rattle.source_blocks.specs.Runs.{IsSound, config_of, state_in, here_in, rest_in, only_cell};
 
-use code_conventions::faults::{NIL, TOO_DEEP};
 use crate::begins::open_local;
 use crate::methods::{begin, called, cost_of, is_deep, method_of};
+use code_conventions::faults::{NIL, TOO_DEEP};
 use rpp_tree::Text;
 use rpp_tree::tree::{Ident, Method, Place, Var};
 use source_blocks::{

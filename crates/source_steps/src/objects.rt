@@ -18,7 +18,9 @@ use crate::expressions::Setting;
 use crate::scope::Scope;
 use crate::steps::{evaluate, locate, refuse, spend};
 use crate::stop::Stop;
-use code_conventions::faults::{CLASS_DIFFERS, COUNT, HEAP_FULL, LENGTH, LENGTH_DIFFERS, NIL, NOT_EMPTY, NOT_NIL};
+use code_conventions::faults::{
+    CLASS_DIFFERS, COUNT, HEAP_FULL, LENGTH, LENGTH_DIFFERS, NIL, NOT_EMPTY, NOT_NIL,
+};
 use rpp_tree::Text;
 use rpp_tree::tree::{Expr, Ident, Made, Place, Var, VarType};
 use rpp_words::{NoMemory, less};

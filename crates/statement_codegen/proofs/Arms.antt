@@ -17,8 +17,10 @@ use Rattle.branch_codegen.specs.class_rules.Overrides.{parameters_of}
 use Rattle.branch_codegen.specs.class_rules.Program.{IsAccepted}
 use Rattle.branch_codegen.specs.class_rules.Refusal.{wrong_arity}
 use Rattle.branch_codegen.specs.class_rules.Scope.{Typing, Locals}
-use Rattle.branch_codegen.specs.class_rules.Statements.{passed, required, each_passes, each_passes_after, argument_known, argument_new}
-use Rattle.branch_codegen.specs.class_rules.Statements.{arguments_fit, plain_receiver, receiver_class, slot_rules, call_rules}
+use Rattle.branch_codegen.specs.class_rules.Statements.{passed, required, each_passes, each_passes_after}
+use Rattle.branch_codegen.specs.class_rules.Statements.{argument_known, argument_new}
+use Rattle.branch_codegen.specs.class_rules.Statements.{arguments_fit, plain_receiver, receiver_class, slot_rules}
+use Rattle.branch_codegen.specs.class_rules.Statements.{call_rules}
 use Rattle.branch_codegen.specs.class_rules.Table.{slot_in, dispatch_in}
 use Rattle.branch_codegen.proofs.class_rules_laws.PassedRules.{both_passed, handed_on, held}
 use Rattle.branch_codegen.specs.paired_code.Code.{Code}
@@ -41,7 +43,8 @@ use Rattle.statement_codegen.specs.Laws.{LocalLaw, CallLaw, ElementLaw}
 use Rattle.statement_codegen.proofs.Stands.{update_stands, swap_stands}
 use Rattle.statement_codegen.specs.Pieces.{StatementStands, InnerPiece, BlockPiece}
 use Rattle.statement_codegen.proofs.ElementCalls.{popped}
-use Rattle.statement_codegen.proofs.Pieces.{tokens_are, place_tokens_are, plain_inner, if_inner, from_inner, local_inner}
+use Rattle.statement_codegen.proofs.Pieces.{tokens_are, place_tokens_are, plain_inner, if_inner, from_inner}
+use Rattle.statement_codegen.proofs.Pieces.{local_inner}
 use Rattle.branch_codegen.specs.code_conventions.declared.memory.TheConstants.{EXPRESSION_WORDS}
 
 pub if_ok : {A E : Type 0} {P Q : A → Type 0} (r : Result A E) → ((a : A) → P a → Q a) → IfOk r P → IfOk r Q
@@ -70,11 +73,13 @@ few_words : (e f : Expression) → nodes e + nodes f ≤ 64 → (words e ≤ EXP
 few_words e f n = let a = words_most e in let b = words_most f in (omega (arith, n, a), omega (arith, n, b))
 
 pub if_room : (v : Visible) (x : Statement) (at : ℕ) (test after : Expression) (taken other : Statements)
-    → x ≡ If at test taken other after → StatementStands v x → (words test ≤ EXPRESSION_WORDS) × (words after ≤ EXPRESSION_WORDS)
+    → x ≡ If at test taken other after → StatementStands v x
+    → (words test ≤ EXPRESSION_WORDS) × (words after ≤ EXPRESSION_WORDS)
 if_room v x at test after taken other is h = few_words test after (subst (StatementStands v) is h).allowed.few_nodes
 
 pub from_room : (v : Visible) (x : Statement) (at : ℕ) (entry exit : Expression) (first again : Statements)
-    → x ≡ From at entry first again exit → StatementStands v x → (words entry ≤ EXPRESSION_WORDS) × (words exit ≤ EXPRESSION_WORDS)
+    → x ≡ From at entry first again exit → StatementStands v x
+    → (words entry ≤ EXPRESSION_WORDS) × (words exit ≤ EXPRESSION_WORDS)
 from_room v x at entry exit first again is h = few_words entry exit (subst (StatementStands v) is h).allowed.few_nodes
 
 pub local_room : (v : Visible) (x : Statement) (at : ℕ) (var : Var) (value : Expression) (body : Statements)
