@@ -2,7 +2,7 @@
 ghost use Rattle.std.specs.Prelude.{◌≡◌, IfOk, map};
 ghost use Rattle.rpp_tree.specs.Views.{statement_of, block_of, statements_of};
 
-use crate::copy_values::{copy_expr, copy_made, copy_place, copy_receiver};
+use crate::copy_values::{copy_created, copy_exprs, copy_places, copy_receiver, copy_sides};
 use rpp_tree::copy_names;
 use rpp_tree::tree::{Block, Stmt};
 use std::alloc::{AllocError, Global};
@@ -31,20 +31,20 @@ pub fn copy_statement(alloc: Global, stmt: &Stmt) -> Result<Stmt, AllocError>
             place,
             value,
         } => {
-            let place = copy_place(alloc, place)?;
+            let (place, value) = copy_sides(alloc, place, value)?;
             Ok(Stmt::Update {
                 at: *at,
                 op: *op,
                 place,
-                value: copy_expr(alloc, value)?,
+                value,
             })
         }
         Stmt::Swap { at, left, right } => {
-            let left = copy_place(alloc, left)?;
+            let (left, right) = copy_places(alloc, left, right)?;
             Ok(Stmt::Swap {
                 at: *at,
                 left,
-                right: copy_place(alloc, right)?,
+                right,
             })
         }
         Stmt::If {
@@ -54,15 +54,15 @@ pub fn copy_statement(alloc: Global, stmt: &Stmt) -> Result<Stmt, AllocError>
             no,
             after,
         } => {
-            let test = copy_expr(alloc, test)?;
             let yes = copy_block(alloc, yes)?;
             let no = copy_block(alloc, no)?;
+            let (test, after) = copy_exprs(alloc, test, after)?;
             Ok(Stmt::If {
                 at: *at,
                 test,
                 yes,
                 no,
-                after: copy_expr(alloc, after)?,
+                after,
             })
         }
         Stmt::From {
@@ -72,15 +72,15 @@ pub fn copy_statement(alloc: Global, stmt: &Stmt) -> Result<Stmt, AllocError>
             again,
             until,
         } => {
-            let entry = copy_expr(alloc, entry)?;
             let first = copy_block(alloc, first)?;
             let again = copy_block(alloc, again)?;
+            let (entry, until) = copy_exprs(alloc, entry, until)?;
             Ok(Stmt::From {
                 at: *at,
                 entry,
                 first,
                 again,
-                until: copy_expr(alloc, until)?,
+                until,
             })
         }
         Stmt::Construct {
@@ -110,32 +110,32 @@ pub fn copy_statement(alloc: Global, stmt: &Stmt) -> Result<Stmt, AllocError>
             end_value,
         } => {
             let var = var.copy(alloc)?;
-            let value = copy_expr(alloc, value)?;
-            let body = copy_block(alloc, body)?;
             let end_var = end_var.copy(alloc)?;
+            let body = copy_block(alloc, body)?;
+            let (value, end_value) = copy_exprs(alloc, value, end_value)?;
             Ok(Stmt::Local {
                 at: *at,
                 var,
                 value,
                 body,
                 end_var,
-                end_value: copy_expr(alloc, end_value)?,
+                end_value,
             })
         }
         Stmt::New { at, made, place } => {
-            let made = copy_made(alloc, made)?;
+            let (made, place) = copy_created(alloc, made, place)?;
             Ok(Stmt::New {
                 at: *at,
                 made,
-                place: copy_place(alloc, place)?,
+                place,
             })
         }
         Stmt::Delete { at, made, place } => {
-            let made = copy_made(alloc, made)?;
+            let (made, place) = copy_created(alloc, made, place)?;
             Ok(Stmt::Delete {
                 at: *at,
                 made,
-                place: copy_place(alloc, place)?,
+                place,
             })
         }
         Stmt::Copy {
@@ -145,12 +145,12 @@ pub fn copy_statement(alloc: Global, stmt: &Stmt) -> Result<Stmt, AllocError>
             target,
         } => {
             let kind = kind.copy(alloc)?;
-            let source = copy_place(alloc, source)?;
+            let (source, target) = copy_places(alloc, source, target)?;
             Ok(Stmt::Copy {
                 at: *at,
                 kind,
                 source,
-                target: copy_place(alloc, target)?,
+                target,
             })
         }
         Stmt::Uncopy {
@@ -160,12 +160,12 @@ pub fn copy_statement(alloc: Global, stmt: &Stmt) -> Result<Stmt, AllocError>
             target,
         } => {
             let kind = kind.copy(alloc)?;
-            let source = copy_place(alloc, source)?;
+            let (source, target) = copy_places(alloc, source, target)?;
             Ok(Stmt::Uncopy {
                 at: *at,
                 kind,
                 source,
-                target: copy_place(alloc, target)?,
+                target,
             })
         }
         Stmt::Call {
@@ -175,14 +175,14 @@ pub fn copy_statement(alloc: Global, stmt: &Stmt) -> Result<Stmt, AllocError>
             method,
             args,
         } => {
-            let receiver = copy_receiver(alloc, receiver)?;
             let method = method.copy(alloc)?;
+            let args = copy_names(alloc, args)?;
             Ok(Stmt::Call {
                 at: *at,
                 back: *back,
-                receiver,
+                receiver: copy_receiver(alloc, receiver)?,
                 method,
-                args: copy_names(alloc, args)?,
+                args,
             })
         }
         Stmt::Skip { at } => Ok(Stmt::Skip { at: *at }),

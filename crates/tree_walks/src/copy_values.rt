@@ -76,3 +76,55 @@ pub fn copy_receiver(alloc: Global, receiver: &Option<Place>) -> Result<Option<P
         Some(place) => Ok(Some(copy_place(alloc, place)?)),
     }
 }
+
+/// Equal expressions. The only error is that memory ran out.
+pub(crate) fn copy_exprs(
+    alloc: Global,
+    first: &Expr,
+    second: &Expr,
+) -> Result<(Expr, Expr), AllocError>
+    ensures { IfOk result (λ copied. (expression_of copied.0 ≡ expression_of first.now)
+        × (expression_of copied.1 ≡ expression_of second.now)) }
+{
+    let first = copy_expr(alloc, first)?;
+    Ok((first, copy_expr(alloc, second)?))
+}
+
+/// Equal places. The only error is that memory ran out.
+pub(crate) fn copy_places(
+    alloc: Global,
+    first: &Place,
+    second: &Place,
+) -> Result<(Place, Place), AllocError>
+    ensures { IfOk result (λ copied. (lvalue_of copied.0 ≡ lvalue_of first.now)
+        × (lvalue_of copied.1 ≡ lvalue_of second.now)) }
+{
+    let first = copy_place(alloc, first)?;
+    Ok((first, copy_place(alloc, second)?))
+}
+
+/// An equal place and an equal expression. The only error is that memory ran out.
+pub(crate) fn copy_sides(
+    alloc: Global,
+    place: &Place,
+    value: &Expr,
+) -> Result<(Place, Expr), AllocError>
+    ensures { IfOk result (λ copied. (lvalue_of copied.0 ≡ lvalue_of place.now)
+        × (expression_of copied.1 ≡ expression_of value.now)) }
+{
+    let place = copy_place(alloc, place)?;
+    Ok((place, copy_expr(alloc, value)?))
+}
+
+/// An equal creation and an equal place. The only error is that memory ran out.
+pub(crate) fn copy_created(
+    alloc: Global,
+    made: &Made,
+    place: &Place,
+) -> Result<(Made, Place), AllocError>
+    ensures { IfOk result (λ copied. (creation_of copied.0 ≡ creation_of made.now)
+        × (lvalue_of copied.1 ≡ lvalue_of place.now)) }
+{
+    let made = copy_made(alloc, made)?;
+    Ok((made, copy_place(alloc, place)?))
+}
