@@ -12,7 +12,7 @@ use Rattle.rpp_tree.specs.Tree.{Procedure, ClassText, Source}
 use Rattle.rpp_tree.specs.Limits.{IsSmallMethod}
 use Rattle.class_rules.specs.declared.method.MethodId.{MethodId}
 use Rattle.class_rules.specs.Chains.{parents, chain_of, line_of}
-use Rattle.class_rules.specs.Members.{Slots, class_at, no_procedure, slots_of, slots_along}
+use Rattle.class_rules.specs.Members.{Slots, class_at, no_procedure, slots_along}
 use Rattle.class_rules.specs.Overrides.{parameters_of, run_at}
 use Rattle.class_rules.specs.Classes.{class_slots, method_slot, dispatch, procedure_at, method_named, inherits}
 use Rattle.class_rules.specs.Table.{Table, table_of, slots_in, slot_in, dispatch_in}
@@ -84,7 +84,7 @@ slot_inside program class slot name h = by (nat_lt class (length program.classes
     by true e = ltb-true class (length program.classes) e
     by false e =
         let past = ltb-false class (length program.classes) e in
-        let many = length-each_below (slots_of program) (length program.classes) in
+        let many = length-each_below (class_slots program) (length program.classes) in
         let none : slots_in (table_of program) class ≡ [] =
         ap (λ z. unwrap_or z []) (slice_get_past (table_of program).slots class (omega arith)) in
         let nowhere : slot_in (table_of program) class name ≡ position (bytes_eq name) [] =
@@ -97,14 +97,14 @@ pub record HasLine (program : Source) (own : ℕ) : Type 0 where
   pub is : line_of program own ≡ shorter ++ own ∷ []
   pub chain_is : chain_of program own ≡ Some (shorter ++ own ∷ [])
 
-pub has_line : (program : Source) (own p : ℕ) (x : List ℕ × MethodId) → slice_get (slots_of program own) p ≡ Some x
+pub has_line : (program : Source) (own p : ℕ) (x : List ℕ × MethodId) → slice_get (class_slots program own) p ≡ Some x
     → HasLine program own
 has_line program own p x h = by (chain_of program own) refl
   where
     by : (r : Option (List ℕ)) → chain_of program own ≡ r → HasLine program own
     by None e =
         let nothing : line_of program own ≡ [] = ap (λ r. unwrap_or r []) e in
-        let none : slots_of program own ≡ [] = ap (slots_along program []) nothing in
+        let none : class_slots program own ≡ [] = ap (slots_along program []) nothing in
         let f = ap (λ (s : Slots). slice_get s p) none in
         absurd (cc)
     by (Some line) e =

@@ -10,7 +10,7 @@ use Rattle.rpp_tree.specs.Views.{source_of}
 use Rattle.rpp_tree.specs.Tree.{ClassText, Source}
 use Rattle.class_rules.specs.First.{first_at}
 use Rattle.class_rules.specs.Chains.{parents, chain, chain_of, line_of}
-use Rattle.class_rules.specs.Members.{no_class, class_at, field_name, field_taken, taken_field, fields_along, fields_of}
+use Rattle.class_rules.specs.Members.{no_class, class_at, field_name, field_taken, taken_field, fields_along, class_fields}
 use Rattle.class_rules.specs.Members.{inherited, duplicate_field_at, duplicate_field}
 use Rattle.class_rules.proofs.ChainEnds.{parent, pushed_from, nothing_on, parents_in, chain_ends}
 
@@ -82,7 +82,7 @@ fresh_line program unique (suc steps) (Some class) line inside h =
 
 -- each field of a class has a name of its own
 pub fresh_fields : (program : Source) (number : ℕ) → number < length program.classes → duplicate_field program ≡ None
-    → taken_field [] (fields_of program number) ≡ None
+    → taken_field [] (class_fields program number) ≡ None
 fresh_fields program number inside unique = by (chain_of program number) refl
   where
     own : (other : ℕ) → Some number ≡ Some other → other < length program.classes
@@ -94,7 +94,7 @@ fresh_fields program number inside unique = by (chain_of program number) refl
     by (Some line) h = rw h (fresh_line program unique (length program.classes) (Some number) line own h)
 
 pub fresh_known : (program : Program) (number : ℕ) → number < length program.classes.items
-    → duplicate_field (source_of program) ≡ None → taken_field [] (fields_of (source_of program) number) ≡ None
+    → duplicate_field (source_of program) ≡ None → taken_field [] (class_fields (source_of program) number) ≡ None
 fresh_known program number inside unique = fresh_fields (source_of program) number (rw length-map inside) unique
 
 pub ruleset fresh = (fresh_known)

@@ -17,7 +17,7 @@ use Rattle.class_rules.specs.Refusal.{refused}
 use Rattle.class_rules.specs.First.{refused_if, first_in, first_at}
 use Rattle.class_rules.specs.Rules.{duplicate_class, unknown_class}
 use Rattle.class_rules.specs.Chains.{parents, chain, line_of, inheritance_cycle}
-use Rattle.class_rules.specs.Members.{Slots, class_at, no_class, no_procedure, with_methods, slots_along, slots_of}
+use Rattle.class_rules.specs.Members.{Slots, class_at, no_class, no_procedure, with_methods, slots_along}
 use Rattle.class_rules.specs.Members.{duplicate_field}
 use Rattle.class_rules.specs.Overrides.{same_type, same_types, parameters_of, no_method, run_at, override_in_slot}
 use Rattle.class_rules.specs.Overrides.{override_differs, inherited_slots, override_differs_at, differing_override}
@@ -330,7 +330,7 @@ module _ (program : Source) where
     extends_up : (steps : ℕ) (class : Option ℕ) (line : List ℕ) (q : ℕ)
         → ((number : ℕ) → class ≡ Some number → number < length program.classes)
         → chain steps (parents program) class ≡ Some line → on q line ≡ true
-        → Extends (slots_of program q) (slots_along program [] line)
+        → Extends (class_slots program q) (slots_along program [] line)
     extends_up zero (Some class) line q own h there = absurd (cc)
     extends_up zero None line q own h there = let e = ap (on q) (nothing_on zero (parents program) line h) in
         absurd (cc)
@@ -348,16 +348,16 @@ module _ (program : Source) where
         line_is_own = line_is program class (suc steps) line inside h
 
         by : (shorter : List ℕ) → line ≡ shorter ++ class ∷ []
-            → (on q shorter ≡ true → Extends (slots_of program q) (slots_along program [] shorter)) → (b : Bool)
-            → on q shorter ≡ b → Extends (slots_of program q) (slots_along program [] line)
+            → (on q shorter ≡ true → Extends (class_slots program q) (slots_along program [] shorter)) → (b : Bool)
+            → on q shorter ≡ b → Extends (class_slots program q) (slots_along program [] line)
         by shorter is rest true above =
-            subst (λ l. Extends (slots_of program q) (slots_along program [] l)) (sym is)
-            (extends_through (slots_of program q) (slots_along program [] shorter)
+            subst (λ l. Extends (class_slots program q) (slots_along program [] l)) (sym is)
+            (extends_through (class_slots program q) (slots_along program [] shorter)
             (slots_along program [] (shorter ++ class ∷ [])) (rest above)
             (step_extends class shorter inside (line_is_own ∙ is)))
         by shorter is rest false none =
             let same : class ≡ q = last_on q class shorter (ap (on q) (sym is) ∙ there) none in
-            subst (λ c. Extends (slots_of program c) (slots_along program [] line)) same
+            subst (λ c. Extends (class_slots program c) (slots_along program [] line)) same
             (subst (λ l. Extends (slots_along program [] l) (slots_along program [] line)) (sym line_is_own)
             (extends_itself (slots_along program [] line)))
 
@@ -366,15 +366,15 @@ module _ (program : Source) where
     extends_own own class h = by (nat_eq own class) refl h
       where
         by : (b : Bool) → nat_eq own class ≡ b → (b || Rattle.class_rules.specs.Classes.inherits program own class)
-            ≡ true → Extends (slots_of program class) (slots_of program own)
-        by true e q = subst (λ c. Extends (slots_of program class) (slots_of program c)) (sym (eqb-true own class e))
-            (extends_itself (slots_of program class))
+            ≡ true → Extends (class_slots program class) (class_slots program own)
+        by true e q = subst (λ c. Extends (class_slots program class) (class_slots program c)) (sym (eqb-true own class e))
+            (extends_itself (class_slots program class))
         by false e q =
             let i = inherits_parts program own class q in
             let up = extends_up i.last.steps (parent (parents program) own) i.last.shorter class
             (parents_in program own) i.last.up i.there in
             let own_in = inherits_inside program own class i in
             let step = step_extends own i.last.shorter own_in (i.line_is ∙ i.last.is) in
-            subst (λ l. Extends (slots_of program class) (slots_along program [] l)) (sym (i.line_is ∙ i.last.is))
-            (extends_through (slots_of program class) (slots_along program [] i.last.shorter)
+            subst (λ l. Extends (class_slots program class) (slots_along program [] l)) (sym (i.line_is ∙ i.last.is))
+            (extends_through (class_slots program class) (slots_along program [] i.last.shorter)
             (slots_along program [] (i.last.shorter ++ own ∷ [])) up step)

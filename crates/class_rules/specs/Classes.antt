@@ -9,7 +9,8 @@ use Rattle.rpp_tree.specs.Tree.{Procedure, Source}
 use Rattle.class_rules.specs.declared.method.MethodId.{MethodId}
 use Rattle.class_rules.specs.Rules.{class_names}
 use Rattle.class_rules.specs.Chains.{class_named, line_of}
-use Rattle.class_rules.specs.Members.{Slots, class_at, no_procedure, field_of, fields_of, slots_of}
+use Rattle.class_rules.specs.Members.{class_at, no_procedure, field_of}
+pub use Rattle.class_rules.specs.Members.{class_fields, class_slots}
 use Rattle.class_rules.specs.Overrides.{run_at}
 use Rattle.class_rules.specs.Mains.{mains, first_main}
 
@@ -17,18 +18,9 @@ use Rattle.class_rules.specs.Mains.{mains, first_main}
 abbrev pub class_number : Source → List ℕ → Option ℕ
 class_number program name = class_named (class_names program) name
 
--- a class's fields: the parent's first, then its own
-abbrev pub class_fields : Source → ℕ → List Var
-class_fields program class = fields_of program class
-
 -- the number of the field of this name
 abbrev pub field_number : Source → ℕ → List ℕ → Option ℕ
 field_number program class name = field_of (class_fields program class) name
-
--- a class's method slots: the parent's first; an overriding method keeps its slot, a new one gets
--- the next
-abbrev pub class_slots : Source → ℕ → Slots
-class_slots program class = slots_of program class
 
 -- the slot of this name
 abbrev pub method_slot : Source → ℕ → List ℕ → Option ℕ

@@ -22,51 +22,27 @@ and_then (Err error) next = Err error
 
 abbrev pub is_int : Kind → Bool
 is_int kind.Int = true
-is_int kind.Nil = false
-is_int (kind.Class class) = false
-is_int kind.IntArray = false
-is_int (kind.ClassArray class) = false
+is_int _ = false
 
 -- the type of an array's elements
 abbrev pub element_kind : Kind → Option Kind
-element_kind kind.Int = None
-element_kind kind.Nil = None
-element_kind (kind.Class class) = None
 element_kind kind.IntArray = Some kind.Int
 element_kind (kind.ClassArray class) = Some (kind.Class class)
+element_kind _ = None
 
 -- one class is the other, or inherits from it, or the other way round
 abbrev pub are_related : Table → ℕ → ℕ → Bool
 are_related table a b = nat_eq a b || (inherits_in table a b || inherits_in table b a)
 
 -- which types `=` and `!=` take
-abbrev pub compare_to_class : Table → ℕ → Kind → Bool
-compare_to_class table a kind.Int = false
-compare_to_class table a kind.Nil = true
-compare_to_class table a (kind.Class b) = are_related table a b
-compare_to_class table a kind.IntArray = false
-compare_to_class table a (kind.ClassArray b) = false
-
-abbrev pub compare_to_ints : Kind → Bool
-compare_to_ints kind.Int = false
-compare_to_ints kind.Nil = true
-compare_to_ints (kind.Class b) = false
-compare_to_ints kind.IntArray = true
-compare_to_ints (kind.ClassArray b) = false
-
-abbrev pub compare_to_array : ℕ → Kind → Bool
-compare_to_array a kind.Int = false
-compare_to_array a kind.Nil = true
-compare_to_array a (kind.Class b) = false
-compare_to_array a kind.IntArray = false
-compare_to_array a (kind.ClassArray b) = nat_eq a b
-
 abbrev pub compares : Table → Kind → Kind → Bool
 compares table kind.Int right = is_int right
 compares table kind.Nil right = not (is_int right)
-compares table (kind.Class a) right = compare_to_class table a right
-compares table kind.IntArray right = compare_to_ints right
-compares table (kind.ClassArray a) right = compare_to_array a right
+compares table (kind.Class a) (kind.Class b) = are_related table a b
+compares table kind.IntArray kind.IntArray = true
+compares table (kind.ClassArray a) (kind.ClassArray b) = nat_eq a b
+compares table left kind.Nil = true
+compares table _ _ = false
 
 abbrev pub is_comparison : BinOp → Bool
 is_comparison op.Equal = true
@@ -127,11 +103,10 @@ place_type setting locals (Item name index) = type_of setting locals (Element na
 
 -- whether a variable occurs in an expression
 abbrev pub occurs : List ℕ → Expression → Bool
-occurs name (Number at word) = false
-occurs name (Null at) = false
 occurs name (Variable other) = bytes_eq other.text name
 occurs name (Element other index) = bytes_eq other.text name || occurs name index
 occurs name (Binary at operator left right) = occurs name left || occurs name right
+occurs name _ = false
 
 abbrev pub occurs_in_index : List ℕ → Lvalue → Bool
 occurs_in_index name (Whole other) = false

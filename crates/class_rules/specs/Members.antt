@@ -31,12 +31,12 @@ abbrev pub inherited : Source → ℕ → List Var
 inherited program class =
     fields_along program (take (length (line_of program class) - 1) (line_of program class))
 
--- the parent's fields first, then the class's own
-abbrev pub fields_of : Source → ℕ → List Var
-fields_of program class = fields_along program (line_of program class)
+-- a class's fields: the parent's first, then its own
+abbrev pub class_fields : Source → ℕ → List Var
+class_fields program class = fields_along program (line_of program class)
 
 abbrev pub fields : Source → List (List Var)
-fields program = each_below (fields_of program) (length program.classes)
+fields program = each_below (class_fields program) (length program.classes)
 
 abbrev pub field_name : Var → List ℕ
 field_name var = var.name.text
@@ -75,7 +75,7 @@ duplicate_field program = first_at (duplicate_field_at program) 0 program.classe
 -- 4: the class has more fields than the limit
 abbrev pub too_many_fields_at : Source → ℕ → ClassText → Option Refusal
 too_many_fields_at program number class =
-    refused_if (nat_lt MOST_FIELDS (length (fields_of program number)))
+    refused_if (nat_lt MOST_FIELDS (length (class_fields program number)))
     (refused 4 class.name.at)
 
 abbrev pub too_many_fields : Source → Option Refusal
@@ -85,7 +85,7 @@ too_many_fields program = first_at (too_many_fields_at program) 0 program.classe
 abbrev pub Slots : Type 0
 Slots = List (List ℕ × MethodId)
 
--- an overriding method keeps its slot, a new one gets the next
+-- the slots with those of these methods
 abbrev pub with_methods : ℕ → ℕ → List Procedure → Slots → Slots
 with_methods class number [] slots = slots
 with_methods class number (method ∷ methods) slots =
@@ -97,17 +97,18 @@ slots_along program slots [] = slots
 slots_along program slots (class ∷ below) =
     slots_along program (with_methods class 0 (class_at program class).methods slots) below
 
--- the parent's slots first
-abbrev pub slots_of : Source → ℕ → Slots
-slots_of program class = slots_along program [] (line_of program class)
+-- a class's method slots: the parent's first; an overriding method keeps its slot, a new one gets
+-- the next
+abbrev pub class_slots : Source → ℕ → Slots
+class_slots program class = slots_along program [] (line_of program class)
 
 abbrev pub slots : Source → List Slots
-slots program = each_below (slots_of program) (length program.classes)
+slots program = each_below (class_slots program) (length program.classes)
 
 -- 4: the class has more method slots than the limit
 abbrev pub too_many_slots_at : Source → ℕ → ClassText → Option Refusal
 too_many_slots_at program number class =
-    refused_if (nat_lt MOST_METHODS (length (slots_of program number)))
+    refused_if (nat_lt MOST_METHODS (length (class_slots program number)))
     (refused 4 class.name.at)
 
 abbrev pub too_many_slots : Source → Option Refusal

@@ -32,29 +32,17 @@ abbrev pub is_type_int : VarType → Bool
 is_type_int type.Int = true
 is_type_int _ = false
 
-abbrev pub is_type_ints : VarType → Bool
-is_type_ints type.IntArray = true
-is_type_ints _ = false
-
-abbrev pub is_type_class : List ℕ → VarType → Bool
-is_type_class class (type.Class other) = bytes_eq class other.text
-is_type_class class _ = false
-
-abbrev pub is_type_classes : List ℕ → VarType → Bool
-is_type_classes class (type.ClassArray other) = bytes_eq class other.text
-is_type_classes class _ = false
-
 abbrev pub same_type : VarType → VarType → Bool
-same_type type.Int other = is_type_int other
-same_type (type.Class name) other = is_type_class name.text other
-same_type type.IntArray other = is_type_ints other
-same_type (type.ClassArray name) other = is_type_classes name.text other
+same_type type.Int type.Int = true
+same_type (type.Class name) (type.Class other) = bytes_eq name.text other.text
+same_type type.IntArray type.IntArray = true
+same_type (type.ClassArray name) (type.ClassArray other) = bytes_eq name.text other.text
+same_type _ _ = false
 
 abbrev pub same_types : List Var → List Var → Bool
 same_types [] [] = true
-same_types [] (y ∷ ys) = false
-same_types (x ∷ xs) [] = false
 same_types (x ∷ xs) (y ∷ ys) = same_type x.kind y.kind && same_types xs ys
+same_types _ _ = false
 
 abbrev pub parameters_in : List Procedure → ℕ → List Var
 parameters_in methods number = (unwrap_or (slice_get methods number) no_procedure).params

@@ -38,10 +38,9 @@ unknown_parent names None = None
 unknown_parent names (Some name) = unknown_name names name
 
 abbrev pub unknown_type : List (List ℕ) → VarType → Option Refusal
-unknown_type names kind.Int = None
 unknown_type names (kind.Class name) = unknown_name names name
-unknown_type names kind.IntArray = None
 unknown_type names (kind.ClassArray name) = unknown_name names name
+unknown_type names _ = None
 
 abbrev pub unknown_var : List (List ℕ) → Var → Option Refusal
 unknown_var names var = unknown_type names var.kind

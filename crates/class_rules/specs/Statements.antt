@@ -106,10 +106,9 @@ abbrev pub class_known : Table → Ident → Verdict
 class_known table name = required (is_some (class_of table name.text)) (unknown_name name.at)
 
 abbrev pub type_known : Table → VarType → Verdict
-type_known table type.Int = passed
 type_known table (type.Class name) = class_known table name
-type_known table type.IntArray = passed
 type_known table (type.ClassArray name) = class_known table name
+type_known table _ = passed
 
 abbrev pub is_nil_word : Expression → Bool
 is_nil_word (Null at) = true
@@ -189,18 +188,16 @@ written_kind table at written = if is_type_int written then Err (not_class_type 
 
 -- of a class the first place is of it, and the second of it or of an ancestor; of arrays both are
 abbrev pub takes_copy : Table → Kind → Kind → Kind → Bool
-takes_copy table kind.Int source target = false
-takes_copy table kind.Nil source target = false
 takes_copy table (kind.Class class) source target =
     is_class class source && takes_object table class target
 takes_copy table kind.IntArray source target = is_int_array source && is_int_array target
 takes_copy table (kind.ClassArray class) source target =
     is_class_array class source && is_class_array class target
+takes_copy table _ source target = false
 
 abbrev pub same_plain : Lvalue → Lvalue → Bool
 same_plain (Whole name) (Whole other) = bytes_eq name.text other.text
-same_plain (Whole name) (Item other index) = false
-same_plain (Item name index) other = false
+same_plain _ _ = false
 
 -- copy and uncopy: the class; the parts; a class or array type; fitting types; two variables; the
 -- second in no index
@@ -231,18 +228,14 @@ argument_fits setting locals parameter argument =
     (unwrap_or (kind_in setting locals argument.text) kind.Nil)) (type_differs argument.at)
 
 abbrev pub arguments_fit : Typing → Locals → List Var → List Ident → Verdict
-arguments_fit setting locals [] arguments = passed
-arguments_fit setting locals (parameter ∷ parameters) [] = passed
 arguments_fit setting locals (parameter ∷ parameters) (argument ∷ arguments) =
     in_turn (argument_fits setting locals parameter argument)
     (arguments_fit setting locals parameters arguments)
+arguments_fit setting locals _ _ = passed
 
 abbrev pub receiver_kind : ℕ → Kind → Result ℕ Refusal
-receiver_kind at kind.Int = Err (not_class_type at)
-receiver_kind at kind.Nil = Err (not_class_type at)
 receiver_kind at (kind.Class class) = Ok class
-receiver_kind at kind.IntArray = Err (not_class_type at)
-receiver_kind at (kind.ClassArray class) = Err (not_class_type at)
+receiver_kind at _ = Err (not_class_type at)
 
 abbrev pub place_class : ℕ → Lvalue → ℕ → Result ℕ Refusal
 place_class at place class = if occurs_in_own_index place then Err (self_update at) else Ok class
@@ -257,9 +250,8 @@ receiver_class setting locals (Some place) =
 
 -- a plain receiver counts among the arguments
 abbrev pub plain_receiver : Option Lvalue → List Ident
-plain_receiver None = []
 plain_receiver (Some (Whole name)) = name ∷ []
-plain_receiver (Some (Item name index)) = []
+plain_receiver _ = []
 
 -- the method; each argument; no argument twice; as many as parameters; of their types
 abbrev pub slot_rules : Typing → Locals → ℕ → Option Lvalue → Ident → List Ident → ℕ → Option ℕ

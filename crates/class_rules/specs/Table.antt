@@ -8,11 +8,11 @@ use Rattle.rpp_tree.specs.declared.tree.Var.{Var}
 use Rattle.rpp_tree.specs.Tree.{Source}
 use Rattle.class_rules.specs.declared.method.MethodId.{MethodId}
 use Rattle.class_rules.specs.Refusal.{Refusal}
-use Rattle.class_rules.specs.First.{first_in, first_after, first_at}
+use Rattle.class_rules.specs.First.{first_in, first_after, first_at, each_below}
 use Rattle.class_rules.specs.Rules.{class_names, name_taken, unknown_in_class}
-use Rattle.class_rules.specs.Chains.{lines, endless_chain}
+use Rattle.class_rules.specs.Chains.{line_of, endless_chain}
 use Rattle.class_rules.specs.Overrides.{duplicate_method_in, override_differs_at, run_at}
-use Rattle.class_rules.specs.Members.{Slots, field_name, fields, slots}
+use Rattle.class_rules.specs.Members.{Slots, field_name, class_fields, class_slots}
 use Rattle.class_rules.specs.Members.{duplicate_field_at, too_many_fields_at, too_many_slots_at}
 use Rattle.class_rules.specs.Mains.{mains, main_refusal, first_main}
 
@@ -26,9 +26,9 @@ pub record Table : Type 0 where
 abbrev pub table_of : Source → Table
 table_of program = record {
   names = class_names program;
-  lines = lines program;
-  fields = fields program;
-  slots = slots program;
+  lines = each_below (line_of program) (length program.classes);
+  fields = each_below (class_fields program) (length program.classes);
+  slots = each_below (class_slots program) (length program.classes);
   main = first_main (mains program);
 }
 

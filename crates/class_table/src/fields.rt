@@ -5,7 +5,7 @@ ghost use Rattle.rpp_tree.specs.Views.{source_of, class_text_of};
 ghost use Rattle.class_rules.specs.Rules.{IsFirst};
 ghost use Rattle.class_rules.specs.Names.{with_names};
 ghost use Rattle.class_rules.specs.Chains.{lines as lines_of};
-ghost use Rattle.class_rules.specs.Members.{class_at, field_name, fields_of, taken_field, duplicate_field_at, too_many_fields_at, inherited, fields_along as all_fields, names_along as all_names, fields as fields_of_all, duplicate_field, too_many_fields};
+ghost use Rattle.class_rules.specs.Members.{class_at, field_name, class_fields, taken_field, duplicate_field_at, too_many_fields_at, inherited, fields_along as all_fields, names_along as all_names, fields as fields_of_all, duplicate_field, too_many_fields};
 
 use crate::chains::line_at;
 use crate::names::add_name;
@@ -191,8 +191,8 @@ fn class_fields(
 ) -> Result<ClassFields, ClassError>
     requires known { map (λ line. line.items) lines.now ≡ lines_of (source_of program.now) }
     requires within { number < length program.now.classes.items }
-    requires fresh { taken_field [] (fields_of (source_of program.now) number) ≡ None }
-    ensures { MatchResult result (λ list. (list ≡ fields_of (source_of program.now) number)
+    requires fresh { taken_field [] (class_fields (source_of program.now) number) ≡ None }
+    ensures { MatchResult result (λ list. (list ≡ class_fields (source_of program.now) number)
         × (too_many_fields_at (source_of program.now) number (class_text_of class.now) ≡ None))
         (IsFirst (too_many_fields_at (source_of program.now) number (class_text_of class.now))) }
 {

@@ -5,7 +5,7 @@ ghost use Rattle.rpp_tree.specs.Views.{source_of, class_text_of, procedure_of};
 ghost use Rattle.class_rules.specs.Rules.{IsFirst};
 ghost use Rattle.class_rules.specs.Chains.{lines as lines_of};
 ghost use Rattle.class_rules.specs.Overrides.{run_at};
-ghost use Rattle.class_rules.specs.Members.{class_at, with_methods, slots_along as all_slots, slots_of, slots as slots_of_all, too_many_slots_at, too_many_slots};
+ghost use Rattle.class_rules.specs.Members.{class_at, with_methods, slots_along as all_slots, class_slots, slots as slots_of_all, too_many_slots_at, too_many_slots};
 
 use crate::chains::line_at;
 use class_rules::{ClassError, MethodId};
@@ -145,7 +145,7 @@ fn class_slots(
 ) -> Result<MethodSlots, ClassError>
     requires known { map (λ line. line.items) lines.now ≡ lines_of (source_of program.now) }
     requires within { number < length program.now.classes.items }
-    ensures { MatchResult result (λ slots. (slots ≡ slots_of (source_of program.now) number)
+    ensures { MatchResult result (λ slots. (slots ≡ class_slots (source_of program.now) number)
         × (too_many_slots_at (source_of program.now) number (class_text_of class.now) ≡ None))
         (IsFirst (too_many_slots_at (source_of program.now) number (class_text_of class.now))) }
 {

@@ -15,8 +15,7 @@ use Rattle.register_expressions.specs.roopl_semantics.Run.{Run, after_cost, give
 use Rattle.register_expressions.specs.roopl_semantics.Store.{Value, Word, State, number_of}
 use Rattle.register_expressions.specs.roopl_semantics.Value.{Cell, read, written, value, cell_of}
 use Rattle.register_expressions.specs.roopl_semantics.Elements.{elements, index_elements, own_element, share_array}
-use Rattle.register_expressions.specs.roopl_semantics.Elements.{read_cost}
-use Rattle.register_expressions.specs.roopl_semantics.Elements.{SHARED_ARRAY}
+use Rattle.register_expressions.specs.roopl_semantics.Elements.{read_cost, SHARED_ARRAY}
 use Rattle.register_expressions.specs.roopl_semantics.Execution.{Setting, Runner, statement}
 use Rattle.register_expressions.specs.refine_form.declared.spot.Spot.{Spot}
 use Rattle.register_expressions.specs.refine_form.Form.{told, turned as facing}

@@ -1,5 +1,6 @@
 -- The inverse of a list of statements, and what inverting twice gives.
 use Rattle.std.proofs.Common.{◌≡◌, refl, sym, ap, ◌∙◌, List, [], ◌∷◌, ◌++◌, map, reverse, Bool, true, false}
+use Rattle.std.specs.Prelude.{not, if◌then◌else◌}
 use Rattle.std.proofs.lemmas.List.{reverse-append}
 use Rattle.rpp_tree.specs.Tree.{Statement, Statements, Update, If, From, Construct, Local, Call, End, Then, joined}
 use Rattle.rpp_tree.specs.Tree.{Procedure, ClassText, Source}
@@ -7,7 +8,7 @@ use Rattle.rpp_tree.specs.declared.tree.UpdateOp.{UpdateOp}
 use Rattle.rpp_tree.specs.declared.tree.UpdateOp.TheVariants as update
 use Rattle.rpp_tree.specs.declared.tree.Stmt.{Stmt}
 use Rattle.rpp_tree.specs.Views.{statement_of, statements_of}
-use Rattle.inverse_rules.specs.Inverse.{call_direction, inverse_as, inverse_statement_as, inverse_operator}
+use Rattle.inverse_rules.specs.Inverse.{inverse_as, inverse_statement_as, inverse_operator}
 use Rattle.inverse_rules.specs.Inverse.{inverse_procedure, inverse_class, inverse_program}
 
 statements_of-append : (xs ys : List Statement) → statements_of (xs ++ ys)
@@ -39,6 +40,9 @@ inverse_operator-twice : (op : UpdateOp) → inverse_operator (inverse_operator 
 inverse_operator-twice update.Add = refl
 inverse_operator-twice update.Sub = refl
 inverse_operator-twice update.Xor = refl
+
+abbrev call_direction : Bool → Bool → Bool
+call_direction turn back = if turn then not back else back
 
 call_direction-twice : (turn back : Bool) → call_direction turn (call_direction turn back) ≡ back
 call_direction-twice true true = refl

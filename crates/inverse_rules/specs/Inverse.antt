@@ -1,5 +1,5 @@
 -- The inverses of statements, blocks and programs.
-use Rattle.std.specs.Prelude.{Bool, true, false, not, map}
+use Rattle.std.specs.Prelude.{Bool, true, false, not, if◌then◌else◌, map}
 use Rattle.rpp_tree.specs.declared.tree.UpdateOp.{UpdateOp}
 use Rattle.rpp_tree.specs.declared.tree.UpdateOp.TheVariants as update
 use Rattle.rpp_tree.specs.Tree.{Statement, Statements, Update, Swap, If, From, Construct, Local}
@@ -12,14 +12,9 @@ inverse_operator update.Add = update.Sub
 inverse_operator update.Sub = update.Add
 inverse_operator update.Xor = update.Xor
 
--- what becomes of a call's direction: it turns, or it stays if the methods themselves are
--- inverted
-abbrev pub call_direction : Bool → Bool → Bool
-call_direction true back = not back
-call_direction false back = back
-
 abbrev mutual
-  -- a statement undone, at the same place of the source; calls turn or stay
+  -- a statement undone, at the same place of the source; calls turn, or they stay if the methods
+  -- themselves are inverted
   pub inverse_statement_as : Bool → Statement → Statement
   inverse_statement_as turn (Update at op target value) =
       Update at (inverse_operator op) target value
@@ -37,7 +32,7 @@ abbrev mutual
   inverse_statement_as turn (Copy at kind source target) = Uncopy at kind source target
   inverse_statement_as turn (Uncopy at kind source target) = Copy at kind source target
   inverse_statement_as turn (Call at back receiver method args) =
-      Call at (call_direction turn back) receiver method args
+      Call at (if turn then not back else back) receiver method args
   inverse_statement_as turn (Skip at) = Skip at
 
   -- a block undone: the last statement first

@@ -20,9 +20,9 @@ use Rattle.meaning_reached.specs.class_rules.Rules.{name_of, class_names, name_t
 use Rattle.meaning_reached.specs.class_rules.Rules.{unknown_params, unknown_in_class, unknown_class}
 use Rattle.meaning_reached.specs.class_rules.Chains.{parent_named, parents, chain, chain_of, endless_chain, inheritance_cycle, line_of}
 use Rattle.meaning_reached.specs.class_rules.Chains.{lines}
-use Rattle.meaning_reached.specs.class_rules.Members.{no_class, no_procedure, class_at, fields_along, inherited, fields_of, fields}
+use Rattle.meaning_reached.specs.class_rules.Members.{no_class, no_procedure, class_at, fields_along, inherited, fields}
 use Rattle.meaning_reached.specs.class_rules.Members.{field_name, taken_field, duplicate_field_at, duplicate_field, too_many_fields_at}
-use Rattle.meaning_reached.specs.class_rules.Members.{too_many_fields, Slots, with_methods, slots_along, slots_of, slots}
+use Rattle.meaning_reached.specs.class_rules.Members.{too_many_fields, Slots, with_methods, slots_along, slots}
 use Rattle.meaning_reached.specs.class_rules.Members.{too_many_slots_at, too_many_slots}
 use Rattle.meaning_reached.specs.class_rules.Overrides.{method_name, method_taken, duplicate_method_in, duplicate_method, same_types}
 use Rattle.meaning_reached.specs.class_rules.Overrides.{run_at, parameters_of, override_differs, override_in_slot, override_differs_at}
@@ -180,14 +180,14 @@ module _ (program : Source) where
         fields = x;
         slots = slots other;
         main = first_main (mains other);
-      }) (each_kept (fields_of other) (fields_of program) fields_kept)
+      }) (each_kept (class_fields other) (class_fields program) fields_kept)
       ∙ ap (λ x. record {
         names = class_names program;
         lines = lines program;
         fields = fields program;
         slots = x;
         main = first_main (mains other);
-      }) (each_kept (slots_of other) (slots_of program) slots_kept)
+      }) (each_kept (class_slots other) (class_slots program) slots_kept)
       ∙ ap (λ x. record {
         names = class_names program;
         lines = lines program;

@@ -5,8 +5,7 @@ use Rattle.meaning_points.specs.roopl_semantics.Run.{Run, Done, Fault, More, ◌
 use Rattle.meaning_points.specs.roopl_semantics.Store.{Value, State}
 use Rattle.meaning_points.specs.roopl_semantics.Value.{evaluated}
 use Rattle.meaning_points.specs.roopl_semantics.Execution.{Setting, FI, LOOP, holds}
-use Rattle.meaning_machine.specs.Machine.{Part, Chosen, First, Again, Open, Config, turned_first}
-use Rattle.meaning_machine.specs.Machine.{begun, ended, next}
+use Rattle.meaning_machine.specs.Machine.{Part, Chosen, First, Again, Open, Config, turned_first, begun, ended, next}
 use Rattle.meaning_machine.specs.MachineLaws.{before}
 use Rattle.meaning_machine.specs.Turned.{unwound, StepsBack}
 use Rattle.meaning_machine.specs.Placed.{RunsIn, side, first, again, object, local, element, body, StandsIn, IsBranch}

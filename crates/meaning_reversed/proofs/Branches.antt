@@ -6,15 +6,14 @@ use Rattle.meaning_machine.specs.roopl_semantics.Run.{Done, ◌>>=◌, give, fau
 use Rattle.meaning_machine.specs.roopl_semantics.Store.{Value, State}
 use Rattle.meaning_machine.specs.roopl_semantics.Value.{evaluated}
 use Rattle.meaning_machine.specs.roopl_semantics.Execution.{Setting, exec, holds, FI, LOOP, turn_end, turns}
-use Rattle.meaning_machine.specs.Machine.{Open, Chosen, First, Again, inside, turned_first, left}
-use Rattle.meaning_machine.specs.Machine.{begun}
+use Rattle.meaning_machine.specs.Machine.{Open, Chosen, First, Again, inside, turned_first, left, begun}
 use Rattle.meaning_machine.specs.MachineLaws.{gone, before}
 use Rattle.meaning_machine.proofs.Back.{if_entered, if_left, loop_entered, loop_left, loop_again, loop_turned}
 use Rattle.meaning_inverse.proofs.Runs.{Runs, Does, done_then, passes}
 use Rattle.meaning_inverse.proofs.Later.{Ends, ends_on, ends_done}
 use Rattle.meaning_inverse.proofs.Ground.{Ground}
-use Rattle.meaning_reversed.proofs.Undoing.{ends_valued, unwound_gone, leads, AllBack, Leads}
-use Rattle.meaning_reversed.proofs.Undoing.{step_by_step, OnPast, BlocksBack, good_behind}
+use Rattle.meaning_reversed.proofs.Undoing.{ends_valued, unwound_gone, leads, AllBack, Leads, step_by_step, OnPast}
+use Rattle.meaning_reversed.proofs.Undoing.{BlocksBack, good_behind}
 use Rattle.std.proofs.lemmas.Bool.{not-false}
 use Rattle.meaning_machine.proofs.roopl_semantics_laws.CostBound.{some_nodes}
 use Rattle.meaning_inverse.proofs.ElementsKept.{checked_ends}

@@ -1,16 +1,17 @@
 -- Blocks with a local variable, `construct` and calls on elements among them, each step undone.
-use Rattle.std.proofs.Common.{◌≡◌, ℕ, ◌+◌, ◌≤◌, ◌∙◌, arith, refl, sym, ap, subst, Bool, false, not, List}
-use Rattle.std.proofs.Common.{◌∷◌, Some, Ok, Result, Err}
+use Rattle.std.proofs.Common.{◌≡◌, ℕ, ◌+◌, ◌≤◌, ◌∙◌, arith, refl, sym, ap, subst, Bool, false, not, List, ◌∷◌, Some, Ok}
+use Rattle.std.proofs.Common.{Result, Err}
 use Rattle.meaning_machine.specs.rpp_tree.declared.tree.Ident.{Ident}
 use Rattle.meaning_machine.specs.rpp_tree.declared.tree.Var.{Var}
-use Rattle.meaning_machine.specs.rpp_tree.Tree.{Expression, Null, Item, Statement, Statements, Construct, Local, Call, End, Then, nodes}
+use Rattle.meaning_machine.specs.rpp_tree.Tree.{Expression, Null, Item, Statement, Statements, Construct, Local, Call}
+use Rattle.meaning_machine.specs.rpp_tree.Tree.{End, Then, nodes}
 use Rattle.meaning_machine.specs.class_rules.Expressions.{occurs}
 use Rattle.meaning_inverse.specs.inverse_rules.Inverse.{inverse_statement, inverse}
 use Rattle.meaning_machine.specs.roopl_semantics.Run.{Done, after_cost, ◌>>=◌, give, fault_if}
 use Rattle.meaning_machine.specs.roopl_semantics.Store.{Value, Nil, State, same_value}
 use Rattle.meaning_machine.specs.roopl_semantics.Value.{Slot, read, value as value_in, evaluated}
-use Rattle.meaning_machine.specs.roopl_semantics.Execution.{Setting, statement, exec, opened, closed, with_local, constructed}
-use Rattle.meaning_machine.specs.roopl_semantics.Execution.{element_call, element_name, DELOCAL}
+use Rattle.meaning_machine.specs.roopl_semantics.Execution.{Setting, statement, exec, opened, closed, with_local}
+use Rattle.meaning_machine.specs.roopl_semantics.Execution.{constructed, element_call, element_name, DELOCAL}
 use Rattle.meaning_machine.specs.Machine.{Config, Open, Holding, inside, held_local, left, begun}
 use Rattle.meaning_machine.specs.MachineLaws.{gone, before}
 use Rattle.meaning_machine.specs.Turned.{each_undone, turn, unwound}
@@ -21,8 +22,7 @@ use Rattle.meaning_inverse.proofs.Scopes.{value_under, reopened, constructed_inv
 use Rattle.meaning_inverse.proofs.Ground.{Ground}
 use Rattle.meaning_machine.specs.Reversed.{begun_back}
 use Rattle.meaning_reversed.specs.ReverseLaws.{LeadsTo}
-use Rattle.meaning_reversed.proofs.Undoing.{ends_valued, unwound_gone}
-use Rattle.meaning_reversed.proofs.Undoing.{Leads, step_by_step, OnPast, BlocksBack}
+use Rattle.meaning_reversed.proofs.Undoing.{ends_valued, unwound_gone, Leads, step_by_step, OnPast, BlocksBack}
 use Rattle.std.proofs.lemmas.Bool.{not-false}
 use Rattle.meaning_machine.proofs.Back.{undone_block}
 use Rattle.meaning_inverse.proofs.ElementsKept.{checked_ends}

@@ -1,30 +1,31 @@
 -- `new` and `delete` undone: the reversed machine leads to exactly the same state, object ids
 -- included.
 use Rattle.std.proofs.Common.{◌≡◌, ℕ, ◌+◌, refl, sym, ap, subst, ◌∙◌, arith, true, false, Bool, not, List, [], ◌∷◌}
-use Rattle.std.proofs.Common.{length, replicate, Some, option_map, unwrap_or, Ok, nat_eq, eqb-true}
-use Rattle.std.proofs.Common.{eq-eqb, le-ltb, if◌then◌else◌}
+use Rattle.std.proofs.Common.{length, replicate, Some, option_map, unwrap_or, Ok, nat_eq, eqb-true, eq-eqb, le-ltb}
+use Rattle.std.proofs.Common.{if◌then◌else◌}
 use Rattle.std.proofs.lemmas.Bool.{lt-ltb, eqb-false}
 use Rattle.meaning_machine.specs.rpp_words.Words.{is_less}
 use Rattle.meaning_machine.specs.rpp_tree.declared.tree.Ident.{Ident}
-use Rattle.meaning_machine.specs.rpp_tree.Tree.{Expression, Lvalue, Creation, Object as AnObject, Ints, Objects, New, Delete, End, Then}
-use Rattle.meaning_machine.specs.rpp_tree.Tree.{Source, nodes, index_nodes}
+use Rattle.meaning_machine.specs.rpp_tree.Tree.{Expression, Lvalue, Creation, Object as AnObject, Ints, Objects, New}
+use Rattle.meaning_machine.specs.rpp_tree.Tree.{Delete, End, Then, Source, nodes, index_nodes}
 use Rattle.meaning_machine.specs.class_rules.Classes.{class_number}
 use Rattle.meaning_machine.specs.buddy_book.Place.{Log, count_taken}
 use Rattle.meaning_machine.specs.roopl_semantics.Run.{Run, Done, ◌>>=◌, spend, fault_if}
-use Rattle.meaning_machine.specs.roopl_semantics.Store.{Value, Word, Nil, Name, Head, OfClass, OfInts, OfObjects, Object, Store, State}
-use Rattle.meaning_machine.specs.roopl_semantics.Store.{is_nil, number_of, object_named, object_at, no_object, changed_at, without}
-use Rattle.meaning_machine.specs.roopl_semantics.Value.{Cell, Part, with_value, read, written, value as value_in, cell_of}
-use Rattle.meaning_machine.specs.roopl_semantics.Value.{evaluated, found, NIL}
+use Rattle.meaning_machine.specs.roopl_semantics.Store.{Value, Word, Nil, Name, Head, OfClass, OfInts, OfObjects}
+use Rattle.meaning_machine.specs.roopl_semantics.Store.{Object, Store, State, is_nil, number_of, object_named}
+use Rattle.meaning_machine.specs.roopl_semantics.Store.{object_at, no_object, changed_at, without}
+use Rattle.meaning_machine.specs.roopl_semantics.Value.{Cell, Part, with_value, read, written, value as value_in}
+use Rattle.meaning_machine.specs.roopl_semantics.Value.{cell_of, evaluated, found, NIL}
 use Rattle.meaning_machine.specs.roopl_semantics.Elements.{index_elements, own_element, share_array, kept_apart}
-use Rattle.meaning_machine.specs.roopl_semantics.Execution.{Setting, Runner, statement, allocated, freed, new_array, delete_array}
-use Rattle.meaning_machine.specs.roopl_semantics.Execution.{new_object, order_of_cells, is_of_class, all_zero, NOT_NIL}
-use Rattle.meaning_machine.specs.roopl_semantics.Execution.{LENGTH, LENGTH_DIFFERS, COUNT, NOT_EMPTY}
+use Rattle.meaning_machine.specs.roopl_semantics.Execution.{Setting, Runner, statement, allocated, freed, new_array}
+use Rattle.meaning_machine.specs.roopl_semantics.Execution.{delete_array, new_object, order_of_cells, is_of_class}
+use Rattle.meaning_machine.specs.roopl_semantics.Execution.{all_zero, NOT_NIL, LENGTH, LENGTH_DIFFERS, COUNT, NOT_EMPTY}
 use Rattle.meaning_machine.specs.roopl_semantics.Execution.{CLASS_DIFFERS}
 use Rattle.meaning_inverse.specs.meaning_sound.Sound.{Descending}
 use Rattle.meaning_inverse.proofs.meaning_sound_laws.Stores.{below_bound, live_named, descends_changed}
 use Rattle.meaning_inverse.proofs.Runs.{given_done, done_given, done_then, apart_done, passed_check}
-use Rattle.meaning_inverse.proofs.Cells.{IsCell, IsSlot, IsPart, with_with, with_same, named_changed}
-use Rattle.meaning_inverse.proofs.Cells.{written_twice, written_same, apart_sym}
+use Rattle.meaning_inverse.proofs.Cells.{IsCell, IsSlot, IsPart, with_with, with_same, named_changed, written_twice}
+use Rattle.meaning_inverse.proofs.Cells.{written_same, apart_sym}
 use Rattle.meaning_inverse.proofs.Later.{IsSound, Ends, ends_then, ends_on, ends_done}
 use Rattle.meaning_inverse.proofs.Ground.{Ground, NewArrayFacts, DeleteArrayFacts, number_named, new_cells}
 use Rattle.meaning_inverse.proofs.Calls.{live_read}

@@ -21,17 +21,10 @@ use Rattle.roopl_semantics.specs.Laws.{holders, holders_among, block_in}
 
 -- whether an object or array with this head is of a type
 abbrev pub head_fits : Source → Kind → Head → Bool
-head_fits program kind.Int head = false
-head_fits program kind.Nil head = false
 head_fits program (kind.Class class) (OfClass own) = is_or_inherits program own class
-head_fits program (kind.Class class) (OfInts length) = false
-head_fits program (kind.Class class) (OfObjects own length) = false
-head_fits program kind.IntArray (OfClass own) = false
 head_fits program kind.IntArray (OfInts length) = true
-head_fits program kind.IntArray (OfObjects own length) = false
-head_fits program (kind.ClassArray class) (OfClass own) = false
-head_fits program (kind.ClassArray class) (OfInts length) = false
 head_fits program (kind.ClassArray class) (OfObjects own length) = nat_eq own class
+head_fits program _ _ = false
 
 abbrev pub named_fits : Source → Kind → Option Head → Bool
 named_fits program kind (Some head) = head_fits program kind head

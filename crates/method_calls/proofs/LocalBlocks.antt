@@ -4,19 +4,19 @@ use Rattle.std.proofs.Common.{refl, sym, ap, ◌∙◌, subst, arith, append-nil
 use Rattle.std.specs.Prelude.{not, bit_xor, slice_index, slice_set, Some}
 use Rattle.refine_form.specs.rpp_tree.declared.tree.Var.{Var}
 use Rattle.refine_form.specs.rpp_tree.declared.tree.Ident.{Ident}
-use Rattle.refine_form.specs.rpp_tree.Tree.{Expression, Null, Statement, Statements, Local, Construct, Call, New, Delete, Whole}
-use Rattle.refine_form.specs.rpp_tree.Tree.{Item, Object as AnObject, End, Then, joined}
+use Rattle.refine_form.specs.rpp_tree.Tree.{Expression, Null, Statement, Statements, Local, Construct, Call, New}
+use Rattle.refine_form.specs.rpp_tree.Tree.{Delete, Whole, Item, Object as AnObject, End, Then, joined}
 use Rattle.refine_form.specs.inverse_rules.Inverse.{inverse, inverse_statement}
 use Rattle.refine_form.specs.pisa_isa.Machine.{Memory}
 use Rattle.refine_form.specs.code_conventions.declared.faults.TheConstants.{DELOCAL}
 use Rattle.refine_form.specs.code_conventions.declared.registers.TheConstants.{FRAME, NOUGHT, VALUE}
 use Rattle.refine_form.specs.paired_code.declared.part.Symbol.{Symbol}
 use Rattle.refine_form.specs.paired_code.Machine.{Image}
-use Rattle.refine_form.specs.paired_code.Layout.{check_equal_cells, mirror_cells}
+use Rattle.refine_form.specs.paired_code.Layout.{check_equal_cells, mirror_cells, Equal}
 use Rattle.refine_form.specs.paired_code.Pieces.{Done, Will}
-use Rattle.refine_form.specs.paired_code.Does.{Told, Fine, Fault, More, plus, told_then, Meets, fine, faults, Does, in_order}
+use Rattle.refine_form.specs.paired_code.Does.{Told, Fine, Fault, More, plus, told_then, Meets, fine, faults, Does}
+use Rattle.refine_form.specs.paired_code.Does.{in_order}
 use Rattle.refine_form.proofs.paired_code_laws.Laws.{will_of, will_more}
-use Rattle.refine_form.specs.paired_code.Layout.{Equal}
 use Rattle.refine_form.proofs.paired_code_laws.Checks.{runs_passes, runs_fails}
 use Rattle.refine_form.proofs.paired_code_laws.Mirrored.{will_mirror}
 use Rattle.refine_form.proofs.paired_code_laws.Does.{will_last}
@@ -32,8 +32,8 @@ use Rattle.refine_form.specs.code_conventions.Cells.{exch}
 use Rattle.method_calls.specs.CallCode.{reach_row, store_code, local_open, local_code}
 use Rattle.method_calls.specs.Facts.{LocalFacts, new_word}
 use Rattle.refine_form.proofs.Told.{told_after, told_bind, same_then}
-use Rattle.refine_form.proofs.Rules.{meets_rate, meets_told, meets_less, meets_then, meets_later, Late, late}
-use Rattle.refine_form.proofs.Rules.{late_then, late_counts, as_known, will_in, will_two, will_two_back}
+use Rattle.refine_form.proofs.Rules.{meets_rate, meets_told, meets_less, meets_then, meets_later, Late, late, late_then}
+use Rattle.refine_form.proofs.Rules.{late_counts, as_known, will_in, will_two, will_two_back}
 use Rattle.refine_form.proofs.Rows.{here, next, will_row}
 use Rattle.method_calls.proofs.Addresses.{will_find_word, will_leave_word}
 use Rattle.refine_form.specs.paired_code.Rows.{line}

@@ -22,8 +22,7 @@ use Rattle.refine_form.specs.declared.spot.Spot.{Spot}
 use Rattle.refine_form.specs.declared.spot.Spot.TheVariants.{Field, Frame}
 use Rattle.method_calls.specs.Facts.{address, IsNear, MovesBack, Known, FrameFacts, out_from, vals_from}
 use Rattle.refine_form.proofs.Told.{told_after, plus_none}
-use Rattle.refine_form.proofs.Rules.{will_two, will_two_back, meets_told, meets_slack}
-use Rattle.refine_form.proofs.Rules.{meets_later}
+use Rattle.refine_form.proofs.Rules.{will_two, will_two_back, meets_told, meets_slack, meets_later}
 use Rattle.method_calls.proofs.ReceiverParts.{takes, gives_back, finds_touched, puts}
 use Rattle.refine_form.proofs.Memories.{mk}
 

@@ -20,8 +20,8 @@ use Rattle.refine_form.proofs.paired_code_laws.Does.{Quiet, quiet, then_quiet}
 use Rattle.refine_form.specs.roopl_semantics.Run.{Run, ◌>>=◌, after_cost, fault_if}
 use Rattle.refine_form.specs.roopl_semantics.Store.{Value, Name, State, is_zero, is_nil, number_of, cleared}
 use Rattle.refine_form.specs.roopl_semantics.Value.{Cell, read, written, cell_named, NIL}
-use Rattle.refine_form.specs.roopl_semantics.Execution.{Setting, exec, in_direction, invoked, moved_out, moved_back, bound}
-use Rattle.refine_form.specs.roopl_semantics.Execution.{cells_named, class_of, is_too_deep, TOO_DEEP, TOUCHED}
+use Rattle.refine_form.specs.roopl_semantics.Execution.{Setting, exec, in_direction, invoked, moved_out, moved_back}
+use Rattle.refine_form.specs.roopl_semantics.Execution.{bound, cells_named, class_of, is_too_deep, TOO_DEEP, TOUCHED}
 use Rattle.refine_form.specs.Form.{World, Scope, pairs, Open, Owes, StmtLaw, registers, told, one, turned}
 use Rattle.refine_form.specs.code_conventions.Cells.{addi}
 use Rattle.method_calls.specs.CallCode.{depth_code, moves_code, fetch_row, nil_code, take_code, onto_code}
@@ -29,8 +29,8 @@ use Rattle.method_calls.specs.CallCode.{front_on_code, call_on_code}
 use Rattle.method_calls.specs.Facts.{Known, FrameFacts, Receivers, ReceiverFacts, HasPlace, GoesOn, ComesBack, address}
 use Rattle.method_calls.specs.Facts.{ReceiverWord, FindsMethod, callee_on, out_from, vals_from}
 use Rattle.refine_form.proofs.Told.{told_after, told_bind, plus_none, plus_plus}
-use Rattle.refine_form.proofs.Rules.{wraps_spent, will_around, meets_told, meets_less, meets_later, meets_as}
-use Rattle.refine_form.proofs.Rules.{as_known, will_two, will_two_back}
+use Rattle.refine_form.proofs.Rules.{wraps_spent, will_around, meets_told, meets_less, meets_later, meets_as, as_known}
+use Rattle.refine_form.proofs.Rules.{will_two, will_two_back}
 use Rattle.refine_form.proofs.Rows.{here, next, will_row}
 use Rattle.method_calls.proofs.Addresses.{less_is}
 use Rattle.method_calls.proofs.Moves.{cells_of, AllVariables, AllUp, all_up, all_back, spot_in}

@@ -19,8 +19,8 @@ use Rattle.refine_form.proofs.paired_code_laws.Does.{Quiet, quiet, then_quiet}
 use Rattle.refine_form.specs.roopl_semantics.Run.{Run, ◌>>=◌, after_cost, fault_if}
 use Rattle.refine_form.specs.roopl_semantics.Store.{Value, State}
 use Rattle.refine_form.specs.roopl_semantics.Value.{Cell, read, own_class}
-use Rattle.refine_form.specs.roopl_semantics.Execution.{Setting, exec, in_direction, invoked, moved_out, moved_back, bound}
-use Rattle.refine_form.specs.roopl_semantics.Execution.{cells_named, is_too_deep, TOO_DEEP}
+use Rattle.refine_form.specs.roopl_semantics.Execution.{Setting, exec, in_direction, invoked, moved_out, moved_back}
+use Rattle.refine_form.specs.roopl_semantics.Execution.{bound, cells_named, is_too_deep, TOO_DEEP}
 use Rattle.refine_form.specs.Form.{World, Scope, pairs, Open, Entered, Owes, StmtLaw, RunsBody, registers, told, one}
 use Rattle.refine_form.specs.Form.{turned}
 use Rattle.refine_form.specs.code_conventions.Cells.{addi}

@@ -20,7 +20,7 @@ use Rattle.meaning_sound.specs.roopl_semantics.Source.{main_fields}
 use Rattle.meaning_sound.specs.class_rules.Classes.{main_of}
 use Rattle.meaning_sound.specs.roopl_semantics.Layout.{overlaid, word_of, object_words, with_book, heap_words}
 use Rattle.meaning_sound.specs.roopl_semantics.Layout.{static_words}
-use Rattle.meaning_sound.specs.roopl_semantics.Layout.{placed_layout, layout, no_placing}
+use Rattle.meaning_sound.specs.roopl_semantics.Layout.{laid, layout, no_placing}
 use Rattle.meaning_sound.specs.buddy_book.Shown.{first_address}
 use Rattle.meaning_sound.specs.pisa_isa.Loaded.{statics_at, fixed_cells}
 use Rattle.meaning_sound.specs.class_rules.Inheritance.{kind_of_var}
@@ -414,4 +414,5 @@ memory_is_layout u at store log placed =
     store ++ replicate (base_of u - statics_at - length u.statics) 0
     ++ heap_words u.setting.program (2 ^ u.setting.limits.heap) (base_of u) store at in
     ap (λ z. front ++ z) (none_over_zeros (FRAME_WORDS * u.setting.limits.deep))
-    ∙ ap (λ o. placed_layout u.setting.program u.setting.limits u.statics store (unwrap_or o no_placing)) (sym placed)
+    ∙ ap (λ o. laid u.setting.program u.setting.limits u.statics store (unwrap_or o no_placing)
+    (replicate (FRAME_WORDS * u.setting.limits.deep) 0)) (sym placed)

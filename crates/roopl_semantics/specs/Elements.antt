@@ -10,11 +10,9 @@ use Rattle.roopl_semantics.specs.Value.{variable_value}
 
 -- the elements of an expression, those in indexes too, by the names of their arrays
 abbrev pub elements : Expression → List Ident
-elements (Number at word) = []
-elements (Null at) = []
-elements (Variable name) = []
 elements (Element name index) = name ∷ elements index
 elements (Binary at op left right) = elements left ++ elements right
+elements _ = []
 
 -- the elements in the index of a place
 abbrev pub index_elements : Lvalue → List Ident

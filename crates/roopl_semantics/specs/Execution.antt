@@ -44,9 +44,8 @@ holds v = is_true (number_of v)
 
 abbrev pub same_cell : Cell → Cell → Bool
 same_cell (Slot i) (Slot j) = nat_eq i j
-same_cell (Slot i) (Part name j) = false
-same_cell (Part name i) (Slot j) = false
 same_cell (Part name i) (Part name' j) = nat_eq name name' && nat_eq i j
+same_cell _ _ = false
 
 -- whether this is an object of the class
 abbrev pub is_of_class : Head → Option ℕ → Bool

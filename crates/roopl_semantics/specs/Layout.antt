@@ -116,19 +116,15 @@ laid program limits statics store placing stack =
     ++ heap_words program (2 ^ limits.heap) base store placing
     ++ stack
 
--- with nothing on the stack
-abbrev pub placed_layout : Source → Limits → List ℕ → Store → Placing → List ℕ
-placed_layout program limits statics store placing =
-    laid program limits statics store placing (replicate (FRAME_WORDS * limits.deep) 0)
-
 abbrev pub no_placing : Placing
 no_placing = record { book = []; blocks = [] }
 
 -- the memory that represents a store after these requests, over the static cells of an image of the
--- program
+-- program, with nothing on the stack
 abbrev pub layout : Source → Limits → List ℕ → Store → Log → List ℕ
 layout program limits statics store log =
-    placed_layout program limits statics store (unwrap_or (place limits.heap log) no_placing)
+    laid program limits statics store (unwrap_or (place limits.heap log) no_placing)
+    (replicate (FRAME_WORDS * limits.deep) 0)
 
 -- whether a class's table is at this address
 abbrev pub is_table : Source → ℕ → Bool

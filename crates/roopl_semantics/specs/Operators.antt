@@ -31,9 +31,7 @@ operated op.AtMost a b = truth_word (not (is_less b a))
 operated op.AtLeast a b = truth_word (not (is_less a b))
 operated op.Equal a b = truth_word (nat_eq a b)
 operated op.NotEqual a b = truth_word (not (nat_eq a b))
-operated op.Mul a b = 0
-operated op.Div a b = 0
-operated op.Rem a b = 0
+operated _ a b = 0
 
 -- an update of a word by another
 abbrev pub updated : UpdateOp → ℕ → ℕ → ℕ

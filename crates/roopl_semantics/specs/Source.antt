@@ -6,10 +6,10 @@ use Rattle.buddy_book.specs.rpp_words.Words.{IsWord}
 use Rattle.buddy_book.specs.rpp_words.declared.input.FieldWord.{FieldWord}
 use Rattle.buddy_book.specs.rpp_words.declared.input.Limits.{Limits}
 use Rattle.inverse_rules.specs.rpp_tree.declared.tree.Var.{Var}
-use Rattle.inverse_rules.specs.rpp_tree.declared.tree.VarType.{VarType}
-use Rattle.inverse_rules.specs.rpp_tree.declared.tree.VarType.TheVariants as kind
 use Rattle.inverse_rules.specs.rpp_tree.Tree.{Statements, Source}
 use Rattle.class_rules.specs.Classes.{class_fields, main_of, procedure_at}
+use Rattle.class_rules.specs.Overrides.{is_type_int}
+pub use Rattle.class_rules.specs.Overrides.{is_type_int as is_int_type}
 use Rattle.roopl_semantics.specs.Run.{Run, Done, Fault, More}
 use Rattle.roopl_semantics.specs.Store.{Value, Word, Object, OfClass, State, main_name, zero_values}
 use Rattle.roopl_semantics.specs.Execution.{exec}
@@ -26,12 +26,8 @@ abbrev pub with_input : List FieldWord → List Value → List Value
 with_input [] cells = cells
 with_input (entry ∷ input) cells = with_input input (slice_set cells entry.field (Word entry.word))
 
-abbrev pub is_int_type : VarType → Bool
-is_int_type kind.Int = true
-is_int_type _ = false
-
 abbrev pub is_int_field : Option Var → Bool
-is_int_field (Some var) = is_int_type var.kind
+is_int_field (Some var) = is_type_int var.kind
 is_int_field None = false
 
 abbrev pub names_field : ℕ → List FieldWord → Bool

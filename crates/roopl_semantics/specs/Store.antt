@@ -6,6 +6,7 @@ use Rattle.inverse_rules.specs.rpp_tree.declared.tree.Var.{Var}
 use Rattle.inverse_rules.specs.rpp_tree.declared.tree.VarType.{VarType}
 use Rattle.inverse_rules.specs.rpp_tree.declared.tree.VarType.TheVariants as kind
 use Rattle.buddy_book.specs.Place.{Log}
+pub use Rattle.buddy_book.specs.Place.{without_name as without}
 
 -- what a variable, a field or an element holds: a word, nil, or the name of an object or array
 pub data Value : Type 0 where
@@ -77,9 +78,7 @@ same_value _ _ = false
 -- 0 for int, nil for the other types
 abbrev pub zero_value : VarType → Value
 zero_value kind.Int = Word 0
-zero_value (kind.Class class) = Nil
-zero_value kind.IntArray = Nil
-zero_value (kind.ClassArray class) = Nil
+zero_value _ = Nil
 
 abbrev pub zero_values : List Var → List Value
 zero_values vars = map (λ var. zero_value var.kind) vars
@@ -102,12 +101,6 @@ abbrev pub changed_at : Store → ℕ → (Object → Object) → Store
 changed_at [] name change = []
 changed_at ((n, object) ∷ store) name change =
     if nat_eq n name then (n, change object) ∷ store else (n, object) ∷ changed_at store name change
-
--- the store with the object of this name dropped
-abbrev pub without : Store → ℕ → Store
-without [] name = []
-without ((n, object) ∷ store) name = if nat_eq n name then store else (n, object)
-    ∷ without store name
 
 -- the class of an object
 abbrev pub class_of_head : Head → ℕ

@@ -4,8 +4,7 @@ use Rattle.std.specs.Prelude.{Result, Ok, Err, nat_lt}
 use Rattle.rpp_tree.specs.declared.tree.BinOp.{BinOp}
 use Rattle.rpp_tree.specs.Tree.{Source, Expression, Number, Null, Variable, Element, Binary}
 use Rattle.source_checks.specs.roopl_semantics.Store.{State, Value, Word, Nil, Name, object_at, number_of}
-use Rattle.source_checks.specs.roopl_semantics.Value.{Cell, Part, value, read_cell, element_cell, element_of}
-use Rattle.source_checks.specs.roopl_semantics.Value.{combined}
+use Rattle.source_checks.specs.roopl_semantics.Value.{Cell, Part, value, read_cell, element_cell, element_of, combined}
 use Rattle.source_checks.specs.roopl_semantics.Value.{variable_value, INDEX}
 use Rattle.source_checks.specs.source_compared.Comparisons.{Compared, Truth, Values, Below, Missing, Count, Length}
 use Rattle.source_checks.specs.source_compared.Comparisons.{Size, Heads, Nothing, first_of, access_in, access_at}

@@ -3,23 +3,22 @@ use Rattle.std.proofs.Common.{◌≡◌, ℕ, refl, sym, ap, subst, ◌∙◌, L
 use Rattle.std.specs.Prelude.{not, Option, Result, Ok, Err, MatchResult}
 use Rattle.rpp_tree.specs.declared.tree.Ident.{Ident}
 use Rattle.rpp_tree.specs.declared.tree.Var.{Var}
-use Rattle.rpp_tree.specs.Tree.{Expression, Null, Lvalue}
-use Rattle.rpp_tree.specs.Tree.{Statement, Statements, Update, Swap, If, From, Construct, Local, New}
-use Rattle.rpp_tree.specs.Tree.{Delete, Copy, Uncopy, Call, Skip}
+use Rattle.rpp_tree.specs.Tree.{Expression, Null, Lvalue, Statement, Statements, Update, Swap, If, From, Construct}
+use Rattle.rpp_tree.specs.Tree.{Local, New, Delete, Copy, Uncopy, Call, Skip}
 use Rattle.source_blocks.specs.roopl_semantics.Run.{Run as Run', More, ◌>>=◌, give, fault_if}
 use Rattle.source_blocks.specs.roopl_semantics.Store.{Value, State}
 use Rattle.source_blocks.specs.roopl_semantics.Value.{evaluated}
 use Rattle.source_blocks.specs.roopl_semantics.Execution.{Setting, holds, LOOP, opened, constructed, statement}
-use Rattle.source_blocks.specs.meaning_machine.Machine.{Config, Chosen, First, Holding, past_it, inside, simply, begun, held_local}
-use Rattle.source_blocks.specs.meaning_machine.Machine.{called}
+use Rattle.source_blocks.specs.meaning_machine.Machine.{Config, Chosen, First, Holding, past_it, inside, simply, begun}
+use Rattle.source_blocks.specs.meaning_machine.Machine.{held_local, called}
 use Rattle.source_blocks.specs.source_steps.StateView.{setting_of}
 use Rattle.source_blocks.specs.declared.run.Run.{Run}
 use Rattle.source_blocks.specs.Runs.{IsSimple, config_of, state_in, here_in, rest_in}
 use Rattle.source_blocks.specs.source_steps.declared.stop.Stop.{Stop}
-use Rattle.source_blocks.specs.source_steps.declared.stop.Stop.TheVariants as stop
-use Rattle.source_blocks.specs.source_store.declared.lack.Lack.TheVariants as lacking
 use Rattle.source_blocks.specs.source_steps.Metered.{Went, metered, Failed, Gives}
 use Rattle.source_blocks.proofs.source_steps_laws.Fuelled.{goes, fails, gives}
+use Rattle.source_blocks.specs.source_steps.declared.stop.Stop.TheVariants as stop
+use Rattle.source_blocks.specs.source_store.declared.lack.Lack.TheVariants as lacking
 
 -- a call whose only error is `NoMemory` leads to what is given
 pub given_as : {E : Type 0} (result : Result E Stop) (left : ℕ) (x y : Config)

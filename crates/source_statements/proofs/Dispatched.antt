@@ -12,7 +12,7 @@ use Rattle.source_blocks.specs.class_rules.declared.method.MethodId.{MethodId}
 use Rattle.source_blocks.specs.class_rules.Table.{Table, table_of, slots_in, slot_in, dispatch_in}
 use Rattle.source_blocks.specs.class_rules.Rules.{class_names}
 use Rattle.source_blocks.specs.class_rules.Chains.{parents, parent_named, chain, with_last}
-use Rattle.source_blocks.specs.class_rules.Members.{class_at, no_class, no_procedure, slots, slots_of, slots_along, with_methods}
+use Rattle.source_blocks.specs.class_rules.Members.{class_at, no_class, no_procedure, slots, slots_along, with_methods}
 use Rattle.source_blocks.specs.class_rules.Overrides.{run_at}
 use Rattle.source_blocks.specs.class_rules.Classes.{class_slots, method_named}
 use Rattle.source_blocks.proofs.class_rules_laws.Numbers.{length-each_below}
@@ -37,7 +37,7 @@ slots_read program class = by (nat_lt class (length program.classes)) refl
     by false e =
         let past : length program.classes ≤ class = ltb-false class (length program.classes) e in
         let none : slice_get (slots program) class ≡ None =
-        slice_get_past (slots program) class (let l = length-each_below (slots_of program) (length program.classes)
+        slice_get_past (slots program) class (let l = length-each_below (class_slots program) (length program.classes)
         in omega arith) in
         let alone : slice_get (parents program) class ≡ None =
         slice_get_past (parents program) class (let l = length-map program.classes

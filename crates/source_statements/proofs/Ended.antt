@@ -7,8 +7,8 @@ use Rattle.source_blocks.specs.roopl_semantics.Run.{Run, ◌>>=◌, give, fault_
 use Rattle.source_blocks.specs.roopl_semantics.Store.{Value, State, same_value}
 use Rattle.source_blocks.specs.roopl_semantics.Value.{Cell, Slot, evaluated, read}
 use Rattle.source_blocks.specs.roopl_semantics.Execution.{Setting, holds, FI, LOOP, DELOCAL, closed, moved_back}
-use Rattle.source_blocks.specs.meaning_machine.Machine.{Config, Part, Chosen, First, Again, Holding, Calling, closing, ended, left}
-use Rattle.source_blocks.specs.meaning_machine.Machine.{Caller as From, turned_to, turned_first}
+use Rattle.source_blocks.specs.meaning_machine.Machine.{Config, Part, Chosen, First, Again, Holding, Calling, closing}
+use Rattle.source_blocks.specs.meaning_machine.Machine.{ended, left, Caller as From, turned_to, turned_first}
 use Rattle.source_blocks.specs.source_steps.declared.stop.Stop.{Stop}
 use Rattle.source_blocks.specs.source_steps.Metered.{Went, metered, Failed}
 use Rattle.source_blocks.specs.source_steps.StateView.{bindings}

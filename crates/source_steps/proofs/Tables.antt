@@ -11,7 +11,7 @@ use Rattle.rpp_tree.specs.Tree.{Source}
 use Rattle.source_store.specs.class_rules.Table.{Table, table_of, fields_in, field_in}
 use Rattle.source_store.specs.class_rules.Rules.{class_names}
 use Rattle.source_store.specs.class_rules.Chains.{parents, parent_named, chain, with_last}
-use Rattle.source_store.specs.class_rules.Members.{field_of, fields, fields_of, fields_along, no_class}
+use Rattle.source_store.specs.class_rules.Members.{field_of, fields, fields_along, no_class}
 use Rattle.source_store.proofs.class_rules_laws.Numbers.{length-each_below}
 use Rattle.source_store.specs.class_rules.Classes.{class_fields}
 use Rattle.source_store.proofs.class_rules_laws.Tables.{table_reads}
@@ -73,7 +73,7 @@ fields_read program class = by (nat_lt class (length program.classes)) refl
     by false e =
         let past : length program.classes ≤ class = ltb-false class (length program.classes) e in
         let none : slice_get (fields program) class ≡ None =
-        slice_get_past (fields program) class (let l = length-each_below (fields_of program)
+        slice_get_past (fields program) class (let l = length-each_below (class_fields program)
         (length program.classes) in omega arith) in
         let alone : slice_get (parents program) class ≡ None =
         slice_get_past (parents program) class (let l = length-map program.classes

@@ -14,7 +14,7 @@ use Rattle.rpp_tree.specs.declared.tree.Var.{Var}
 use Rattle.rpp_tree.specs.declared.tree.VarType.{VarType}
 use Rattle.rpp_tree.specs.Tree.{Source}
 use Rattle.branch_codegen.specs.class_rules.declared.kind.Kind.{Kind}
-use Rattle.branch_codegen.specs.class_rules.Members.{field_name, field_of, fields_of}
+use Rattle.branch_codegen.specs.class_rules.Members.{field_name, field_of}
 use Rattle.branch_codegen.specs.class_rules.Classes.{class_fields}
 use Rattle.branch_codegen.specs.class_rules.Table.{Table, table_of, fields_in, field_in}
 use Rattle.branch_codegen.specs.class_rules.Refusal.{unknown_name}
@@ -148,7 +148,7 @@ module _ (program : Source) (s : Scope) where
       by true e = ltb-true s.class (length program.classes) e
       by false e =
           let past = ltb-false s.class (length program.classes) e in
-          let many = length-each_below (fields_of program) (length program.classes) in
+          let many = length-each_below (class_fields program) (length program.classes) in
           let none : fields_in table s.class ≡ [] = ap (λ z. unwrap_or z [])
           (slice_get_past table.fields s.class (omega arith)) in
           let nowhere : field_in table s.class name ≡ position (bytes_eq name) [] =

@@ -8,7 +8,7 @@ use Rattle.roopl_semantics.specs.rpp_tree.Tree.{Source}
 use Rattle.roopl_semantics.specs.class_rules.Refusal.{refused}
 use Rattle.roopl_semantics.specs.class_rules.First.{refused_if}
 use Rattle.roopl_semantics.specs.class_rules.Rules.{name_of}
-use Rattle.roopl_semantics.specs.class_rules.Members.{Slots, class_at, fields_of, slots_of, too_many_fields_at, too_many_slots_at}
+use Rattle.roopl_semantics.specs.class_rules.Members.{Slots, class_at, too_many_fields_at, too_many_slots_at}
 use Rattle.roopl_semantics.specs.class_rules.Classes.{class_fields, class_slots}
 use Rattle.roopl_semantics.specs.class_rules.Table.{table_of, slots_in}
 use Rattle.roopl_semantics.specs.class_rules.Program.{IsAccepted}
@@ -40,7 +40,7 @@ pub fields_few : (program : Source) → IsAccepted program → (class : ℕ) →
 fields_few program accepted class inside =
     let own = class_at program class in
     let here : 0 + class ≡ class = omega arith in
-    not_refused MOST_FIELDS (length (fields_of program class)) (refused 4 own.name.at)
+    not_refused MOST_FIELDS (length (class_fields program class)) (refused 4 own.name.at)
     (ap (λ i. too_many_fields_at program i own) (sym here)
     ∙ passed_at (too_many_fields_at program) 0 class program.classes
     (table_rules program accepted.classes).fields_few inside)
@@ -50,7 +50,7 @@ pub slots_few : (program : Source) → IsAccepted program → (class : ℕ) → 
 slots_few program accepted class inside =
     let own = class_at program class in
     let here : 0 + class ≡ class = omega arith in
-    not_refused MOST_METHODS (length (slots_of program class)) (refused 4 own.name.at)
+    not_refused MOST_METHODS (length (class_slots program class)) (refused 4 own.name.at)
     (ap (λ i. too_many_slots_at program i own) (sym here)
     ∙ passed_at (too_many_slots_at program) 0 class program.classes
     (table_rules program accepted.classes).slots_few inside)

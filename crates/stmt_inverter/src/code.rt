@@ -1,7 +1,7 @@
 // The inverses of statements and blocks.
-ghost use Rattle.std.specs.Prelude.{◌≡◌, IfOk};
+ghost use Rattle.std.specs.Prelude.{◌≡◌, not, if◌then◌else◌, IfOk};
 ghost use Rattle.rpp_tree.specs.Views.{statement_of, block_of};
-ghost use Rattle.inverse_rules.specs.Inverse.{call_direction, inverse_statement_as, inverse_as, inverse_statement, inverse};
+ghost use Rattle.inverse_rules.specs.Inverse.{inverse_statement_as, inverse_as, inverse_statement, inverse};
 
 use crate::form::{
     call, conditional, construct, copy_stmt, delete_stmt, invert_op, local, new_stmt, turns,
@@ -28,7 +28,7 @@ pub fn invert_block(alloc: Global, b: &Block) -> Result<Block, NoMemory>
 
 /// The direction of an inverted call.
 fn turn_call(back: bool, turn: bool) -> bool
-    ensures { result ≡ call_direction turn back }
+    ensures { result ≡ (if turn then not back else back) }
 {
     if turn { !back } else { back }
 }

@@ -16,7 +16,6 @@ use Rattle.rpp_tree.specs.declared.tree.VarType.{VarType}
 use Rattle.rpp_tree.specs.declared.tree.VarType.TheVariants as type
 use Rattle.rpp_tree.specs.Tree.{Source}
 use Rattle.refine_frame.specs.class_rules.Classes.{class_fields}
-use Rattle.refine_frame.specs.class_rules.Members.{fields_of}
 use Rattle.refine_frame.specs.class_rules.Table.{Table, table_of, fields_in}
 use Rattle.refine_frame.proofs.class_rules_laws.Numbers.{length-each_below, each_below-get}
 use Rattle.refine_frame.specs.code_conventions.declared.memory.TheConstants.{COUNT_WORD, HEADER_WORDS}
@@ -173,7 +172,7 @@ module _ (program : Source) where
 
     fields_same : (word : ℕ) → fields_in T (class_at_table tables word)
         ≡ class_fields program (class_at_table tables word)
-    fields_same word = each_below-get (fields_of program) (length program.classes) (class_at_table tables word) []
+    fields_same word = each_below-get (class_fields program) (length program.classes) (class_at_table tables word) []
         (class_inside word)
 
     no_ints : (cells : List ℕ) (references : List Reference) (n address : ℕ)

@@ -15,7 +15,7 @@ use Rattle.rpp_tree.specs.Parts.{type_names, var_names, procedure_names, parent_
 use Rattle.rpp_tree.specs.Tree.{ClassText, Source}
 use Rattle.refine_frame.specs.class_rules.Chains.{line_of}
 use Rattle.refine_frame.specs.class_rules.First.{each_below}
-use Rattle.refine_frame.specs.class_rules.Members.{class_at, no_class, fields_along, fields_of}
+use Rattle.refine_frame.specs.class_rules.Members.{class_at, no_class, fields_along}
 use Rattle.refine_frame.specs.class_rules.Table.{table_of, fields_in}
 use Rattle.refine_frame.proofs.class_rules_laws.Numbers.{length-each_below, each_below-get}
 use Rattle.refine_frame.specs.class_rules.Program.{IsAccepted}
@@ -109,12 +109,12 @@ names_ascii program accepted = record { fields = fields; classes = λ class. asc
       where
         by : (b : Bool) → nat_lt class (length program.classes) ≡ b
             → All HasAsciiName (fields_in (table_of program) class)
-        by true e = subst (All HasAsciiName) (sym (each_below-get (fields_of program) (length program.classes) class []
+        by true e = subst (All HasAsciiName) (sym (each_below-get (class_fields program) (length program.classes) class []
             (ltb-true class (length program.classes) e))) (ascii_class_fields program class accepted)
         by false e =
             let past = ltb-false class (length program.classes) e in
             let none : fields_in (table_of program) class ≡ [] =
             ap (λ (o : Option (List Var)). unwrap_or o []) (past_none
-            (each_below (fields_of program) (length program.classes)) class
-            (omega (arith, past, length-each_below (fields_of program) (length program.classes)))) in
+            (each_below (class_fields program) (length program.classes)) class
+            (omega (arith, past, length-each_below (class_fields program) (length program.classes)))) in
             subst (All HasAsciiName) (sym none) (All-nil HasAsciiName)

@@ -1,7 +1,7 @@
 use Rattle.std.proofs.Common.{◌≡◌, ◌∙◌, sym, true}
 use Rattle.std.specs.Result.{is_ok}
 use Rattle.rpp_tree.specs.Views.{source_of, class_text_of}
-use Rattle.class_rules.specs.Members.{fields_of, too_many_fields_at}
+use Rattle.class_rules.specs.Members.{class_fields, too_many_fields_at}
 use Rattle.class_rules.proofs.Numbers.{each_below-next, first_at-next}
 use Rattle.class_table.proofs.fields.fields.Goals as goal
 
@@ -13,7 +13,7 @@ loop-number-preserved c =
     let own = c.in_ok-vars.ensures in
     let pushed = rw (ok, own.0, c.loop-number.invariant.fields) at c.push.ensures.items in
     record {
-      fields = pushed ∙ sym (each_below-next (fields_of program) c.loop-number.number);
+      fields = pushed ∙ sym (each_below-next (class_fields program) c.loop-number.number);
       first = c.loop-number.invariant.first ∙ first_at-next (too_many_fields_at program) class_text_of
           c.args.program.now.classes.items c.loop-number.number c.class-item.result (rw same at c.loop-number-test.true)
           (rw same at c.class-item.is) own.1;

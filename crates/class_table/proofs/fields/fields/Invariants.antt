@@ -1,12 +1,12 @@
 use Rattle.std.proofs.Common.{◌≡◌, drop, map}
 use Rattle.rpp_tree.specs.Views.{source_of, class_text_of}
 use Rattle.class_rules.specs.First.{first_at, each_below}
-use Rattle.class_rules.specs.Members.{too_many_fields_at, fields_of}
+use Rattle.class_rules.specs.Members.{too_many_fields_at, class_fields}
 use Rattle.class_table.proofs.fields.fields.Given as goal
 
 abbrev pub invariant-loop-number : goal.invariant-loop-number
 invariant-loop-number l = record {
-  fields : l.list.items ≡ each_below (fields_of (source_of l.fn.program)) l.number;
+  fields : l.list.items ≡ each_below (class_fields (source_of l.fn.program)) l.number;
   first : first_at (too_many_fields_at (source_of l.fn.program)) 0 (map class_text_of l.fn.program.classes.items)
       ≡ first_at (too_many_fields_at (source_of l.fn.program)) l.number
       (map class_text_of (drop l.number l.fn.program.classes.items));

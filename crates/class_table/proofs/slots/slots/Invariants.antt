@@ -1,12 +1,12 @@
 use Rattle.std.proofs.Common.{◌≡◌, drop, map}
 use Rattle.rpp_tree.specs.Views.{source_of, class_text_of}
 use Rattle.class_rules.specs.First.{first_at, each_below}
-use Rattle.class_rules.specs.Members.{too_many_slots_at, slots_of}
+use Rattle.class_rules.specs.Members.{too_many_slots_at, class_slots}
 use Rattle.class_table.proofs.slots.slots.Given as goal
 
 abbrev pub invariant-loop-number : goal.invariant-loop-number
 invariant-loop-number l = record {
-  slots : l.list.items ≡ each_below (slots_of (source_of l.fn.program)) l.number;
+  slots : l.list.items ≡ each_below (class_slots (source_of l.fn.program)) l.number;
   first : first_at (too_many_slots_at (source_of l.fn.program)) 0 (map class_text_of l.fn.program.classes.items)
       ≡ first_at (too_many_slots_at (source_of l.fn.program)) l.number
       (map class_text_of (drop l.number l.fn.program.classes.items));
