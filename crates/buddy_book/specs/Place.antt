@@ -30,7 +30,8 @@ block_of ((n, block) ∷ blocks) name = if nat_eq n name then block else block_o
 -- a list with names, without the first entry of this name
 abbrev pub without_name : {A : Type 0} → List (ℕ × A) → ℕ → List (ℕ × A)
 without_name [] name = []
-without_name ((n, it) ∷ list) name = if nat_eq n name then list else (n, it) ∷ without_name list name
+without_name ((n, it) ∷ list) name = if nat_eq n name then list else (n, it)
+    ∷ without_name list name
 
 -- the name gets the block that was taken, if there was one
 abbrev pub with_block : ℕ → List (ℕ × ℕ) → Option (ℕ × Book) → Option Placing

@@ -367,7 +367,8 @@ module _ (program : Source) where
       where
         by : (b : Bool) → nat_eq own class ≡ b → (b || Rattle.class_rules.specs.Classes.inherits program own class)
             ≡ true → Extends (class_slots program class) (class_slots program own)
-        by true e q = subst (λ c. Extends (class_slots program class) (class_slots program c)) (sym (eqb-true own class e))
+        by true e q = subst (λ c. Extends (class_slots program class) (class_slots program c))
+            (sym (eqb-true own class e))
             (extends_itself (class_slots program class))
         by false e q =
             let i = inherits_parts program own class q in

@@ -1,5 +1,5 @@
 -- Classes, their fields, method slots, dispatch and inheritance, from the list of classes only.
-use Rattle.std.specs.Prelude.{ℕ, ◌-◌, Bool, List, map, length, take, Option, slice_get, position}
+use Rattle.std.specs.Prelude.{ℕ, ◌-◌, Bool, List, map, length, take, Option, position}
 use Rattle.std.specs.Prelude.{nat_eq}
 use Rattle.std.specs.List.{list_any}
 use Rattle.std.specs.Option.{unwrap_or}
@@ -9,8 +9,8 @@ use Rattle.rpp_tree.specs.Tree.{Procedure, Source}
 use Rattle.class_rules.specs.declared.method.MethodId.{MethodId}
 use Rattle.class_rules.specs.Rules.{class_names}
 use Rattle.class_rules.specs.Chains.{class_named, line_of}
-use Rattle.class_rules.specs.Members.{class_at, no_procedure, field_of}
-pub use Rattle.class_rules.specs.Members.{class_fields, class_slots}
+use Rattle.class_rules.specs.Members.{field_of}
+pub use Rattle.class_rules.specs.Members.{class_fields, class_slots, procedure_at}
 use Rattle.class_rules.specs.Overrides.{run_at}
 use Rattle.class_rules.specs.Mains.{mains, first_main}
 
@@ -31,15 +31,12 @@ method_slot program class name =
 abbrev pub dispatch : Source → ℕ → ℕ → MethodId
 dispatch program class slot = run_at (class_slots program class) slot
 
--- the text of a method
-abbrev pub procedure_at : Source → MethodId → Procedure
-procedure_at program id = unwrap_or (slice_get (class_at program id.class).methods id.method)
-    no_procedure
-
 -- the method of this name for an object of the class
 abbrev pub method_named : Source → ℕ → List ℕ → Procedure
 method_named program class name =
-    procedure_at program (dispatch program class (unwrap_or (method_slot program class name) 0))
+    let slots = class_slots program class in
+    let slot = position (bytes_eq name) (map (λ slot. slot.0) slots) in
+    procedure_at program (run_at slots (unwrap_or slot 0))
 
 -- the one method `main` without parameters
 abbrev pub main_of : Source → MethodId

@@ -89,9 +89,9 @@ type_of setting locals (Null at) = Ok kind.Nil
 type_of setting locals (Variable name) = variable_type setting locals name
 type_of setting locals (Element name index) =
     and_then (variable_type setting locals name)
-    (λ array. and_then (element_of name array)
+    (λ array. and_then (ok_or (element_kind array) (not_an_array name.at))
     (λ element. and_then (type_of setting locals index)
-    (index_is_int element (first_token index))))
+    (λ i. if is_int i then Ok element else Err (type_differs (first_token index)))))
 type_of setting locals (Binary at operator left right) =
     and_then (type_of setting locals left)
     (λ l. and_then (type_of setting locals right)

@@ -22,6 +22,11 @@ no_procedure = record { name = record { at = 0; text = [] }; params = []; body =
 abbrev pub class_at : Source → ℕ → ClassText
 class_at program number = unwrap_or (slice_get program.classes number) no_class
 
+-- the text of a method
+abbrev pub procedure_at : Source → MethodId → Procedure
+procedure_at program id = unwrap_or (slice_get (class_at program id.class).methods id.method)
+    no_procedure
+
 abbrev pub fields_along : Source → List ℕ → List Var
 fields_along program [] = []
 fields_along program (class ∷ below) = (class_at program class).fields ++ fields_along program below

@@ -12,12 +12,12 @@ use Rattle.class_rules.specs.Refusal.{Refusal, refused}
 use Rattle.class_rules.specs.First.{refused_if, first_in, first_after, first_at}
 use Rattle.class_rules.specs.Names.{has_name}
 use Rattle.class_rules.specs.Chains.{line_of}
-use Rattle.class_rules.specs.Members.{Slots, slots_along, class_at, no_procedure}
+use Rattle.class_rules.specs.Members.{Slots, slots_along, no_procedure, procedure_at}
 
--- 9: an earlier method of the same class has the name
 abbrev pub method_name : Procedure → List ℕ
 method_name method = method.name.text
 
+-- 9: an earlier method of the same class has the name
 abbrev pub method_taken : List Procedure → Procedure → Option Refusal
 method_taken before method = refused_if (has_name (map method_name before) method.name.text)
     (refused 9 method.name.at)
@@ -48,7 +48,7 @@ abbrev pub parameters_in : List Procedure → ℕ → List Var
 parameters_in methods number = (unwrap_or (slice_get methods number) no_procedure).params
 
 abbrev pub parameters_of : Source → MethodId → List Var
-parameters_of program runs = parameters_in (class_at program runs.class).methods runs.method
+parameters_of program runs = (procedure_at program runs).params
 
 abbrev pub no_method : MethodId
 no_method = record { class = 0; method = 0 }

@@ -3,7 +3,8 @@ use Rattle.std.specs.Prelude.{◌≡◌, ℕ, ◌+◌, not, List, [], ◌∷◌,
 use Rattle.rpp_tree.specs.declared.tree.Var.{Var}
 use Rattle.rpp_tree.specs.Tree.{Procedure, ClassText, Source}
 use Rattle.rpp_tree.specs.Limits.{IsWithinLimits}
-use Rattle.class_rules.specs.Members.{has_field}
+use Rattle.class_rules.specs.Names.{has_name}
+use Rattle.class_rules.specs.Members.{field_name}
 use Rattle.class_rules.specs.Table.{Table, table_of, HasClassTable}
 use Rattle.class_rules.specs.Refusal.{redeclared}
 use Rattle.class_rules.specs.Scope.{Typing, Locals}
@@ -12,7 +13,8 @@ use Rattle.class_rules.specs.Statements.{each_passes_after, with_local, check_st
 
 -- 14: an earlier parameter has the name
 abbrev pub parameter_new : List Var → Var → Verdict
-parameter_new before var = required (not (has_field before var.name.text)) (redeclared var.name.at)
+parameter_new before var = required (not (has_name (map field_name before) var.name.text))
+    (redeclared var.name.at)
 
 abbrev pub with_parameters : Typing → Locals → List Var → Locals
 with_parameters setting locals [] = locals

@@ -6,7 +6,8 @@ use Rattle.rpp_tree.specs.declared.tree.Var.{Var}
 use Rattle.rpp_tree.specs.declared.tree.VarType.{VarType}
 use Rattle.rpp_tree.specs.declared.tree.VarType.TheVariants as type
 use Rattle.rpp_tree.specs.Tree.{Source}
-use Rattle.class_rules.specs.Table.{Table, class_of, fields_in, field_in}
+use Rattle.class_rules.specs.Members.{field_of}
+use Rattle.class_rules.specs.Table.{Table, class_of, fields_in}
 use Rattle.class_rules.specs.declared.kind.Kind.{Kind}
 use Rattle.class_rules.specs.declared.kind.Kind.TheVariants as kind
 
@@ -55,7 +56,8 @@ kind_at table class number =
 
 -- the type of the field of the name
 abbrev pub field_kind : Table → ℕ → List ℕ → Option Kind
-field_kind table class name = option_map (kind_at table class) (field_in table class name)
+field_kind table class name = option_map (kind_at table class)
+    (field_of (fields_in table class) name)
 
 -- the innermost parameter or local of the name, else the field
 abbrev pub kind_in : Typing → Locals → List ℕ → Option Kind

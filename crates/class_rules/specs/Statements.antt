@@ -12,8 +12,8 @@ use Rattle.rpp_tree.specs.Tree.{Expression, Null, Lvalue, Whole, Item, Creation,
 use Rattle.rpp_tree.specs.Tree.{Objects, Statement, Statements, Update, Swap, If, From, Construct}
 use Rattle.rpp_tree.specs.Tree.{Local, New, Delete, Copy, Uncopy, Call, Skip, End, Then}
 use Rattle.rpp_tree.specs.Places.{place_name}
-use Rattle.class_rules.specs.Overrides.{is_type_int, same_type, parameters_of}
-use Rattle.class_rules.specs.Table.{Table, class_of, slot_in, dispatch_in, inherits_in}
+use Rattle.class_rules.specs.Overrides.{is_type_int, same_type, parameters_of, run_at}
+use Rattle.class_rules.specs.Table.{Table, class_of, slots_in, slot_in, inherits_in}
 use Rattle.class_rules.specs.Refusal.{Refusal, unknown_name, redeclared, type_differs, self_update}
 use Rattle.class_rules.specs.Refusal.{same_argument, field_argument, wrong_arity}
 use Rattle.class_rules.specs.Refusal.{local_in_own_expression, not_class_type}
@@ -258,7 +258,7 @@ abbrev pub slot_rules : Typing → Locals → ℕ → Option Lvalue → Ident �
     → Verdict
 slot_rules setting locals at receiver method arguments class None = Err (unknown_name method.at)
 slot_rules setting locals at receiver method arguments class (Some slot) =
-    let parameters = parameters_of setting.program (dispatch_in setting.table class slot) in
+    let parameters = parameters_of setting.program (run_at (slots_in setting.table class) slot) in
     in_turn (each_passes (argument_known setting locals (is_none receiver) at) arguments)
     (in_turn (each_passes_after argument_new (plain_receiver receiver) arguments)
     (in_turn (required (nat_eq (length arguments) (length parameters)) (wrong_arity method.at))

@@ -312,7 +312,7 @@ module _ (setting : Setting) (statics : List ℕ) where
         put_by = replicate FIRST_VARIABLE 0;
       } in
       let L : Placing → List ℕ = λ at. Rattle.method_calls.specs.roopl_semantics.Layout.laid setting.program
-          setting.limits statics st.store at (replicate (FRAME_WORDS * setting.limits.deep) 0) in
+      setting.limits statics st.store at (replicate (FRAME_WORDS * setting.limits.deep) 0) in
       let zeros : filled_to setting statics N (stack_words setting statics h.at u [] []) ≡ replicate N 0 =
       (let z : FRAME_WORDS ≤ N = omega (arith, deep) in fill_more N [] FRAME_WORDS z
       ∙ (let y : N - 0 ≡ N = omega arith in ap (λ j. replicate j 0) y)) in

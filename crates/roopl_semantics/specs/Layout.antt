@@ -25,10 +25,12 @@ use Rattle.code_conventions.specs.declared.memory.TheConstants.{HEADER_WORDS, TA
 abbrev pub table_length : Source → ℕ → ℕ
 table_length program class = TABLE_HEADER + length (class_slots program class)
 
--- the address of a class's table: after the main object and the tables of the classes before it
+-- the address of a class's table: after the main object and the tables of the classes before it; a
+-- table has the number of its class, and a code address for each method slot
 abbrev pub table_at : Source → ℕ → ℕ
 table_at program zero = statics_at + HEADER_WORDS + length (main_fields program)
-table_at program (suc class) = table_at program class + table_length program class
+table_at program (suc class) =
+    table_at program class + (TABLE_HEADER + length (class_slots program class))
 
 -- the addresses of the tables, in the order of the classes
 abbrev pub table_addresses : Source → List ℕ

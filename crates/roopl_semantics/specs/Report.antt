@@ -113,6 +113,8 @@ objects_shown program store =
 abbrev pub live_count : Store → ℕ
 live_count store = length store - 1
 
--- the report of a store
+-- the report of a store: its last line says how many objects and arrays are live except the main
+-- object
 abbrev pub report : Source → Store → Text
-report program store = objects_shown program store ++ live_line (live_count store)
+report program store = objects_shown program store
+    ++ (codes "live " ++ decimal (length store - 1) ++ line_end)

@@ -36,7 +36,8 @@ names_field field input = list_any (λ entry. nat_eq entry.field field) input
 -- whether no field is named twice
 abbrev pub names_none_twice : List FieldWord → Bool
 names_none_twice [] = true
-names_none_twice (entry ∷ input) = not (names_field entry.field input) && names_none_twice input
+names_none_twice (entry ∷ input) = not (list_any (λ other. nat_eq other.field entry.field) input)
+    && names_none_twice input
 
 -- an input that the program can be run on: words for int fields of the main class, for none twice
 pub record IsValid (program : Source) (input : List FieldWord) : Type 0 where
@@ -75,8 +76,8 @@ within fuel More = More
 -- the program's run with this fuel
 abbrev pub source : Source → Limits → List FieldWord → ℕ → Run State
 source program limits input fuel =
-    within fuel (exec (record { program = program; limits = limits }) fuel (main_body program)
-    (starting program input))
+    within fuel (exec (record { program = program; limits = limits }) fuel
+    (procedure_at program (main_of program)).body (starting program input))
 
 -- the source gives this state: the run is done with it for some fuel
 pub record GivesDone (program : Source) (limits : Limits) (input : List FieldWord)

@@ -109,7 +109,8 @@ names_ascii program accepted = record { fields = fields; classes = λ class. asc
       where
         by : (b : Bool) → nat_lt class (length program.classes) ≡ b
             → All HasAsciiName (fields_in (table_of program) class)
-        by true e = subst (All HasAsciiName) (sym (each_below-get (class_fields program) (length program.classes) class []
+        by true e = subst (All HasAsciiName) (sym (each_below-get (class_fields program) (length program.classes) class
+            []
             (ltb-true class (length program.classes) e))) (ascii_class_fields program class accepted)
         by false e =
             let past = ltb-false class (length program.classes) e in
