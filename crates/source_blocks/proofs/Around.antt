@@ -1,5 +1,5 @@
 -- A run that turns round: what is past is to come, undone.
-use Rattle.std.proofs.Common.{◌≡◌, ◌<◌, ℕ, zero, suc, ◌+◌, refl, sym, ap, ap₂, subst, ◌∙◌, arith, true}
+use Rattle.std.proofs.Common.{◌≡◌, ◌<◌, ℕ, zero, suc, ◌+◌, refl, sym, ap, ap₂, subst, ◌∙◌, arith, Bool, true}
 use Rattle.std.proofs.Common.{not, List, [], ◌∷◌, ◌++◌, map, reverse, length, All, set, get_or, take, drop, append-nil}
 use Rattle.std.proofs.lemmas.List.{reverse-append, take_all, drop_all}
 use Rattle.rpp_tree.specs.declared.tree.Ident.{Ident}
@@ -7,7 +7,7 @@ use Rattle.rpp_tree.specs.Tree.{Whole, Object as AnObject, Statements, Delete, E
 use Rattle.rpp_tree.specs.Views.{expression_of, block_of}
 use Rattle.source_steps.specs.inverse_rules.Inverse.{inverse}
 use Rattle.source_steps.proofs.inverse_rules_laws.Inverses.{inverse-joined}
-use Rattle.source_steps.specs.roopl_semantics.Execution.{constructed}
+use Rattle.source_steps.specs.roopl_semantics.Execution.{in_direction, constructed}
 use Rattle.source_steps.specs.meaning_machine.Machine.{Config, Open, Part as Runs, First, Again}
 use Rattle.source_steps.specs.meaning_machine.Turned.{each_undone, turned_open, turned_part, turn}
 use Rattle.source_blocks.specs.declared.frames.Frame.{Frame}
@@ -22,6 +22,11 @@ use Rattle.source_blocks.proofs.Blocks.{rest_here, rest_end, count_inverse, at_i
 use Rattle.source_steps.proofs.roopl_semantics_laws.Changed.{direction_undone}
 
 -- ---- blocks that are undone
+
+-- a tactic takes lemmas of its own crate alone
+pub body_undone : (back : Bool) (body : Statements)
+    → in_direction (not back) body ≡ inverse (in_direction back body)
+body_undone back body = direction_undone back body
 
 pub made_undone : (at : ℕ) (class name : Ident) (body : Statements)
     → inverse (constructed at class name body) ≡ constructed at class name (inverse body)

@@ -162,7 +162,7 @@ pub fn count_in(task: &Task) -> usize
 }
 
 /// A block that runs, undone.
-#[tactic(auto, using(crate::proofs::Around::direction_undone, crate::proofs::Around::made_undone))]
+#[tactic(auto, using(crate::proofs::Around::body_undone, crate::proofs::Around::made_undone))]
 pub fn undone_task<'a>(task: &Task<'a>) -> Task<'a>
     ensures { task_of result ≡ inverse (task_of task.now) }
 {
