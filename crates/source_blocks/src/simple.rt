@@ -19,6 +19,7 @@ use source_steps::{
 use source_store::{Heap, Value};
 
 /// A simple statement of the text, as it stands.
+#[inline(always)]
 fn do_statement(
     setting: &Setting,
     scope: &Scope,
@@ -79,6 +80,7 @@ fn do_statement(
 }
 
 /// A simple statement of the text, undone.
+#[inline(never)]
 fn undo_statement(
     setting: &Setting,
     scope: &Scope,
@@ -149,6 +151,7 @@ fn undo_statement(
 }
 
 /// A simple statement of the text, as it stands or undone.
+#[inline(always)]
 pub fn carry_out(run: &mut Run, fuel: &mut u64, s: &Stmt, back: bool) -> Result<(), Stop>
     requires sound { IsSound run.old }
     requires simple { IsSimple (turned back (statement_of s.now)) }

@@ -166,6 +166,7 @@ impl<'a> Execution<'a> {
 
     /// A step of the run: one of the machine of the semantics, if it is not aborted. Running out of
     /// fuel or memory aborts the run. A fault leaves it where it was.
+    #[inline(always)]
     pub fn step(&mut self, fuel: &mut u64) -> Result<(), Stop>
         requires whole { self.old.broken ≡ false }
         ensures gives { Gives (λ u. config_at self.new) result fuel.new
@@ -253,6 +254,7 @@ impl<'a> Execution<'a> {
     }
 
     /// The place of the statement that begins, if one does.
+    #[inline(always)]
     pub fn place(&self) -> Option<u32>
         ensures { result ≡ next_place (config_at self.now).rest }
     {

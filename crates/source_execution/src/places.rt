@@ -6,6 +6,7 @@ ghost use Rattle.source_execution.specs.Standing.{next_place};
 use source_checks::{Run, place_at};
 
 /// The offset of the statement that begins in a run, if one does.
+#[inline(always)]
 pub fn run_place(run: &Run) -> Option<u32>
     ensures { result ≡ next_place (config_of run.now).rest }
 {

@@ -212,6 +212,7 @@ fn begin_simple<'a>(run: &mut Run<'a>, fuel: &mut u64, line: &Line<'a>) -> Resul
 }
 
 /// A simple statement of the text begins, and is past.
+#[inline(always)]
 pub fn begin_plain(run: &mut Run, fuel: &mut u64, s: &Stmt, back: bool) -> Result<(), Stop>
     requires sound { IsSound run.old }
     requires within { run.old.at < count_of (task_of run.old.task) }

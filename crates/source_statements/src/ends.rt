@@ -136,6 +136,7 @@ fn close_variable(run: &mut Run)
 
 /// The block of a local variable ends: its value is compared with the closing one, and it goes. If
 /// no local variable is in scope, that is refused as `Full`.
+#[inline(never)]
 fn end_local(run: &mut Run, fuel: &mut u64, local: &Local) -> Result<(), Stop>
     requires sound { IsSound run.old }
     requires within { HasPart (config_of run.old).around (part_of (Part.Holding local.now)) }
@@ -263,6 +264,7 @@ fn caller_setting<'a>(setting: &Setting<'a>, caller: &Caller) -> Setting<'a>
 
 /// A method ends: the values move back, and its caller goes on. If one finds its cell written, the
 /// method stays active.
+#[inline(never)]
 fn end_call(run: &mut Run, fuel: &mut u64) -> Result<(), Stop>
     requires sound { IsSound run.old }
     requires within { IsInCall (config_of run.old).around }

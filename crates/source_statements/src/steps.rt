@@ -97,6 +97,7 @@ fn is_simple(s: &Stmt) -> bool
 }
 
 /// A statement of the text begins, as it stands or undone.
+#[inline(always)]
 fn begin_text<'a>(run: &mut Run<'a>, fuel: &mut u64, s: &'a Stmt, undone: bool) -> Result<(), Stop>
     requires sound { IsSound run.old }
     requires within { run.old.at < count_of (task_of run.old.task) }
@@ -124,6 +125,7 @@ fn begin_text<'a>(run: &mut Run<'a>, fuel: &mut u64, s: &'a Stmt, undone: bool) 
 }
 
 /// A statement of the text begins, whether the run is reversed or not.
+#[inline(always)]
 fn begin_written<'a>(
     run: &mut Run<'a>,
     fuel: &mut u64,
@@ -231,8 +233,6 @@ pub fn step<'a>(run: &mut Run<'a>, fuel: &mut u64, back: bool) -> Result<(), Sto
             block,
             back: undone,
         } => step_text(run, fuel, block, undone, back),
-        Task::Nothing => step_line(run, fuel, back),
-        Task::Made(_made) => step_line(run, fuel, back),
-        Task::Exchange { .. } => step_line(run, fuel, back),
+        _ => step_line(run, fuel, back),
     }
 }
