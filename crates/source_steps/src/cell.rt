@@ -6,7 +6,7 @@ ghost use Rattle.source_store.specs.roopl_semantics.Store.{Nil, class_of_head, o
 ghost use Rattle.source_store.specs.roopl_semantics.Value.{read, written, cell_named, value_at, variable_value};
 ghost use Rattle.source_store.specs.class_rules.Members.{field_of};
 ghost use Rattle.source_store.specs.class_rules.Table.{field_in as field_in_table};
-ghost use Rattle.source_store.specs.ValueView.{value_of, values_of};
+ghost use Rattle.source_store.specs.ValueView.{value_of, values_of, object_of};
 ghost use Rattle.source_steps.specs.CellView.{cell_of};
 ghost use Rattle.source_steps.specs.StateView.{IsFramed, names_of, frame_of, state_of, setting_of};
 
@@ -14,7 +14,7 @@ use crate::expressions::Setting;
 use crate::scope::{Scope, slot, var_slot};
 use class_table::ClassTable;
 use rpp_tree::Text;
-use source_store::{Heap, Value};
+use source_store::{Heap, Object, Value};
 
 /// What can be read and changed: a variable of the frame, or a field or element.
 #[derive(Clone, Copy, Debug, PartialEq, Eq)]
@@ -89,7 +89,7 @@ fn field_in(table: &ClassTable, class: u32, name: &Text) -> Option<usize>
 }
 
 /// The number of a field of the current object.
-#[inline(always)]
+#[inline(never)]
 fn field_number(setting: &Setting, heap: &Heap, name: &Text) -> usize
     ensures { result ≡ unwrap_or
         (field_of (class_fields (setting_of setting.now).program
@@ -99,6 +99,68 @@ fn field_number(setting: &Setting, heap: &Heap, name: &Text) -> usize
     match field_in(setting.checked.table(), class, name) {
         None => 0,
         Some(number) => number,
+    }
+}
+
+/// The number of the field of this name of an object, or 0.
+#[inline(always)]
+fn number_in(setting: &Setting, object: &Object, name: &Text) -> usize
+    ensures { result ≡ unwrap_or
+        (field_of (class_fields (setting_of setting.now).program
+        (class_of_head (object_of object.now).head)) name.now) 0 }
+{
+    let class = object.head.class();
+    match field_in(setting.checked.table(), class, name) {
+        None => 0,
+        Some(number) => number,
+    }
+}
+
+/// The number of a field of the current object, with its value.
+#[inline(always)]
+fn own_field(setting: &Setting, heap: &Heap, name: &Text) -> (usize, Value)
+    ensures number { result.0 ≡ unwrap_or
+        (field_of (class_fields (setting_of setting.now).program
+        (class_of_head (object_at (heap.now.store) setting.now.object).head)) name.now) 0 }
+    ensures value { value_of result.1 ≡ unwrap_or
+        (slice_get (object_at (heap.now.store) setting.now.object).cells result.0) Nil }
+{
+    match heap.object(setting.object) {
+        None => (field_number(setting, heap, name), Value::Nil),
+        Some(object) => {
+            let number = number_in(setting, object, name);
+            (number, cell_in(&object.cells, number))
+        }
+    }
+}
+
+/// What a name means, with its value.
+#[inline(always)]
+pub fn cell_and_value(
+    setting: &Setting,
+    scope: &Scope,
+    heap: &Heap,
+    values: &[Value],
+    name: &Text,
+) -> (Cell, Value)
+    requires { IsFramed setting.now scope.now heap.now values.now }
+    ensures cell { cell_of result.0 ≡ cell_named (setting_of setting.now).program
+        (state_of setting.now scope.now heap.now values.now) name.now }
+    ensures value { value_of result.1 ≡ read
+        (state_of setting.now scope.now heap.now values.now) (cell_of result.0) }
+{
+    match slot(scope, values, name) {
+        Some(index) => (Cell::Slot(index), value_of_slot(scope, values, index)),
+        None => {
+            let (index, value) = own_field(setting, heap, name);
+            (
+                Cell::Part {
+                    name: setting.object,
+                    index,
+                },
+                value,
+            )
+        }
     }
 }
 
@@ -158,6 +220,6 @@ pub fn variable(
     ensures { value_of result ≡ variable_value (setting_of setting.now).program
         (state_of setting.now scope.now heap.now values.now) name.now }
 {
-    let cell = cell_of_name(setting, scope, heap, values, name);
-    read_cell(setting, scope, heap, values, cell)
+    let (_cell, value) = cell_and_value(setting, scope, heap, values, name);
+    value
 }

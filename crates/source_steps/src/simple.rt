@@ -1,6 +1,6 @@
 // Statements that hold no others, except for calls and the heap.
 ghost use Rattle.std.specs.Prelude.{◌≡◌, ◌≤◌, OnOk, IfErr};
-ghost use Rattle.rpp_tree.specs.Tree.{Update, Swap};
+ghost use Rattle.rpp_tree.specs.Tree.{Update, Swap, Whole};
 ghost use Rattle.rpp_tree.specs.Views.{expression_of, lvalue_of};
 ghost use Rattle.source_store.specs.inverse_rules.Inverse.{inverse_operator, call_direction};
 ghost use Rattle.source_store.specs.roopl_semantics.Operators.{updated};
@@ -9,12 +9,12 @@ ghost use Rattle.source_steps.specs.Metered.{IsOwn, OnFault};
 ghost use Rattle.source_steps.specs.StateView.{IsFramed, state_of, setting_of};
 
 use crate::apart::{swap_apart, update_apart};
-use crate::cell::{read_cell, write_cell};
+use crate::cell::{cell_and_value, read_cell, write_cell};
 use crate::expressions::Setting;
 use crate::scope::Scope;
-use crate::steps::{evaluate, locate};
+use crate::steps::{evaluate, locate, operand};
 use crate::stop::Stop;
-use rpp_tree::tree::{Expr, Place, UpdateOp};
+use rpp_tree::tree::{Expr, Ident, Place, UpdateOp};
 use rpp_words::{wrap_add, wrap_sub};
 use source_store::{Heap, Value};
 
@@ -28,8 +28,38 @@ fn update_word(op: UpdateOp, a: u32, b: u32) -> u32
     }
 }
 
-/// An update.
-pub fn update(
+/// An update of a variable or a field.
+#[inline(always)]
+fn update_variable(
+    setting: &Setting,
+    scope: &Scope,
+    heap: &mut Heap,
+    values: &mut Vec<Value>,
+    fuel: &mut u64,
+    at: u32,
+    op: UpdateOp,
+    name: &Ident,
+    e: &Expr,
+) -> Result<(), Stop>
+    requires { IsFramed setting.now scope.now heap.old values.old.items }
+    ensures ends { Ends setting.now scope.now result heap.new values.new.items fuel.new
+        (does_simply setting.now fuel.old (Update at op (Whole name.now) (expression_of e.now))
+        (state_of setting.now scope.now heap.old values.old.items)) }
+    ensures framed { OnOk result (IsFramed setting.now scope.now heap.new values.new.items) }
+    ensures stays { OnFault result ((heap.new ≡ heap.old) × (values.new ≡ values.old)) }
+    ensures less { fuel.new ≤ fuel.old }
+    ensures own { IfErr result IsOwn }
+{
+    let (cell, old) = cell_and_value(setting, scope, heap, values, &name.text);
+    let value = operand(setting, scope, heap, values, fuel, e)?;
+    let word = update_word(op, old.number(), value.number());
+    write_cell(setting, scope, heap, values, cell, Value::Word(word));
+    Ok(())
+}
+
+/// An update of an element.
+#[inline(never)]
+fn update_element(
     setting: &Setting,
     scope: &Scope,
     heap: &mut Heap,
@@ -56,6 +86,33 @@ pub fn update(
     let word = update_word(op, old.number(), value.number());
     write_cell(setting, scope, heap, values, cell, Value::Word(word));
     Ok(())
+}
+
+/// An update.
+pub fn update(
+    setting: &Setting,
+    scope: &Scope,
+    heap: &mut Heap,
+    values: &mut Vec<Value>,
+    fuel: &mut u64,
+    at: u32,
+    op: UpdateOp,
+    place: &Place,
+    e: &Expr,
+) -> Result<(), Stop>
+    requires { IsFramed setting.now scope.now heap.old values.old.items }
+    ensures ends { Ends setting.now scope.now result heap.new values.new.items fuel.new
+        (does_simply setting.now fuel.old (Update at op (lvalue_of place.now) (expression_of e.now))
+        (state_of setting.now scope.now heap.old values.old.items)) }
+    ensures framed { OnOk result (IsFramed setting.now scope.now heap.new values.new.items) }
+    ensures stays { OnFault result ((heap.new ≡ heap.old) × (values.new ≡ values.old)) }
+    ensures less { fuel.new ≤ fuel.old }
+    ensures own { IfErr result IsOwn }
+{
+    match &place.index {
+        None => update_variable(setting, scope, heap, values, fuel, at, op, &place.name, e),
+        Some(_index) => update_element(setting, scope, heap, values, fuel, at, op, place, e),
+    }
 }
 
 /// A swap.

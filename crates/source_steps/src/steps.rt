@@ -114,6 +114,7 @@ fn evaluate_whole(
 }
 
 /// The value of an expression, after the cost of its nodes.
+#[inline(never)]
 pub fn evaluate(
     setting: &Setting,
     scope: &Scope,
@@ -167,6 +168,38 @@ fn locate_element(
                 Err(fault) => Err(Stop::Fault(fault)),
             }
         }
+    }
+}
+
+/// The value of an expression, after the cost of its nodes. A literal needs no call.
+#[inline(always)]
+pub fn operand(
+    setting: &Setting,
+    scope: &Scope,
+    heap: &Heap,
+    values: &Vec<Value>,
+    fuel: &mut u64,
+    e: &Expr,
+) -> Result<Value, Stop>
+    requires { IsFramed setting.now scope.now heap.now values.now.items }
+    ensures gives { Gives value_of result fuel.new
+        (metered fuel.old (evaluated_in (setting_of setting.now).program (expression_of e.now)
+        (state_of setting.now scope.now heap.now values.now.items))) }
+    ensures less { fuel.new ≤ fuel.old }
+    ensures some { IfOk result (λ value. fuel.new < fuel.old) }
+    ensures own { IfErr result IsOwn }
+{
+    match e {
+        Expr::Number { word, .. } => match one_less(*fuel) {
+            None => Err(Stop::More),
+            Some(left) => {
+                *fuel = left;
+                Ok(Value::Word(*word))
+            }
+        },
+        Expr::Nil { .. } => evaluate(setting, scope, heap, values, fuel, e),
+        Expr::Read(_place) => evaluate(setting, scope, heap, values, fuel, e),
+        Expr::Binary { .. } => evaluate(setting, scope, heap, values, fuel, e),
     }
 }
 
