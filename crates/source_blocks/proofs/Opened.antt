@@ -1,10 +1,10 @@
 -- Blocks that are opened and closed, as the machine sees them.
-use Rattle.std.proofs.Common.{◌≡◌, ◌<◌, ℕ, zero, suc, ◌+◌, refl, sym, ap, subst, ◌∙◌, arith, List, [], ◌∷◌, ◌++◌, map}
-use Rattle.std.proofs.Common.{reverse, length, All, Some}
+use Rattle.std.proofs.Common.{◌≡◌, ◌<◌, ℕ, zero, suc, ◌+◌, refl, sym, ap, ap₂, subst, ◌∙◌, arith, List, [], ◌∷◌, ◌++◌, map}
+use Rattle.std.proofs.Common.{reverse, length, All, Some, Bool}
 use Rattle.std.proofs.lemmas.List.{reverse-append, length-append, length-map, length-reverse}
 use Rattle.std.specs.Prelude.{slice_get, slice_set}
 use Rattle.std.proofs.lemmas.List.Elements.{All-push, All-pop}
-use Rattle.rpp_tree.specs.Tree.{End}
+use Rattle.rpp_tree.specs.Tree.{Statements, End}
 use Rattle.source_steps.specs.meaning_machine.Machine.{Config, Open, Part as Runs, past_it, inside}
 use Rattle.source_blocks.specs.declared.task.Task.{Task}
 use Rattle.source_blocks.specs.declared.frames.Part.{Part}
@@ -13,7 +13,8 @@ use Rattle.source_blocks.specs.declared.run.Run.{Run}
 use Rattle.source_blocks.specs.Blocks.{count_of}
 use Rattle.source_blocks.specs.Tasks.{task_of}
 use Rattle.source_blocks.specs.Opens.{open_of, part_of, IsOpen, HasPart}
-use Rattle.source_blocks.specs.Runs.{IsSound, config_of, state_in, here_in, rest_in, leaving, going_on}
+use Rattle.source_blocks.specs.Turns.{loop_part, gone_over, Changed}
+use Rattle.source_blocks.specs.Runs.{IsSound, config_of, state_in, here_in, rest_in, leaving}
 
 -- one more open statement is the innermost
 pub around_more : (frames : List Frame) (frame : Frame)
@@ -55,7 +56,12 @@ module _ (run new : Run) where
 
 pub passed_sound : (run : Run) (next : ℕ) → next ≡ run.at + 1 → run.at < count_of (task_of run.task) → IsSound run
     → IsSound (record run { at = next })
-passed_sound run next e h s = record { each = s.each; order = s.order; opens = s.opens; within = omega arith }
+passed_sound run next e h s = record {
+  each = s.each;
+  order = s.order;
+  opens = s.opens;
+  within = omega arith;
+}
 
 module _ (run new : Run) (frame : Frame) where
   pub opened_sound : (task : Task) → new ≡ record run { task = task; at = 0; frames = new.frames }
@@ -80,35 +86,34 @@ module _ (run new : Run) (frame : Frame) where
     within = omega arith;
   })
 
--- the innermost open statement goes on in another part
-module _ (run new : Run) (frame next : Frame) (front : List Frame) (f : run.frames.items ≡ front ++ frame ∷ [])
-    (g : new.frames.items ≡ front ++ next ∷ []) where
-  pub turned_is : (part : Part) (task : Task) → next ≡ record frame { part = part }
-      → new ≡ record run { task = task; at = 0; frames = new.frames }
-      → config_of new ≡ going_on (config_of run) (part_of part) (task_of task) (config_of run).around
-  turned_is part task n e =
-      let outer : (config_of run).around ≡ open_of frame ∷ map open_of (reverse front) =
-      ap (λ frames. map open_of (reverse frames)) f ∙ around_more front frame in
-      let inner : (config_of new).around ≡ open_of (record frame { part = part }) ∷ map open_of (reverse front) =
-      ap (λ frames. map open_of (reverse frames)) g ∙ around_more front next
-      ∙ ap (λ o. open_of o ∷ map open_of (reverse front)) n in
-      let build : List Open → Config = λ around. record {
+-- the innermost open statement goes on in a part of its iteration
+module _ (run new : Run) (second : Bool) (task : Task)
+    (h : Changed second run.frames.items new.frames.items (task_of task))
+    (e : new ≡ record run { task = task; at = 0; frames = new.frames }) where
+  pub over_is : config_of new ≡ gone_over second (config_of run) (config_of run).around
+  over_is =
+      let outer : (config_of run).around ≡ open_of h.first ∷ map open_of (reverse h.front) =
+      ap (λ frames. map open_of (reverse frames)) h.was ∙ around_more h.front h.first in
+      let changed : Open = record (open_of h.first) { part = loop_part second (part_of h.first.part) } in
+      let inner : (config_of new).around ≡ changed ∷ map open_of (reverse h.front) =
+      ap (λ frames. map open_of (reverse frames)) h.is ∙ around_more h.front h.last
+      ∙ ap (λ o. o ∷ map open_of (reverse h.front)) h.turned in
+      let build : List Open → Statements → Config = λ around body. record {
         past = End;
-        rest = task_of task;
+        rest = body;
         params = length run.params.now;
         state = state_in run;
         around = around;
       } in
-      ap config_of e ∙ ap build inner ∙ sym (ap (going_on (config_of run) (part_of part) (task_of task)) outer)
+      ap config_of e ∙ ap₂ build inner h.task ∙ sym (ap (gone_over second (config_of run)) outer)
 
-  pub turned_sound : (task : Task) → new ≡ record run { task = task; at = 0; frames = new.frames } → IsSound run
-      → IsOpen next → IsSound new
-  turned_sound task e s o =
-      let all : All IsOpen front = (All-pop IsOpen run.frames.items front (Some frame) f s.opens).0 in
+  pub over_sound : IsSound run → IsSound new
+  over_sound s =
+      let all = All-pop IsOpen run.frames.items h.front (Some h.first) h.was s.opens in
       subst IsSound (sym e) (record {
         each = s.each;
         order = s.order;
-        opens = subst (All IsOpen) (sym g) (All-push IsOpen front next all o);
+        opens = subst (All IsOpen) (sym h.is) (All-push IsOpen h.front h.last all.0 (h.opens all.1));
         within = omega arith;
       })
 
@@ -141,18 +146,23 @@ some_last (x ∷ (y ∷ xs)) h =
     let rest : Ends (y ∷ xs) = some_last (y ∷ xs) (omega arith) in
     record { front = x ∷ rest.front; last = rest.last; is = ap (λ l. x ∷ l) rest.is }
 
--- the last of the open statements runs in another part
-pub part_set : (items front : List Frame) (frame old next : Frame) (part : Part) (last : ℕ)
-    → items ≡ front ++ frame ∷ [] → length items ≡ suc last → slice_get items last ≡ Some old
-    → next ≡ record old { part = part } → slice_set items last next ≡ front ++ record frame { part = part } ∷ []
-part_set items front frame old next part last f l g n =
+-- the last of the open statements changes
+pub last_set : (items front : List Frame) (frame next : Frame) (last : ℕ) → items ≡ front ++ frame ∷ []
+    → length items ≡ suc last → slice_set items last next ≡ front ++ next ∷ []
+last_set items front frame next last f l =
     let many : length items ≡ length front + 1 =
     ap (λ (l : List Frame). length l) f ∙ length-append front (frame ∷ []) in
     let at : last ≡ length front = omega arith in
-    let same : frame ≡ old =
-    last_read front frame old last at (sym (ap (λ (l : List Frame). slice_get l last) f) ∙ g) in
     ap (λ (l : List Frame). slice_set l last next) f ∙ last_changed front frame next last at
-    ∙ ap (λ (k : Frame). front ++ k ∷ []) (n ∙ ap (λ (o : Frame). record o { part = part }) (sym same))
+
+-- it is the one that is read there
+pub last_same : (items front : List Frame) (frame old : Frame) (last : ℕ) → items ≡ front ++ frame ∷ []
+    → length items ≡ suc last → slice_get items last ≡ Some old → frame ≡ old
+last_same items front frame old last f l g =
+    let many : length items ≡ length front + 1 =
+    ap (λ (l : List Frame). length l) f ∙ length-append front (frame ∷ []) in
+    let at : last ≡ length front = omega arith in
+    last_read front frame old last at (sym (ap (λ (l : List Frame). slice_get l last) f) ∙ g)
 
 -- the part of the innermost open statement
 abbrev pub in_front : (run : Run) (front : List Frame) (frame : Frame) → run.frames.items ≡ front ++ frame ∷ []

@@ -10,6 +10,7 @@ pub use Rattle.source_steps.specs as source_steps
 pub mod Blocks
 pub mod Tasks
 pub mod Opens
+pub mod Turns
 pub mod Runs
 pub mod Endings
 pub mod Requests

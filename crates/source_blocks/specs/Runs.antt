@@ -5,7 +5,7 @@ use Rattle.std.specs.Prelude.{Some, None}
 use Rattle.rpp_tree.specs.Tree.{Statement, Statements, Update, Swap, New, Delete, Copy, Uncopy}
 use Rattle.rpp_tree.specs.Tree.{Skip}
 use Rattle.source_steps.specs.roopl_semantics.Store.{State}
-use Rattle.source_steps.specs.meaning_machine.Machine.{Config, Open, Part, left, turned_to}
+use Rattle.source_steps.specs.meaning_machine.Machine.{Config, Open, left}
 use Rattle.source_steps.specs.source_store.ValueView.{values_of}
 use Rattle.source_steps.specs.StateView.{bindings}
 use Rattle.source_steps.specs.roopl_semantics.Value.{Cell}
@@ -79,8 +79,3 @@ IsSimple _ = ⊥
 abbrev pub leaving : Config → List Open → Config
 leaving x [] = x
 leaving x (o ∷ around) = left o around x.params x.state
-
--- the innermost open statement goes on in this part, if one is open
-abbrev pub going_on : Config → Part → Statements → List Open → Config
-going_on x part body [] = x
-going_on x part body (o ∷ around) = turned_to x o around part body

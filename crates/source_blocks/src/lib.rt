@@ -17,7 +17,7 @@ mod values;
 pub use ending::{Ending, block_ending, innermost};
 pub use frames::{Caller, Closing, Frame, Local, Loop, Part, Receiver};
 pub use requests::{is_request, take_line_back};
-pub use run::{Run, close_block, open_block, pass, scope_of, turn, turn_to};
+pub use run::{Run, close_block, go_over, open_block, pass, scope_of, turn};
 pub use simple::{carry_line, carry_out};
 pub use task::{Calls, Construct, Line, Task, line_at, statement_in};
 pub use values::{closing_value, value_in};

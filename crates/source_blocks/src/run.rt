@@ -1,13 +1,13 @@
 // The position of a run, and its moves between blocks.
 ghost use Rattle.std.specs.Prelude.{◌≡◌, ◌+◌, ◌<◌, ◌≤◌, ◌^◌, List, ◌∷◌, ◌++◌, [], suc, map, length, OnOk, OnErr, IfErr, MatchResult};
-ghost use Rattle.source_steps.specs.meaning_machine.Machine.{past_it, inside, turned_to};
+ghost use Rattle.source_steps.specs.meaning_machine.Machine.{past_it, inside};
 ghost use Rattle.source_steps.specs.meaning_machine.Turned.{turn as turned_round};
 ghost use Rattle.source_steps.specs.StateView.{names_of};
 ghost use Rattle.source_blocks.specs.Blocks.{count_of};
 ghost use Rattle.source_blocks.specs.Tasks.{task_of};
-ghost use Rattle.source_blocks.specs.Opens.{part_of, IsCaller};
-ghost use Rattle.source_blocks.specs.declared.frames.Frame.{Frame};
-ghost use Rattle.source_blocks.specs.Runs.{IsSound, config_of, state_in, here_in, rest_in, leaving, going_on};
+ghost use Rattle.source_blocks.specs.Opens.{open_of, part_of, IsCaller, IsOpen};
+ghost use Rattle.source_blocks.specs.Turns.{loop_part, loop_block, gone_over, Changed};
+ghost use Rattle.source_blocks.specs.Runs.{IsSound, config_of, state_in, here_in, rest_in, leaving};
 
 use crate::frames::{Frame, Part, turn_frames};
 use crate::task::{Task, count_in, undone_task};
@@ -90,38 +90,77 @@ pub fn close_block(run: &mut Run)
     }
 }
 
-/// An open statement runs in this part.
-fn put_part<'a>(frame: &mut Frame<'a>, part: Part<'a>)
-    ensures { frame.new ≡ record frame.old { part = part.entry } }
+/// A loop goes on in the second part of its iteration if `again` holds, else in the first part of the
+/// next one. It returns the block of that part, or nothing if it runs there already.
+#[inline(always)]
+fn change_part<'a>(part: &mut Part<'a>, again: bool) -> Task<'a>
+    ensures part { part_of part.new ≡ loop_part again (part_of part.old) }
+    ensures task { task_of result ≡ loop_block again (part_of part.old) }
+    ensures caller { IsCaller part.old → IsCaller part.new }
 {
-    frame.part = part;
+    match part {
+        Part::First(turns) => {
+            if !again {
+                return Task::Nothing;
+            }
+            let own = *turns;
+            *part = Part::Again(own);
+            Task::Text {
+                block: own.again,
+                back: own.back,
+            }
+        }
+        Part::Again(turns) => {
+            if again {
+                return Task::Nothing;
+            }
+            let own = *turns;
+            *part = Part::First(own);
+            Task::Text {
+                block: own.first,
+                back: own.back,
+            }
+        }
+        Part::Chosen { .. } => Task::Nothing,
+        Part::Holding(_local) => Task::Nothing,
+        Part::Calling(_caller) => Task::Nothing,
+    }
 }
 
-/// The last of these open statements runs in this part.
-fn set_part<'a>(frames: &mut Vec<Frame<'a>>, last: usize, part: Part<'a>)
+#[inline(always)]
+fn change_frame<'a>(frame: &mut Frame<'a>, again: bool) -> Task<'a>
+    ensures part { open_of frame.new ≡ record (open_of frame.old) {
+      part = loop_part again (part_of frame.old.part);
+    } }
+    ensures task { task_of result ≡ loop_block again (part_of frame.old.part) }
+    ensures open { IsOpen frame.old → IsOpen frame.new }
+{
+    change_part(&mut frame.part, again)
+}
+
+/// The last of these open statements goes on in a part of its iteration, if it is a loop.
+#[inline(always)]
+fn change_last<'a>(frames: &mut Vec<Frame<'a>>, last: usize, again: bool) -> Task<'a>
     requires { length frames.old.items ≡ suc last }
-    ensures part { (front : List Frame) (frame : Frame) → frames.old.items ≡ front ++ frame ∷ []
-        → frames.new.items ≡ front ++ record frame { part = part.entry } ∷ [] }
+    ensures changed { Changed again frames.old.items frames.new.items (task_of result) }
     ensures many { length frames.new.items ≡ length frames.old.items }
 {
-    put_part(&mut frames[last], part);
+    change_frame(&mut frames[last], again)
 }
 
-/// The innermost open statement goes on in this part.
+/// The innermost open statement goes on in the second part of its iteration if `again` holds, else in
+/// the first part of the next one.
 #[inline(always)]
-pub fn turn_to<'a>(run: &mut Run<'a>, part: Part<'a>, task: Task<'a>)
+pub fn go_over(run: &mut Run, again: bool)
     requires sound { IsSound run.old }
-    requires part { IsCaller part }
-    ensures turned { config_of run.new ≡ going_on (config_of run.old) (part_of part.entry)
-        (task_of task.entry) (config_of run.old).around }
+    ensures turned { config_of run.new ≡ gone_over again (config_of run.old) (config_of run.old).around }
     ensures sound { IsSound run.new }
     ensures opens { length run.new.frames.items ≡ length run.old.frames.items }
     ensures setting { run.new.setting ≡ run.old.setting }
 {
     let count = run.frames.len();
     if 0 < count {
-        set_part(&mut run.frames, count - 1, part);
-        run.task = task;
+        run.task = change_last(&mut run.frames, count - 1, again);
         run.at = 0;
     }
 }

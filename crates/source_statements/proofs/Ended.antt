@@ -13,14 +13,21 @@ use Rattle.source_blocks.specs.source_steps.declared.stop.Stop.{Stop}
 use Rattle.source_blocks.specs.source_steps.Metered.{Went, metered, Failed}
 use Rattle.source_blocks.specs.source_steps.StateView.{bindings}
 use Rattle.source_blocks.proofs.source_steps_laws.Fuelled.{goes, fails, gives}
-use Rattle.source_blocks.specs.Runs.{leaving, going_on}
+use Rattle.source_blocks.specs.Runs.{leaving}
 use Rattle.source_blocks.specs.Opens.{HasPart}
+use Rattle.source_blocks.specs.Turns.{loop_part, loop_block, gone_over}
 
 module _ (setting : Setting) (x : Config) (fuel : ℕ) where
   closing_is : (part : Part) (in_part : HasPart x.around part)
       → closing setting x x.around ≡ ended setting x in_part.inmost in_part.others part
   closing_is part in_part = ap (closing setting x) in_part.is
       ∙ ap (ended setting x in_part.inmost in_part.others) in_part.same
+
+  goes_over : (second : Bool) (part : Part) (in_part : HasPart x.around part)
+      → gone_over second x x.around
+      ≡ turned_to x in_part.inmost in_part.others (loop_part second part) (loop_block second part)
+  goes_over second part in_part = ap (gone_over second x) in_part.is
+      ∙ ap (λ p. turned_to x in_part.inmost in_part.others (loop_part second p) (loop_block second p)) in_part.same
 
   -- a side of a choice
   module _ (side : Bool) (test after : Expression) (in_part : HasPart x.around (Chosen side test after)) where
@@ -117,7 +124,7 @@ module _ (setting : Setting) (x : Config) (fuel : ℕ) where
     pub first_again : (g : ℕ) (v : Value) (y : Config)
         (in_part : HasPart x.around (First entry first again exit))
         → metered fuel (evaluated setting.program exit x.state) ≡ Went v g → false ≡ holds v
-        → y ≡ going_on x (Again entry first again exit) again x.around
+        → y ≡ gone_over true x x.around
         → metered fuel (closing setting x x.around) ≡ Went y g
     first_again g v y in_part e t m =
         ap (metered fuel) (closing_is _ in_part)
@@ -125,7 +132,7 @@ module _ (setting : Setting) (x : Config) (fuel : ℕ) where
         ∙ ap (λ b. metered g (give (turned_first setting x in_part.inmost in_part.others
         (Again entry first again exit) again b))) (sym t)
         ∙ gives g (turned_to x in_part.inmost in_part.others (Again entry first again exit) again)
-        ∙ ap (λ z. Went z g) (sym (m ∙ ap (going_on x (Again entry first again exit) again) in_part.is))
+        ∙ ap (λ z. Went z g) (sym (m ∙ goes_over true (First entry first again exit) in_part))
 
     abbrev again_then : HasPart x.around (Again entry first again exit) → Value → Run Config
     again_then in_part v = fault_if LOOP (holds v) >>= (λ u. give (turned_to x in_part.inmost in_part.others
@@ -150,7 +157,7 @@ module _ (setting : Setting) (x : Config) (fuel : ℕ) where
         (in_part : HasPart x.around (Again entry first again exit))
         → metered fuel (evaluated setting.program entry x.state) ≡ Went v g → t ≡ holds v
         → metered g (fault_if LOOP t) ≡ Went tt l
-        → y ≡ going_on x (First entry first again exit) first x.around
+        → y ≡ gone_over false x x.around
         → metered fuel (closing setting x x.around) ≡ Went y l
     again_goes g l v t y in_part e d f m =
         ap (metered fuel) (closing_is _ in_part)
@@ -158,7 +165,7 @@ module _ (setting : Setting) (x : Config) (fuel : ℕ) where
         ∙ goes g l (fault_if LOOP (holds v)) tt (λ u. give (turned_to x in_part.inmost in_part.others
         (First entry first again exit) first)) (ap (λ b. metered g (fault_if LOOP b)) (sym d) ∙ f)
         ∙ gives l (turned_to x in_part.inmost in_part.others (First entry first again exit) first)
-        ∙ ap (λ z. Went z l) (sym (m ∙ ap (going_on x (First entry first again exit) first) in_part.is))
+        ∙ ap (λ z. Went z l) (sym (m ∙ goes_over false (Again entry first again exit) in_part))
 
   -- a call
   module _ (caller : From) (receiver args : List Cell) (held : List Value)

@@ -18,7 +18,7 @@ use code_conventions::faults::{DELOCAL, FI, LOOP};
 use rpp_tree::tree::Expr;
 use source_blocks::{
     Caller, Ending, Frame, Local, Loop, Part, Run, Task, block_ending, close_block, closing_value,
-    innermost, scope_of, turn_to, value_in,
+    go_over, innermost, scope_of, value_in,
 };
 use source_steps::{Setting, Stop, is_true, refuse, return_values};
 use source_store::{Heap, Lack, Value};
@@ -79,11 +79,7 @@ fn end_first<'a>(run: &mut Run<'a>, fuel: &mut u64, turns: &Loop<'a>) -> Result<
                 close_block(run);
                 return Ok(());
             }
-            let task = Task::Text {
-                block: turns.again,
-                back: turns.back,
-            };
-            turn_to(run, Part::Again(*turns), task);
+            go_over(run, true);
             Ok(())
         }
     }
@@ -110,11 +106,7 @@ fn end_again<'a>(run: &mut Run<'a>, fuel: &mut u64, turns: &Loop<'a>) -> Result<
         Ok(value) => match refuse(fuel, LOOP, is_true(value)) {
             Err(why) => Err(why),
             Ok(()) => {
-                let task = Task::Text {
-                    block: turns.first,
-                    back: turns.back,
-                };
-                turn_to(run, Part::First(*turns), task);
+                go_over(run, false);
                 Ok(())
             }
         },

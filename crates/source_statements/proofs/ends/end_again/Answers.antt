@@ -18,5 +18,5 @@ returns-in-Err-refuse-clause-gives c =
 pub returns-in-Ok-refuse-clause-gives : goal.returns-in-Ok-refuse-clause-gives
 returns-in-Ok-refuse-clause-gives c =
     again_goes (setting_of c.args.run.now.setting) (config_of c.args.run.now) c.args.fuel.now _ _ _ _
-    c.value_in.new.fuel c.refuse.new.fuel (value_of c.in-Ok.value) c.is_true.result (config_of c.turn_to.new.run)
-    c.requires.within c.in-Ok.ensures.gives c.is_true.ensures c.in-Ok-refuse.ensures.gives c.turn_to.ensures.turned
+    c.value_in.new.fuel c.refuse.new.fuel (value_of c.in-Ok.value) c.is_true.result (config_of c.go_over.new.run)
+    c.requires.within c.in-Ok.ensures.gives c.is_true.ensures c.in-Ok-refuse.ensures.gives c.go_over.ensures.turned

@@ -23,5 +23,5 @@ returns-then-is_true-clause-gives c =
 pub returns-else-is_true-clause-gives : goal.returns-else-is_true-clause-gives
 returns-else-is_true-clause-gives c =
     first_again (setting_of c.args.run.now.setting) (config_of c.args.run.now) c.args.fuel.now _ _ _ _
-    c.value_in.new.fuel (value_of c.in-Ok.value) (config_of c.turn_to.new.run) c.requires.within
-    c.in-Ok.ensures.gives (sym c.if-is_true.false ∙ c.is_true.ensures) c.turn_to.ensures.turned
+    c.value_in.new.fuel (value_of c.in-Ok.value) (config_of c.go_over.new.run) c.requires.within
+    c.in-Ok.ensures.gives (sym c.if-is_true.false ∙ c.is_true.ensures) c.go_over.ensures.turned
