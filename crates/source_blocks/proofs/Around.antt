@@ -172,6 +172,7 @@ module _ (run new : Run) (task : task_of new.task ≡ inverse (task_of run.task)
   turned_sound s opens = subst IsSound (sym same) (record {
     each = s.each;
     order = s.order;
+    marked = s.marked;
     opens = opens;
     within = let c = count_inverse (task_of run.task) in
         let d : count_of (task_of new.task) ≡ count_of (inverse (task_of run.task)) = ap count_of task in

@@ -59,6 +59,7 @@ pub passed_sound : (run : Run) (next : ℕ) → next ≡ run.at + 1 → run.at <
 passed_sound run next e h s = record {
   each = s.each;
   order = s.order;
+  marked = s.marked;
   opens = s.opens;
   within = omega arith;
 }
@@ -69,6 +70,7 @@ module _ (run new : Run) (frame : Frame) where
   opened_sound task e f s o = subst IsSound (sym e) (record {
     each = s.each;
     order = s.order;
+    marked = s.marked;
     opens = subst (All IsOpen) (sym f) (All-push IsOpen run.frames.items frame s.opens o);
     within = omega arith;
   })
@@ -82,6 +84,7 @@ module _ (run new : Run) (frame : Frame) where
   closed_sound next n e f s = let o = (frame_open f s).within in subst IsSound (sym e) (record {
     each = s.each;
     order = s.order;
+    marked = s.marked;
     opens = (All-pop IsOpen run.frames.items new.frames.items (Some frame) f s.opens).0;
     within = omega arith;
   })
@@ -113,6 +116,7 @@ module _ (run new : Run) (second : Bool) (task : Task)
       subst IsSound (sym e) (record {
         each = s.each;
         order = s.order;
+        marked = s.marked;
         opens = subst (All IsOpen) (sym h.is) (All-push IsOpen h.front h.last all.0 (h.opens all.1));
         within = omega arith;
       })

@@ -14,6 +14,8 @@ use Rattle.source_steps.specs.declared.stop.Stop.{Stop}
 use Rattle.source_steps.specs.declared.stop.Stop.TheVariants as stop
 use Rattle.source_steps.specs.source_store.declared.lack.Lack.TheVariants as lacking
 use Rattle.source_steps.specs.Metered.{Metered, Gives, OnFault}
+use Rattle.source_steps.specs.Marks.{with_mark, AreMarked}
+use Rattle.source_steps.proofs.Marked.{marked_more}
 use Rattle.source_steps.specs.StateView.{IsFramed, names_of, bindings, state_of}
 use Rattle.source_blocks.specs.declared.run.Run.{Run}
 use Rattle.source_blocks.specs.Runs.{IsSound, names_in, state_in, config_of, here_in, rest_in}
@@ -28,9 +30,17 @@ state_by run names heap values = record {
   log = heap.log;
 }
 
-module _ (run : Run) (scope : Chain) (names : names_of scope ≡ names_in run) where
+module _ (run : Run) (scope : Chain) (is : (names_of scope ≡ names_in run) × (scope.marks ≡ run.marks)) where
+  names : names_of scope ≡ names_in run
+  names = is.0
+
   pub framed_in : IsSound run → IsFramed run.setting scope run.heap run.values.items
-  framed_in s = record { each = s.each ∙ ap (λ ns. length ns) (sym names); order = s.order }
+  framed_in s = record {
+    each = s.each ∙ ap (λ ns. length ns) (sym names);
+    order = s.order;
+    marked = subst (λ (ns : List (List ℕ)). AreMarked scope.marks ns) (sym names)
+        (subst (λ (m : ℕ). AreMarked m (names_in run)) (sym is.1) s.marked);
+  }
 
   pub state_is : state_of run.setting scope run.heap run.values.items ≡ state_in run
   state_is = ap (λ ns. state_by run ns run.heap run.values.items) names
@@ -73,6 +83,7 @@ module _ (run : Run) (scope : Chain) (names : names_of scope ≡ names_in run) w
     still_sound s f = subst IsSound (sym same) (record {
       each = f.each ∙ ap (λ ns. length ns) names;
       order = f.order;
+      marked = s.marked;
       opens = s.opens;
       within = s.within;
     })
@@ -93,7 +104,8 @@ as_it_was (Err why) run new same h = λ fault.
 
 -- ---- one more variable, and one less
 
-module _ (run new : Run) (same : new ≡ record run { locals = new.locals; values = new.values }) where
+module _ (run new : Run)
+    (same : new ≡ record run { locals = new.locals; marks = new.marks; values = new.values }) where
   abbrev frame_with : List (Bor (List ℕ)) → List Held → State
   frame_with locals values =
       state_by run (map (λ own. own.now) locals ++ map (λ var. var.name.text) run.params.now) run.heap values
@@ -108,11 +120,18 @@ module _ (run new : Run) (same : new ≡ record run { locals = new.locals; value
       → new.values.items ≡ v ∷ run.values.items → state_in new ≡ opened name.now (value_of v) (state_in run)
   variable_state name v l e = frame_is ∙ ap₂ frame_with l e
 
+  abbrev named_by : List (Bor (List ℕ)) → List (List ℕ)
+  named_by locals = map (λ own. own.now) locals ++ map (λ var. var.name.text) run.params.now
+
   pub variable_sound : (name : Bor (List ℕ)) (v : Held) → new.locals.items ≡ name ∷ run.locals.items
-      → new.values.items ≡ v ∷ run.values.items → IsSound run → IsSound new
-  variable_sound name v l e s = subst IsSound (sym same) (record {
+      → new.values.items ≡ v ∷ run.values.items → new.marks ≡ with_mark run.marks name.now → IsSound run
+      → IsSound new
+  variable_sound name v l e m s = subst IsSound (sym same) (record {
     each = ap (λ (vs : List Held). length vs) e ∙ ap suc s.each ∙ sym (ap counted l);
     order = s.order;
+    marked = subst (λ (ls : List (Bor (List ℕ))). AreMarked new.marks (named_by ls)) (sym l)
+        (subst (λ (k : ℕ). AreMarked k (name.now ∷ names_in run)) (sym m)
+        (marked_more run.marks name.now (names_in run) s.marked));
     opens = s.opens;
     within = s.within;
   })
@@ -123,12 +142,20 @@ module _ (run new : Run) (same : new ≡ record run { locals = new.locals; value
   gone_state name v l e = frame_is ∙ sym (ap (λ st. closed st) (ap₂ frame_with l e))
 
   pub gone_sound : (name : Bor (List ℕ)) (v : Held) → run.locals.items ≡ name ∷ new.locals.items
-      → run.values.items ≡ v ∷ new.values.items → IsSound run → IsSound new
-  gone_sound name v l e s =
+      → run.values.items ≡ v ∷ new.values.items → new.marks ≡ run.marks → IsSound run → IsSound new
+  gone_sound name v l e m s =
       let more : length run.values.items ≡ suc (length new.values.items) = ap (λ (vs : List Held). length vs) e in
       let fewer : counted run.locals.items ≡ suc (counted new.locals.items) = ap counted l in
       let each : length run.values.items ≡ counted run.locals.items = s.each in
-      subst IsSound (sym same) (record { each = omega arith; order = s.order; opens = s.opens; within = s.within })
+      let marked : AreMarked run.marks (name.now ∷ named_by new.locals.items) =
+      subst (λ (ls : List (Bor (List ℕ))). AreMarked run.marks (named_by ls)) l s.marked in
+      subst IsSound (sym same) (record {
+        each = omega arith;
+        order = s.order;
+        marked = subst (λ (k : ℕ). AreMarked k (named_by new.locals.items)) (sym m) marked.1;
+        opens = s.opens;
+        within = s.within;
+      })
 
   pub state_config : (st : State) → state_in new ≡ st → config_of new ≡ record (config_of run) { state = st }
   state_config st e =
@@ -136,7 +163,8 @@ module _ (run new : Run) (same : new ≡ record run { locals = new.locals; value
       ap config_of same ∙ ap there (sym frame_is ∙ e)
 
 -- a block that begins inside of the same statement
-pub inside_same : (run mid : Run) → mid ≡ record run { locals = mid.locals; values = mid.values } → (part : Part)
+pub inside_same : (run mid : Run)
+    → mid ≡ record run { locals = mid.locals; marks = mid.marks; values = mid.values } → (part : Part)
     (body : Statements) (st : State) → state_in mid ≡ st
     → inside (config_of mid) (here_in mid) (rest_in mid) part body (state_in mid)
     ≡ inside (config_of run) (here_in run) (rest_in run) part body st

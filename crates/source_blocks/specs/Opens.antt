@@ -10,6 +10,7 @@ use Rattle.source_steps.specs.meaning_machine.Machine.{Part, Chosen, First, Agai
 use Rattle.source_steps.specs.meaning_machine.Machine.{Caller as From}
 use Rattle.source_steps.specs.source_store.ValueView.{value_of, values_of}
 use Rattle.source_steps.specs.CellView.{cell_of}
+use Rattle.source_steps.specs.Marks.{AreMarked}
 use Rattle.source_steps.specs.StateView.{bindings}
 use Rattle.source_blocks.specs.declared.frames.Closing.{Closing}
 use Rattle.source_blocks.specs.declared.frames.Closing.TheVariants as closing
@@ -71,10 +72,11 @@ open_of frame = record {
   part = part_of frame.part;
 }
 
--- each variable of a caller has a value
+-- each variable of a caller has a value, and its name a mark
 abbrev pub IsCaller : Runs → Type 0
 IsCaller (runs.Calling caller) =
-    length caller.values.items ≡ length (caller_names caller)
+    (length caller.values.items ≡ length (caller_names caller))
+    × AreMarked caller.marks (caller_names caller)
 IsCaller _ = Unit {0}
 
 -- so it is in each open statement, which is one of its block

@@ -11,6 +11,7 @@ use Rattle.source_steps.specs.StateView.{bindings}
 use Rattle.source_steps.specs.roopl_semantics.Value.{Cell}
 use Rattle.source_steps.specs.declared.cell.Cell.{Cell as Place}
 use Rattle.source_steps.specs.CellView.{cell_of}
+use Rattle.source_steps.specs.Marks.{AreMarked}
 use Rattle.source_blocks.specs.declared.run.Run.{Run}
 use Rattle.source_blocks.specs.Blocks.{statement_at, rest_at, past_at, count_of}
 use Rattle.source_blocks.specs.Tasks.{task_of}
@@ -46,11 +47,12 @@ config_of run = record {
   around = map open_of (reverse run.frames.items);
 }
 
--- each variable has a value, in each open method, the heap is of the order that the limits say, and
--- no more statements are past than the block has
+-- each variable has a value, and its name a mark, in each open method, the heap is of the order that
+-- the limits say, and no more statements are past than the block has
 pub record IsSound (run : Run) : Type 0 where
   pub each : length run.values.items ≡ length (names_in run)
   pub order : run.heap.order ≡ run.setting.limits.heap
+  pub marked : AreMarked run.marks (names_in run)
   pub opens : All IsOpen run.frames.items
   pub within : run.at ≤ count_of (task_of run.task)
 

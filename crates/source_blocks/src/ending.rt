@@ -58,6 +58,6 @@ pub fn innermost(run: &Run) -> Value
     requires sound { IsSound run.now }
     ensures { value_of result ≡ read (state_in run.now) (Slot 0) }
 {
-    let scope = scope_of(&run.locals, run.params);
+    let scope = scope_of(&run.locals, run.params, run.marks);
     read_cell(&run.setting, &scope, &run.heap, &run.values, Cell::Slot(0))
 }

@@ -49,6 +49,8 @@ pub struct Receiver {
 pub struct Caller<'a> {
     pub params: &'a [Var],
     pub locals: Vec<&'a [u8]>,
+    /// The marks of the names of locals and parameters.
+    pub marks: u64,
     pub values: Vec<Value>,
     pub object: u32,
     pub depth: u32,

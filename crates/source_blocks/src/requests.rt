@@ -59,7 +59,7 @@ fn unmake(run: &mut Run, fuel: &mut u64, place: &Place) -> Result<(), Stop>
     ensures stays { OnFault result (run.new ≡ run.old) }
     ensures less { fuel.new ≤ fuel.old }
 {
-    let scope = scope_of(&run.locals, run.params);
+    let scope = scope_of(&run.locals, run.params, run.marks);
     unmade(
         &run.setting,
         &scope,
@@ -81,7 +81,7 @@ fn undelete(run: &mut Run, fuel: &mut u64, made: &Made, place: &Place) -> Result
     ensures stays { OnFault result (run.new ≡ run.old) }
     ensures less { fuel.new ≤ fuel.old }
 {
-    let scope = scope_of(&run.locals, run.params);
+    let scope = scope_of(&run.locals, run.params, run.marks);
     undeleted(
         &run.setting,
         &scope,
@@ -107,7 +107,7 @@ fn undelete_named(run: &mut Run, fuel: &mut u64, class: &Ident, name: &Ident) ->
     match whole_place(run.setting.alloc, name) {
         Err(why) => Err(why),
         Ok(place) => {
-            let scope = scope_of(&run.locals, run.params);
+            let scope = scope_of(&run.locals, run.params, run.marks);
             let heap = &mut run.heap;
             undelete_object(
                 &run.setting,

@@ -22,6 +22,8 @@ pub struct Run<'a> {
     pub setting: Setting<'a>,
     pub params: &'a [Var],
     pub locals: Vec<&'a [u8]>,
+    /// The marks of the names of locals and parameters.
+    pub marks: u64,
     pub values: Vec<Value>,
     pub heap: Heap,
     pub task: Task<'a>,
@@ -30,11 +32,16 @@ pub struct Run<'a> {
 }
 
 /// The variables of the open method by their names.
-pub fn scope_of<'a, 'b>(locals: &'b Vec<&'a [u8]>, params: &'b [Var]) -> Scope<'b>
-    ensures { names_of result ≡ map (λ own. own.now) locals.now.items
-        ++ map (λ var. var.name.text) params.now }
+#[inline(always)]
+pub fn scope_of<'a, 'b>(locals: &'b Vec<&'a [u8]>, params: &'b [Var], marks: u64) -> Scope<'b>
+    ensures { (names_of result ≡ map (λ own. own.now) locals.now.items
+        ++ map (λ var. var.name.text) params.now) × (result.marks ≡ marks) }
 {
-    Scope { locals, params }
+    Scope {
+        locals,
+        params,
+        marks,
+    }
 }
 
 /// The statement that began is past.

@@ -164,7 +164,7 @@ pub fn carry_out(run: &mut Run, fuel: &mut u64, s: &Stmt, back: bool) -> Result<
     ensures less { fuel.new ≤ fuel.old }
     ensures stops { IfErr result (λ why. MayStop (turned back (statement_of s.now)) why) }
 {
-    let scope = scope_of(&run.locals, run.params);
+    let scope = scope_of(&run.locals, run.params, run.marks);
     if back {
         return undo_statement(
             &run.setting,
@@ -199,7 +199,7 @@ fn make(run: &mut Run, fuel: &mut u64, at: u32, class: &Ident, name: &Ident) -> 
     match whole_place(run.setting.alloc, name) {
         Err(why) => Err(why),
         Ok(place) => {
-            let scope = scope_of(&run.locals, run.params);
+            let scope = scope_of(&run.locals, run.params, run.marks);
             let heap = &mut run.heap;
             new_object(
                 &run.setting,
@@ -229,7 +229,7 @@ fn unmake(run: &mut Run, fuel: &mut u64, at: u32, class: &Ident, name: &Ident) -
     match whole_place(run.setting.alloc, name) {
         Err(why) => Err(why),
         Ok(place) => {
-            let scope = scope_of(&run.locals, run.params);
+            let scope = scope_of(&run.locals, run.params, run.marks);
             let heap = &mut run.heap;
             delete_object(
                 &run.setting,
@@ -260,7 +260,7 @@ fn hold(run: &mut Run, fuel: &mut u64, at: u32, element: &Place) -> Result<(), S
     match element_place(run.setting.alloc, at) {
         Err(why) => Err(why),
         Ok(held) => {
-            let scope = scope_of(&run.locals, run.params);
+            let scope = scope_of(&run.locals, run.params, run.marks);
             let heap = &mut run.heap;
             swap(
                 &run.setting,

@@ -24,7 +24,7 @@ pub fn value_in(run: &Run, fuel: &mut u64, e: &Expr) -> Result<Value, Stop>
     ensures some { IfOk result (λ value. fuel.new < fuel.old) }
     ensures own { IfErr result IsOwn }
 {
-    let scope = scope_of(&run.locals, run.params);
+    let scope = scope_of(&run.locals, run.params, run.marks);
     evaluate(&run.setting, &scope, &run.heap, &run.values, fuel, e)
 }
 

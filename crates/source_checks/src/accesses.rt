@@ -25,7 +25,7 @@ pub(crate) fn variable(run: &Run, name: &Text) -> Value
     ensures { value_of result ≡ variable_value (setting_of run.now.setting).program
         (state_in run.now) name.now }
 {
-    let scope = scope_of(&run.locals, run.params);
+    let scope = scope_of(&run.locals, run.params, run.marks);
     let cell = cell_of_name(&run.setting, &scope, &run.heap, &run.values, name);
     read_cell(&run.setting, &scope, &run.heap, &run.values, cell)
 }

@@ -8,6 +8,7 @@ ghost use Rattle.source_blocks.specs.Runs.{IsSound, state_in};
 ghost use Rattle.source_checks.specs.Checks.{first_touched as first_touched_of, touched as touched_of};
 ghost use Rattle.source_compared.specs.ComparedView.{compared_of};
 ghost use Rattle.source_checks.specs.TestedView.{around_touched};
+ghost use Rattle.source_blocks.specs.source_steps.Marks.{AreMarked};
 
 use source_blocks::{Caller, Part, Run, scope_of};
 use source_compared::{Compared, Heap, Value, to_be_zero};
@@ -58,11 +59,12 @@ fn caller_setting<'a>(setting: &Setting<'a>, caller: &Caller) -> Setting<'a>
 fn touched(run: &Run, caller: &Caller) -> Compared
     requires sound { IsSound run.now }
     requires each { length caller.now.values.items ≡ length (caller_names caller.now) }
+    requires marked { AreMarked caller.now.marks (caller_names caller.now) }
     ensures { compared_of result ≡ touched_of (caller_of caller.now)
         (cells_in caller.now.receiver) (map cell_of caller.now.args.items) (state_in run.now) }
 {
     let setting = caller_setting(&run.setting, caller);
-    let scope = scope_of(&caller.locals, caller.params);
+    let scope = scope_of(&caller.locals, caller.params, caller.marks);
     match &caller.receiver {
         None => first_touched(&setting, &scope, &run.heap, &caller.values, &caller.args),
         Some(receiver) => {

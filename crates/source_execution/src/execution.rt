@@ -141,6 +141,7 @@ impl<'a> Execution<'a> {
                 },
                 params: &[],
                 locals: Vec::new(alloc),
+                marks: 0,
                 values: Vec::new(alloc),
                 heap,
                 task: main_task(checked),

@@ -17,6 +17,8 @@ use Rattle.source_blocks.specs.source_steps.declared.stop.Stop.{Stop}
 use Rattle.source_blocks.specs.source_steps.declared.stop.Stop.TheVariants as stop
 use Rattle.source_blocks.specs.source_store.declared.lack.Lack.TheVariants as lacking
 use Rattle.source_blocks.specs.source_steps.CellView.{cell_of}
+use Rattle.source_blocks.specs.source_steps.Marks.{with_marks, AreMarked}
+use Rattle.source_blocks.proofs.source_steps_laws.Marked.{params_marked}
 use Rattle.source_blocks.specs.source_steps.StateView.{bindings, setting_of}
 use Rattle.source_blocks.proofs.source_steps_laws.Moves.{bound_cut}
 use Rattle.source_blocks.specs.declared.frames.Caller.{Caller}
@@ -25,7 +27,7 @@ use Rattle.source_blocks.specs.declared.run.Run.{Run}
 use Rattle.source_blocks.specs.Blocks.{count_of}
 use Rattle.source_blocks.specs.Tasks.{task_of}
 use Rattle.source_blocks.specs.Opens.{caller_of, cells_in, values_in, part_of, IsOpen}
-use Rattle.source_blocks.specs.Runs.{IsSound, config_of, state_in, here_in, rest_in}
+use Rattle.source_blocks.specs.Runs.{IsSound, names_in, config_of, state_in, here_in, rest_in}
 use Rattle.source_statements.proofs.Entered.{entered_as}
 
 -- ---- as many variables as there are values, and as many values as there are variables
@@ -84,6 +86,7 @@ module _ (run mid callee : Run) (same : mid ≡ record run { heap = mid.heap; va
       setting = record mid.setting { object = object; depth = 1 + mid.setting.depth };
       params = callee.params;
       locals = callee.locals;
+      marks = callee.marks;
       values = callee.values;
     }) (bare : callee.locals.items ≡ []) where
   -- what it opens is enclosed by what enclosed the caller
@@ -107,6 +110,7 @@ module _ (run mid callee : Run) (same : mid ≡ record run { heap = mid.heap; va
         setting = record mid.setting { object = object; depth = 1 + mid.setting.depth };
         params = callee.params;
         locals = callee.locals;
+        marks = callee.marks;
         values = callee.values;
       } in
       ap (λ r. opens_at r part body st) call ∙ ap (λ r. opens_at (inner r) part body st) same
@@ -142,13 +146,17 @@ module _ (run mid callee : Run) (same : mid ≡ record run { heap = mid.heap; va
         ∙ ap₂ two (callee_frame params callee.params.now values callee.values.items count m c k)
         (ap (λ (r : Run). r.setting.depth) same)
 
-    pub callee_sound : IsSound mid → IsSound callee
-    callee_sound s = record {
+    pub callee_sound : callee.marks ≡ with_marks 0 callee.params.now → IsSound mid → IsSound callee
+    callee_sound marks s = record {
       each = callee_each params callee.params.now values callee.values.items count m c k
           ∙ sym (ap (λ (locals : List (Bor (List ℕ))). length (map (λ own. own.now) locals
           ++ map (λ var. var.name.text) callee.params.now)) bare
           ∙ length-map callee.params.now (λ var. var.name.text));
       order = ap (λ (r : Run). r.heap.order) call ∙ s.order ∙ sym (ap (λ (r : Run). r.setting.limits.heap) call);
+      marked = subst (λ (m : ℕ). AreMarked m (names_in callee)) (sym marks)
+          (subst (λ (locals : List (Bor (List ℕ))). AreMarked (with_marks 0 callee.params.now)
+          (map (λ own. own.now) locals ++ map (λ var. var.name.text) callee.params.now)) (sym bare)
+          (params_marked 0 callee.params.now));
       opens = subst (λ (r : Run). All IsOpen r.frames.items) (sym call) s.opens;
       within = subst (λ (r : Run). r.at ≤ count_of (task_of r.task)) (sym call) s.within;
     }

@@ -38,8 +38,9 @@ module _ (run : Run) (sound : IsSound run) (front : List Frame) (task : Task) (a
 
   pub call_room : HasRoom here caller run.heap
   call_room = record {
-    each = call_open.caller;
+    each = call_open.caller.0;
     order = sound.order ∙ sym (ap (λ (h : Here). h.limits.heap) is);
+    marked = call_open.caller.1;
   }
 
   abbrev resumed : State
@@ -154,9 +155,10 @@ module _ (run : Run) (sound : IsSound run) (front : List Frame) (task : Task) (a
           sound = subst IsSound (sym again) (record {
             each = sound.each;
             order = room.order ∙ ap (λ (h : Here). h.limits.heap) is;
+            marked = sound.marked;
             opens = subst (All IsOpen) (sym one) (All-push IsOpen front call_after
                 (All-pop IsOpen run.frames.items front (Some call) f sound.opens).0
-                (record { within = call_open.within; caller = room.each }));
+                (record { within = call_open.within; caller = (room.each, room.marked) }));
             within = sound.within;
           });
         }

@@ -5,6 +5,7 @@ use Rattle.source_blocks.specs.roopl_semantics.Store.{State}
 use Rattle.source_blocks.specs.meaning_machine.Machine.{Config, Open, Chosen}
 use Rattle.source_blocks.specs.source_store.HeapView.{Kept}
 use Rattle.source_blocks.specs.source_store.ValueView.{values_of}
+use Rattle.source_blocks.specs.source_steps.Marks.{AreMarked}
 use Rattle.source_blocks.specs.source_steps.StateView.{bindings}
 use Rattle.source_blocks.specs.source_steps.declared.expressions.Setting.{Setting as Here}
 use Rattle.source_blocks.specs.declared.frames.Caller.{Caller}
@@ -25,10 +26,12 @@ caller_state here caller heap = record {
   log = heap.log;
 }
 
--- each variable of a caller has a value, and the heap is of the order that the limits say
+-- each variable of a caller has a value, and its name a mark, and the heap is of the order that the
+-- limits say
 pub record HasRoom (here : Here) (caller : Caller) (heap : Kept) : Type 0 where
   pub each : length caller.values.items ≡ length (caller_names caller)
   pub order : heap.order ≡ here.limits.heap
+  pub marked : AreMarked caller.marks (caller_names caller)
 
 -- a measure falls if a statement is open
 abbrev pub Falls : List Open → ℕ → ℕ → Type 0

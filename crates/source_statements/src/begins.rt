@@ -21,7 +21,7 @@ use source_blocks::{
     Calls, Closing, Construct, Line, Local, Loop, Part, Run, Task, carry_line, carry_out,
     closing_value, open_block, pass, value_in,
 };
-use source_steps::{Stop, element_place, is_true, refuse, turned_call};
+use source_steps::{Stop, element_place, is_true, refuse, turned_call, with_mark};
 use source_store::{Lack, Value};
 
 /// A choice, in its direction.
@@ -129,11 +129,15 @@ fn open_variable<'a>(run: &mut Run<'a>, name: &'a [u8], value: Value) -> Result<
     ensures opened { MatchResult result (λ u. state_in run.new
         ≡ opened name.now (value_of value) (state_in run.old)) (λ why. why ≡ Stop.Lacks Lack.NoMemory) }
     ensures sound { OnOk result (IsSound run.new) }
-    ensures same { run.new
-        ≡ record run.old { locals = run.new.locals; values = run.new.values } }
+    ensures same { run.new ≡ record run.old {
+      locals = run.new.locals;
+      marks = run.new.marks;
+      values = run.new.values;
+    } }
 {
     run.values.insert(0, value)?;
     run.locals.insert(0, name)?;
+    run.marks = with_mark(run.marks, name);
     Ok(())
 }
 

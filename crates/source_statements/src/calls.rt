@@ -10,6 +10,7 @@ ghost use Rattle.source_blocks.specs.roopl_semantics.Execution.{in_direction, ce
 ghost use Rattle.source_blocks.specs.meaning_machine.Machine.{called, entered, held_local};
 ghost use Rattle.source_blocks.specs.source_store.ValueView.{value_of, values_of};
 ghost use Rattle.source_blocks.specs.source_steps.CellView.{cell_of};
+ghost use Rattle.source_blocks.specs.source_steps.Marks.{with_marks as marks_in};
 ghost use Rattle.source_blocks.specs.source_steps.Metered.{Gives, metered, OnFault};
 ghost use Rattle.source_blocks.specs.source_steps.StateView.{setting_of};
 ghost use Rattle.source_blocks.specs.Blocks.{count_of};
@@ -26,7 +27,7 @@ use source_blocks::{
     Caller, Calls, Closing, Local, Part, Receiver, Run, Task, open_block, scope_of,
 };
 use source_steps::{
-    Cell, Stop, cell_of_name, cells_of, move_out, read_cell, read_cells, refuse, spend,
+    Cell, Stop, cell_of_name, cells_of, move_out, read_cell, read_cells, refuse, spend, with_marks,
 };
 use source_store::{Lack, Value};
 use std::mem::replace;
@@ -75,7 +76,7 @@ fn receiver_of(run: &Run, cell: Option<Cell>) -> Option<Receiver>
     match cell {
         None => None,
         Some(cell) => {
-            let scope = scope_of(&run.locals, run.params);
+            let scope = scope_of(&run.locals, run.params, run.marks);
             let value = read_cell(&run.setting, &scope, &run.heap, &run.values, cell);
             Some(Receiver { cell, value })
         }
@@ -89,7 +90,7 @@ fn empty(run: &mut Run, cells: &[Cell])
     ensures sound { IsSound run.new }
     ensures same { run.new ≡ record run.old { heap = run.new.heap; values = run.new.values } }
 {
-    let scope = scope_of(&run.locals, run.params);
+    let scope = scope_of(&run.locals, run.params, run.marks);
     move_out(&run.setting, &scope, &mut run.heap, &mut run.values, cells);
 }
 
@@ -133,6 +134,7 @@ fn become_callee<'a>(
     ensures caller { result ≡ record {
       params = run.old.params;
       locals = run.old.locals;
+      marks = run.old.marks;
       values = run.old.values;
       object = run.old.setting.object;
       depth = run.old.setting.depth;
@@ -141,11 +143,13 @@ fn become_callee<'a>(
     } }
     ensures bare { run.new.locals.items ≡ [] }
     ensures params { run.new.params.now ≡ params.now }
+    ensures marks { run.new.marks ≡ marks_in 0 params.now }
     ensures values { run.new.values.items ≡ inside.items }
     ensures callee { run.new ≡ record run.old {
       setting = record run.old.setting { object = object; depth = 1 + run.old.setting.depth };
       params = run.new.params;
       locals = run.new.locals;
+      marks = run.new.marks;
       values = run.new.values;
     } }
 {
@@ -155,6 +159,7 @@ fn become_callee<'a>(
     let caller = Caller {
         params: run.params,
         locals,
+        marks: run.marks,
         values,
         object: run.setting.object,
         depth: run.setting.depth,
@@ -162,6 +167,7 @@ fn become_callee<'a>(
         args,
     };
     run.params = params;
+    run.marks = with_marks(0, params);
     run.setting = setting;
     caller
 }
@@ -243,7 +249,7 @@ fn cells_in_order(run: &Run, calls: &Calls) -> Result<Vec<Cell>, Stop>
         ≡ cells_named (setting_of run.now.setting) (state_in run.now) calls.now.args.now)
         (λ why. why ≡ Stop.Lacks Lack.NoMemory) }
 {
-    let scope = scope_of(&run.locals, run.params);
+    let scope = scope_of(&run.locals, run.params, run.marks);
     cells_of(&run.setting, &scope, &run.heap, &run.values, calls.args)
 }
 
@@ -253,7 +259,7 @@ fn values_in_order(run: &Run, cells: &Vec<Cell>) -> Result<Vec<Value>, Stop>
     ensures { MatchResult result (λ values. values_of values.items
         ≡ map (read (state_in run.now)) (map cell_of cells.now.items)) (λ why. why ≡ Stop.Lacks Lack.NoMemory) }
 {
-    let scope = scope_of(&run.locals, run.params);
+    let scope = scope_of(&run.locals, run.params, run.marks);
     match read_cells(
         run.setting.alloc,
         &run.setting,
@@ -332,7 +338,7 @@ fn named(run: &Run, name: &Text) -> (Cell, Value)
     ensures value { value_of result.1 ≡ read (state_in run.now) (cell_named
         (setting_of run.now.setting).program (state_in run.now) name.now) }
 {
-    let scope = scope_of(&run.locals, run.params);
+    let scope = scope_of(&run.locals, run.params, run.marks);
     let cell = cell_of_name(&run.setting, &scope, &run.heap, &run.values, name);
     let value = read_cell(&run.setting, &scope, &run.heap, &run.values, cell);
     (cell, value)

@@ -13,6 +13,7 @@ ghost use Rattle.source_blocks.specs.Opens.{part_of, caller_of, caller_names, ce
 ghost use Rattle.source_blocks.specs.Runs.{IsSound, Stays, config_of, state_in};
 ghost use Rattle.source_blocks.specs.Endings.{IsInCall};
 ghost use Rattle.source_statements.specs.Endings.{IsInSide, caller_state, HasRoom, Falls};
+ghost use Rattle.source_blocks.specs.source_steps.Marks.{AreMarked};
 
 use code_conventions::faults::{DELOCAL, FI, LOOP};
 use rpp_tree::tree::Expr;
@@ -119,8 +120,11 @@ fn close_variable(run: &mut Run)
     requires local { 0 < length run.old.locals.items }
     ensures closed { state_in run.new ≡ closed (state_in run.old) }
     ensures sound { IsSound run.new }
-    ensures same { run.new
-        ≡ record run.old { locals = run.new.locals; values = run.new.values } }
+    ensures same { run.new ≡ record run.old {
+      locals = run.new.locals;
+      marks = run.new.marks;
+      values = run.new.values;
+    } }
 {
     run.locals.remove(0);
     run.values.remove(0);
@@ -179,7 +183,7 @@ fn give_back(
     ensures fuel { fuel.new ≡ fuel.old }
     ensures own { IfErr result IsOwn }
 {
-    let scope = scope_of(&caller.locals, caller.params);
+    let scope = scope_of(&caller.locals, caller.params, caller.marks);
     let values = &mut caller.values;
     match &caller.receiver {
         None => return_values(
@@ -212,6 +216,7 @@ fn become_caller<'a>(run: &mut Run<'a>, task: Task<'a>, at: usize, caller: Calle
     requires within { at < count_of (task_of task) }
     requires sound { IsSound run.old }
     requires each { length caller.values.items ≡ length (caller_names caller) }
+    requires marked { AreMarked caller.marks (caller_names caller) }
     ensures state { state_in run.new ≡ record {
       frame = (caller_of caller.entry).frame;
       self = caller.entry.object;
@@ -233,6 +238,7 @@ fn become_caller<'a>(run: &mut Run<'a>, task: Task<'a>, at: usize, caller: Calle
     run.setting = caller_setting(&run.setting, &caller);
     run.params = caller.params;
     run.locals = caller.locals;
+    run.marks = caller.marks;
     run.values = caller.values;
     run.task = task;
     run.at = at + 1;

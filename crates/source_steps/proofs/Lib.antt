@@ -11,4 +11,5 @@ pub mod Elements
 pub mod Moves
 pub mod Allocated
 pub mod Scopes
+pub mod Marked
 pub mod Restored

@@ -10,7 +10,7 @@ abbrev or_later : ℕ → Option ℕ → Option ℕ → Option ℕ
 or_later n (Some i) later = Some i
 or_later n None later = option_map (λ k. n + k) later
 
-abbrev after_first : Bool → Option ℕ → Option ℕ
+abbrev pub after_first : Bool → Option ℕ → Option ℕ
 after_first true rest = Some 0
 after_first false rest = option_map suc rest
 
@@ -34,7 +34,7 @@ by_first : (here : Bool) (at count : ℕ)
 by_first true at count = ap (λ b. cond b (Some 0) None) (lt-ltb 0 (suc count) (omega arith))
 by_first false at count = later_by (nat_lt at count) at count refl
 
-position_cons : {A : Type 0} (p : A → Bool) (x : A) (xs : List A)
+pub position_cons : {A : Type 0} (p : A → Bool) (x : A) (xs : List A)
     → position p (x ∷ xs) ≡ after_first (p x) (position p xs)
 position_cons p x xs = by_first (p x) (position_or_len p xs) (length xs)
 

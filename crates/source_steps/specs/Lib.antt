@@ -7,6 +7,7 @@ pub use Rattle.source_store.specs.meaning_points
 pub use Rattle.source_store.specs.meaning_machine
 pub use Rattle.source_store.specs as source_store
 pub mod CellView
+pub mod Marks
 pub mod Metered
 pub mod StateView
 pub mod Apart

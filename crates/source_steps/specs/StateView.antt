@@ -10,6 +10,7 @@ use Rattle.source_store.specs.declared.value.Value.{Value as Held}
 use Rattle.source_store.specs.ValueView.{values_of}
 use Rattle.source_store.specs.HeapView.{Kept}
 use Rattle.source_steps.specs.declared.scope.Scope.{Scope as Chain}
+use Rattle.source_steps.specs.Marks.{AreMarked}
 use Rattle.source_steps.specs.declared.expressions.Setting.{Setting as Here}
 
 -- the names of the variables, the innermost first
@@ -25,10 +26,11 @@ bindings (name ∷ names) (v ∷ values) = record { name = name; value = v } ∷
 abbrev pub frame_of : Chain → List Held → List Binding
 frame_of scope values = bindings (names_of scope) (values_of values)
 
--- each variable has a value, and the heap is of the order that the limits say
+-- each variable has a value, and its name a mark, and the heap is of the order that the limits say
 pub record IsFramed (here : Here) (scope : Chain) (heap : Kept) (values : List Held) : Type 0 where
   pub each : length values ≡ length (names_of scope)
   pub order : heap.order ≡ here.limits.heap
+  pub marked : AreMarked scope.marks (names_of scope)
 
 abbrev pub setting_of : Here → Setting
 setting_of here = record { program = source_of here.checked.now; limits = here.limits }

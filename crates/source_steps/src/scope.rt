@@ -1,8 +1,10 @@
 // What names mean in a method.
 ghost use Rattle.std.specs.Prelude.{◌≡◌, ◌<◌, map, position, length, IfSome};
 ghost use Rattle.std.specs.Str.{bytes_eq};
+ghost use Rattle.source_steps.specs.Marks.{AreMarked};
 ghost use Rattle.source_steps.specs.StateView.{names_of};
 
+use crate::marks::is_marked;
 use rpp_tree::Text;
 use rpp_tree::tree::Var;
 use source_store::Value;
@@ -15,6 +17,8 @@ pub struct Scope<'a> {
     pub locals: &'a [&'a [u8]],
     /// The parameters.
     pub params: &'a [Var],
+    /// The marks of their names.
+    pub marks: u64,
 }
 
 /// Whether a local has this name.
@@ -67,10 +71,10 @@ pub(crate) fn var_slot(vars: &[Var], name: &Text) -> Option<usize>
     first_var(vars, name)
 }
 
-/// The place of the innermost variable of this name.
+/// The place of the innermost variable of this name, which is searched.
 #[tactic(auto, using(crate::proofs::Scopes::position_front, crate::proofs::Scopes::position_behind, crate::proofs::Scopes::position_nowhere))]
-#[inline(always)]
-pub fn slot(scope: &Scope, values: &[Value], name: &Text) -> Option<usize>
+#[inline(never)]
+fn searched_slot(scope: &Scope, values: &[Value], name: &Text) -> Option<usize>
     requires { length values.now ≡ length (names_of scope.now) }
     ensures place { result ≡ position (bytes_eq name.now) (names_of scope.now) }
     ensures within { IfSome result (λ at. at < length values.now) }
@@ -82,4 +86,18 @@ pub fn slot(scope: &Scope, values: &[Value], name: &Text) -> Option<usize>
             Some(at) => Some(scope.locals.len() + at),
         },
     }
+}
+
+/// The place of the innermost variable of this name. No search is needed if it has no mark.
+#[inline(always)]
+pub fn slot(scope: &Scope, values: &[Value], name: &Text) -> Option<usize>
+    requires each { length values.now ≡ length (names_of scope.now) }
+    requires marked { AreMarked scope.now.marks (names_of scope.now) }
+    ensures place { result ≡ position (bytes_eq name.now) (names_of scope.now) }
+    ensures within { IfSome result (λ at. at < length values.now) }
+{
+    if is_marked(scope.marks, name.bytes()) {
+        return searched_slot(scope, values, name);
+    }
+    None
 }

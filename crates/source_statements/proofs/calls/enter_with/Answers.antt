@@ -1,4 +1,4 @@
-use Rattle.std.proofs.Common.{◌≡◌, ◌<◌, List, refl, sym, ap, ap₂, subst, ◌∙◌, map, length}
+use Rattle.std.proofs.Common.{◌≡◌, ◌<◌, List, refl, sym, ap, ap₂, subst, ◌∙◌, map}
 use Rattle.std.specs.Option.{unwrap_or, option_map}
 use Rattle.rpp_tree.specs.Tree.{Procedure}
 use Rattle.rpp_tree.specs.Views.{procedure_of}
@@ -7,12 +7,14 @@ use Rattle.source_blocks.specs.class_rules.Classes.{method_named}
 use Rattle.source_blocks.specs.roopl_semantics.Value.{Cell, read}
 use Rattle.source_blocks.specs.roopl_semantics.Execution.{cells_named, class_of, moved_out, in_direction}
 use Rattle.source_blocks.specs.source_steps.CellView.{cell_of}
+use Rattle.source_blocks.specs.source_steps.Marks.{with_marks}
 use Rattle.source_blocks.specs.source_steps.StateView.{setting_of}
 use Rattle.source_blocks.specs.declared.frames.Caller.{Caller}
+use Rattle.source_blocks.specs.declared.frames.Part.TheVariants as runs
 use Rattle.source_blocks.specs.declared.run.Run.{Run}
 use Rattle.source_blocks.specs.Blocks.{count_of}
 use Rattle.source_blocks.specs.Tasks.{task_of}
-use Rattle.source_blocks.specs.Opens.{caller_of, caller_names, cells_in, values_in}
+use Rattle.source_blocks.specs.Opens.{caller_of, cells_in, values_in, IsCaller}
 use Rattle.source_blocks.specs.Runs.{config_of, state_in, only_cell}
 use Rattle.source_statements.proofs.Callee.{callee_each, callee_sound, entered_result}
 use Rattle.source_statements.proofs.calls.enter_with.Goals as goal
@@ -30,7 +32,9 @@ open_block-requires-clause-sound c =
     (unwrap_or (option_map (λ method. procedure_of method.now) c.method_of-method.result) no_procedure).params
     c.args.inside.items _ refl
     (c.become_callee-caller.ensures.params ∙ c.params_for-params.ensures.params)
-    (c.become_callee-caller.ensures.values ∙ c.params_for-params.ensures.values) c.move_in.ensures.sound
+    (c.become_callee-caller.ensures.values ∙ c.params_for-params.ensures.values)
+    (c.become_callee-caller.ensures.marks ∙ ap (with_marks 0) (sym c.become_callee-caller.ensures.params))
+    c.move_in.ensures.sound
 
 pub open_block-requires-clause-within : goal.open_block-requires-clause-within
 open_block-requires-clause-within c =
@@ -39,8 +43,8 @@ open_block-requires-clause-within c =
 
 pub open_block-requires-clause-part : goal.open_block-requires-clause-part
 open_block-requires-clause-part c =
-    subst (λ (k : Caller). length k.values.items ≡ length (caller_names k))
-    (sym c.become_callee-caller.ensures.caller) c.move_in.ensures.sound.each
+    subst (λ (k : Caller). IsCaller (runs.Calling k)) (sym c.become_callee-caller.ensures.caller)
+    (c.move_in.ensures.sound.each, c.move_in.ensures.sound.marked)
 
 pub returns-clause-entered : goal.returns-clause-entered
 returns-clause-entered c =

@@ -25,6 +25,7 @@ pub returns-clause-sound : goal.returns-clause-sound
 returns-clause-sound c = record {
   each = c.requires.each;
   order = c.requires.sound.order ∙ sym (ap (λ (h : Here). h.limits.heap) c.caller_setting-run.ensures);
+  marked = c.requires.marked;
   opens = c.requires.sound.opens;
   within = (let h = c.requires.within in omega arith);
 }

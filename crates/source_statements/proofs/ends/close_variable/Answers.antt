@@ -42,4 +42,4 @@ returns-clause-sound c =
     let some = length-map c.args.run.now.locals.items (λ own. own.now) in
     let local = c.requires.local in
     omega arith)
-    c.remove-2.ensures.value c.remove-2.ensures.items) c.requires.sound
+    c.remove-2.ensures.value c.remove-2.ensures.items) refl c.requires.sound

@@ -15,5 +15,6 @@ returns-in-Slot c =
         each = ap length c.put_value.ensures
             ∙ (length-set c.args.values.now.items c.in-Slot.index c.args.value ∙ c.requires.each);
         order = c.requires.order;
+        marked = c.requires.marked;
       };
     }

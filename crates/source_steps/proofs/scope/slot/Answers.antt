@@ -1,12 +1,10 @@
-use Rattle.std.proofs.Common.{◌+◌, ◌∙◌, sym, ap, map, Some}
-use Rattle.std.proofs.lemmas.List.{length-map}
-use Rattle.std.specs.Str.{bytes_eq}
-use Rattle.source_steps.proofs.Scopes.{position_behind}
+use Rattle.std.proofs.Common.{sym, ap, ◌∙◌}
+use Rattle.source_steps.specs.Marks.{has_mark}
+use Rattle.source_steps.specs.StateView.{names_of}
+use Rattle.source_steps.proofs.Marked.{nowhere}
 use Rattle.source_steps.proofs.scope.slot.Goals as goal
 
-pub returns-in-Some-var_slot-clause-place : goal.returns-in-Some-var_slot-clause-place
-returns-in-Some-var_slot-clause-place c =
-    ap (λ n. Some (n + c.in-Some-var_slot.at)) (sym (length-map c.args.scope.now.locals.now (λ own. own.now)))
-    ∙ position_behind (bytes_eq c.args.name.now) (map (λ own. own.now) c.args.scope.now.locals.now)
-    (map (λ var. var.name.text) c.args.scope.now.params.now) c.in-Some-var_slot.at c.in-None.ensures.place
-    c.in-Some-var_slot.ensures.place
+pub returns-clause-place : goal.returns-clause-place
+returns-clause-place c =
+    nowhere c.args.scope.now.marks c.args.name.now (names_of c.args.scope.now) c.requires.marked
+    (sym (c.is_marked.ensures ∙ ap (has_mark c.args.scope.now.marks) c.bytes.ensures) ∙ c.if-is_marked.false)
